@@ -13,3 +13,7 @@ pub mod Destroyed
 pub mod HeadFinding
 pub mod HeadDestroyed
 pub mod EachKind
+pub mod Touching
+pub mod LostTrees
+pub mod LostChains
+pub mod Losses

@@ -4,3 +4,5 @@ pub mod Steps
 pub mod Places
 pub mod HeadPlaces
 pub mod Destroying
+pub mod Touched
+pub mod Laws

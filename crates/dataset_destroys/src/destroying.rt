@@ -10,6 +10,7 @@ ghost use Rattle.dataset_changes.specs.States.{AreOfOneSet, birth_of, set_of};
 ghost use Rattle.dead_list.specs.Datasets.{Pool};
 ghost use Rattle.objset.specs.Objects.{Object, AreObjects};
 ghost use Rattle.dataset_destroys.specs.Destroying.{AreEnoughLeft, IsDatasetKept, IsDestroyed, MayDestroy};
+ghost use Rattle.dataset_destroys.specs.Touched.{IsDestroyTouched, TouchesOwnLists};
 
 use crate::heads::destroy_head;
 use crate::snapshots::destroy_snapshot;
@@ -49,6 +50,14 @@ pub fn destroy<D: Disk + Drop>(
         × SpellsChains stored group objects changes.new new readings) }
     ensures behind { OnOk result ((gone : List Block)
         × (freed.new.items ≡ freed.old.items ++ gone)) }
+    ensures touched { OnOk result (IsDestroyTouched changes.old changes.new number) }
+    ensures own_lists { OnOk result ((stored : Contents) (objects : ℕ → Option Object)
+        (own : List Block) (blocks : ℕ → List Block) (pool : Pool) (readings : ℕ → Reading)
+        → Holds store.old stored
+        → AreObjects stored (birth_of changes.old) (set_of changes.old) objects own blocks
+        → AnswersAreTrue store.old store.new
+        → SpellsChains stored group objects changes.old pool readings
+        → MayDestroy pool number → TouchesOwnLists objects changes.old changes.new) }
     ensures refused { IfErr result (IsDatasetKept store.old store.new changes.old changes.new
         number group left.old left.new) }
     ensures known { IfErr result (λ refusal. (stored : Contents)

@@ -5,8 +5,9 @@ ghost use Rattle.block_store.specs.Losses.{IsForLoss};
 ghost use Rattle.block_store.specs.Steps.{OnlyReadsBlocks};
 ghost use Rattle.dataset_chains.specs.Chains.{Reading, SpellsChains};
 ghost use Rattle.dataset_chains.specs.Refused.{HasKnown};
+ghost use Rattle.dataset_chains.specs.Touched.{AreAtMostRead};
 ghost use Rattle.dataset_changes.specs.Over.{AreOver, HasRecordNow};
-ghost use Rattle.dataset_changes.specs.States.{AreOfOneSet, IsNumber};
+ghost use Rattle.dataset_changes.specs.States.{AreOfOneSet, HaveSameLists, IsNumber};
 ghost use Rattle.dataset_destroys.specs.HeadPlaces.{AreHeadPlaced, FitsHead, IsBadBefore, IsCloneOf, IsLoneHead};
 ghost use Rattle.dataset_destroys.specs.Refused.{IsHeadUnfit};
 ghost use Rattle.dataset_destroys.specs.Steps.{AreSameNow, IsFound, IsKnownBefore, TellsObjects, group_of};
@@ -45,12 +46,14 @@ impl HeadPlace {
     ) -> Result<HeadPlace, Refusal>
         ensures reads { OnlyReadsBlocks store.old store.new [] }
         ensures one_set { AreOfOneSet changes.old changes.new }
+        ensures lists { HaveSameLists changes.old changes.new }
         ensures number { IfOk result (λ place. place.number ≡ number) }
         ensures fits { IfOk result FitsHead }
         ensures lone { IfOk result IsLoneHead }
         ensures known_as { IfOk result (λ place. HasKnown changes.new number place.gone) }
         ensures known_before { IfOk result (λ place.
             IsKnownBefore changes.new place.gone.previous place.before) }
+        ensures touched { OnOk result (AreAtMostRead changes.old changes.new) }
         ensures value { IfOk result (λ place. (stored : Contents) (objects : ℕ → Option Object)
             → TellsObjects store.old store.new changes.old stored objects
             → AreOver objects changes.old
@@ -94,9 +97,11 @@ fn head_record<D: Disk + Drop>(
 ) -> Result<DatasetRecord, Refusal>
     ensures reads { OnlyReadsBlocks store.old store.new [] }
     ensures one_set { AreOfOneSet changes.old changes.new }
+    ensures lists { HaveSameLists changes.old changes.new }
     ensures known_as { IfOk result (HasKnown changes.new number) }
     ensures fits { IfOk result (λ found. FitsRecord found × IsNumber number) }
     ensures kind { IfOk result (λ found. found.kind ≡ kinds.Volume) }
+    ensures touched { OnOk result (AreAtMostRead changes.old changes.new) }
     ensures value { IfOk result (λ found. (stored : Contents) (objects : ℕ → Option Object)
         → TellsObjects store.old store.new changes.old stored objects → AreOver objects changes.old
         → IsFound objects changes.old changes.new number found) }

@@ -11,6 +11,7 @@ ghost use Rattle.dead_list.specs.Datasets.{Pool};
 ghost use Rattle.dead_list.specs.Operations.{DestroyHead, Makes, MayDo};
 ghost use Rattle.objset.specs.Objects.{Object, AreObjects};
 ghost use Rattle.dataset_destroys.specs.Refused.{IsHeadKept};
+ghost use Rattle.dataset_destroys.specs.Touched.{IsDestroyTouched, TouchesOwnLists};
 
 use crate::head_places::HeadPlace;
 use crate::leaving::leave;
@@ -54,6 +55,14 @@ pub fn destroy_head<D: Disk + Drop>(
         × SpellsChains stored group objects changes.new new readings) }
     ensures behind { OnOk result ((gone : List Block)
         × (freed.new.items ≡ freed.old.items ++ gone)) }
+    ensures touched { OnOk result (IsDestroyTouched changes.old changes.new head) }
+    ensures own_lists { OnOk result ((stored : Contents) (objects : ℕ → Option Object)
+        (own : List Block) (blocks : ℕ → List Block) (pool : Pool) (readings : ℕ → Reading)
+        → Holds store.old stored
+        → AreObjects stored (birth_of changes.old) (set_of changes.old) objects own blocks
+        → AnswersAreTrue store.old store.new
+        → SpellsChains stored group objects changes.old pool readings
+        → MayDo pool (DestroyHead head) → TouchesOwnLists objects changes.old changes.new) }
     ensures refused { IfErr result (IsHeadKept store.old store.new changes.old changes.new head
         group left.old left.new) }
     ensures known { IfErr result (λ refusal. (stored : Contents)

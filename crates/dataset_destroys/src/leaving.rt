@@ -1,9 +1,10 @@
 //! Heads whose records go.
-ghost use Rattle.std.specs.Prelude.{◌≡◌, ℕ, Option, OnOk};
+ghost use Rattle.std.specs.Prelude.{◌≡◌, ◌⊎◌, ℕ, Option, OnOk};
 ghost use Rattle.dataset_changes.specs.Over.{AreOver};
-ghost use Rattle.dataset_changes.specs.States.{AreOfOneSet, HaveSameLists};
+ghost use Rattle.dataset_changes.specs.States.{AreOfOneSet, HaveSameLists, record_at};
 ghost use Rattle.dataset_destroys.specs.HeadPlaces.{AreHeadPlaced, FitsHead, IsLoneHead};
 ghost use Rattle.dataset_destroys.specs.Steps.{AreOneLess, IsBefore, IsLeft};
+ghost use Rattle.dataset_destroys.specs.Touched.{IsBeside};
 ghost use Rattle.objset.specs.Objects.{Object};
 
 use crate::head_places::HeadPlace;
@@ -18,6 +19,9 @@ pub(crate) fn leave(changes: &mut DatasetChanges, place: &HeadPlace) -> Result<(
     requires lone { IsLoneHead place.now }
     ensures one_set { AreOfOneSet changes.old changes.new }
     ensures lists { HaveSameLists changes.old changes.new }
+    ensures touched { OnOk result ((number : ℕ)
+        → (record_at changes.new number ≡ record_at changes.old number)
+        ⊎ ((number ≡ (place.now).number) ⊎ IsBeside (place.now).gone number)) }
     ensures value { OnOk result ((objects : ℕ → Option Object) → AreOver objects changes.old
         → AreHeadPlaced objects changes.old place.now
         → IsLeft objects changes.old changes.new (place.now).number (place.now).gone.previous
@@ -34,6 +38,9 @@ fn leave_origin(changes: &mut DatasetChanges, place: &HeadPlace) -> Result<(), A
     requires lone { IsLoneHead place.now }
     ensures one_set { AreOfOneSet changes.old changes.new }
     ensures lists { HaveSameLists changes.old changes.new }
+    ensures touched { OnOk result ((number : ℕ)
+        → (record_at changes.new number ≡ record_at changes.old number)
+        ⊎ IsBeside (place.now).gone number) }
     ensures value { OnOk result ((objects : ℕ → Option Object) → AreOver objects changes.old
         → IsBefore objects changes.old (place.now).gone.previous (place.now).before
         → AreOneLess objects changes.old changes.new (place.now).gone.previous

@@ -4,6 +4,7 @@
 mod destroying;
 mod head_places;
 mod heads;
+mod laws;
 mod leaving;
 mod links;
 mod lists;
@@ -15,4 +16,5 @@ mod younger;
 pub use block_store::Refusal;
 pub use destroying::destroy;
 pub use heads::destroy_head;
+pub use laws::losses_of_destroys;
 pub use snapshots::destroy_snapshot;

@@ -1,9 +1,10 @@
 //! Records of chains that are linked past a snapshot.
-ghost use Rattle.std.specs.Prelude.{◌≡◌, ℕ, Option, OnOk};
+ghost use Rattle.std.specs.Prelude.{◌≡◌, ◌⊎◌, ℕ, Option, OnOk};
 ghost use Rattle.dataset_changes.specs.Over.{AreOver};
-ghost use Rattle.dataset_changes.specs.States.{AreOfOneSet, HaveSameLists};
-ghost use Rattle.dataset_destroys.specs.Places.{ArePlaced, FitsPlace, IsApart, after_of};
+ghost use Rattle.dataset_changes.specs.States.{AreOfOneSet, HaveSameLists, record_at};
+ghost use Rattle.dataset_destroys.specs.Places.{ArePlaced, FitsPlace, IsApart, IsLone, after_of};
 ghost use Rattle.dataset_destroys.specs.Steps.{AreLinked, IsBefore, IsPassed};
+ghost use Rattle.dataset_destroys.specs.Touched.{IsBeside};
 ghost use Rattle.objset.specs.Objects.{Object};
 
 use crate::places::Place;
@@ -14,9 +15,13 @@ use std::alloc::AllocError;
 
 /// A snapshot's record goes, and what comes after it stands behind the snapshot before it.
 pub(crate) fn link_past(changes: &mut DatasetChanges, place: &Place) -> Result<(), AllocError>
-    requires { FitsPlace place.now }
+    requires fits { FitsPlace place.now }
+    requires lone { IsLone place.now }
     ensures one_set { AreOfOneSet changes.old changes.new }
     ensures lists { HaveSameLists changes.old changes.new }
+    ensures touched { OnOk result ((number : ℕ)
+        → (record_at changes.new number ≡ record_at changes.old number)
+        ⊎ ((number ≡ (place.now).number) ⊎ IsBeside (place.now).gone number)) }
     ensures value { OnOk result ((objects : ℕ → Option Object) → AreOver objects changes.old
         → ArePlaced objects changes.old place.now → IsApart place.now
         → IsPassed objects changes.old changes.new (place.now).number (place.now).gone.previous
@@ -45,6 +50,9 @@ fn link_before(changes: &mut DatasetChanges, place: &Place) -> Result<(), AllocE
     requires { FitsPlace place.now }
     ensures one_set { AreOfOneSet changes.old changes.new }
     ensures lists { HaveSameLists changes.old changes.new }
+    ensures touched { OnOk result ((number : ℕ)
+        → (record_at changes.new number ≡ record_at changes.old number)
+        ⊎ IsBeside (place.now).gone number) }
     ensures value { OnOk result ((objects : ℕ → Option Object) → AreOver objects changes.old
         → IsBefore objects changes.old (place.now).gone.previous (place.now).before
         → AreLinked objects changes.old changes.new (place.now).number (place.now).gone.previous

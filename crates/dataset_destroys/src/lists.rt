@@ -7,7 +7,7 @@ ghost use Rattle.block_store.specs.Losses.{IsForLoss};
 ghost use Rattle.block_store.specs.Steps.{OnlyReadsBlocks};
 ghost use Rattle.dataset_chains.specs.Refused.{IsListLost};
 ghost use Rattle.dataset_changes.specs.Over.{AreOver, HasListNow};
-ghost use Rattle.dataset_changes.specs.States.{AreOfOneSet, HaveSameRecords, IsNumber};
+ghost use Rattle.dataset_changes.specs.States.{AreOfOneSet, HaveSameRecords, IsNumber, list_at};
 ghost use Rattle.dataset_destroys.specs.Steps.{AreGivenOver, TellsObjects, group_of};
 ghost use Rattle.dead_list.specs.Blocks.{IsSplit};
 ghost use Rattle.objset.specs.Objects.{Object};
@@ -33,6 +33,9 @@ pub(crate) fn give_over<D: Disk + Drop>(
     ensures one_set { AreOfOneSet changes.old changes.new }
     ensures records { HaveSameRecords changes.old changes.new }
     ensures number { OnOk result (IsNumber (place.now).gone.dead_list) }
+    ensures touched { OnOk result ((list : ℕ)
+        → (list_at changes.new list ≡ list_at changes.old list)
+        ⊎ (((place.now).gone.dead_list ≡ list) ⊎ ((place.now).after.dead_list ≡ list))) }
     ensures behind { OnOk result ((gone : List Block)
         × (freed.new.items ≡ freed.old.items ++ gone)) }
     ensures value { OnOk result ((stored : Contents) (objects : ℕ → Option Object)

@@ -5,8 +5,9 @@ ghost use Rattle.block_store.specs.Losses.{IsForLoss};
 ghost use Rattle.block_store.specs.Steps.{OnlyReadsBlocks};
 ghost use Rattle.dataset_chains.specs.Chains.{Reading, SpellsChains};
 ghost use Rattle.dataset_chains.specs.Refused.{HasKnown};
+ghost use Rattle.dataset_chains.specs.Touched.{AreAtMostRead};
 ghost use Rattle.dataset_changes.specs.Over.{AreOver, HasRecordNow};
-ghost use Rattle.dataset_changes.specs.States.{AreOfOneSet, IsNumber};
+ghost use Rattle.dataset_changes.specs.States.{AreOfOneSet, HaveSameLists, IsNumber};
 ghost use Rattle.dataset_destroys.specs.Places.{ArePlaced, FitsPlace, IsLone};
 ghost use Rattle.dataset_destroys.specs.Refused.{IsSnapshotKept};
 ghost use Rattle.dataset_destroys.specs.Steps.{AreSameNow, IsFound, TellsObjects, group_of};
@@ -47,9 +48,14 @@ impl Place {
     ) -> Result<Place, Refusal>
         ensures reads { OnlyReadsBlocks store.old store.new [] }
         ensures one_set { AreOfOneSet changes.old changes.new }
+        ensures lists { HaveSameLists changes.old changes.new }
         ensures number { IfOk result (λ place. place.number ≡ number) }
         ensures fits { IfOk result FitsPlace }
         ensures lone { IfOk result IsLone }
+        ensures known_as { IfOk result (λ place. HasKnown changes.new number place.gone) }
+        ensures known_after { IfOk result
+            (λ place. HasKnown changes.new place.gone.next place.after) }
+        ensures touched { OnOk result (AreAtMostRead changes.old changes.new) }
         ensures value { IfOk result (λ place. (stored : Contents) (objects : ℕ → Option Object)
             → TellsObjects store.old store.new changes.old stored objects
             → AreOver objects changes.old
@@ -93,10 +99,12 @@ fn lone_snapshot<D: Disk + Drop>(
 ) -> Result<DatasetRecord, Refusal>
     ensures reads { OnlyReadsBlocks store.old store.new [] }
     ensures one_set { AreOfOneSet changes.old changes.new }
+    ensures lists { HaveSameLists changes.old changes.new }
     ensures known_as { IfOk result (HasKnown changes.new number) }
     ensures fits { IfOk result (λ found. FitsRecord found × IsNumber number) }
     ensures kind { IfOk result (λ found. found.kind ≡ kinds.Snapshot) }
     ensures clones { IfOk result (λ found. found.clones ≡ 0) }
+    ensures touched { OnOk result (AreAtMostRead changes.old changes.new) }
     ensures value { IfOk result (λ found. (stored : Contents) (objects : ℕ → Option Object)
         → TellsObjects store.old store.new changes.old stored objects → AreOver objects changes.old
         → IsFound objects changes.old changes.new number found) }
@@ -127,6 +135,11 @@ fn follower<D: Disk + Drop>(
 ) -> Result<DatasetRecord, Refusal>
     ensures reads { OnlyReadsBlocks store.old store.new [] }
     ensures one_set { AreOfOneSet changes.old changes.new }
+    ensures lists { HaveSameLists changes.old changes.new }
+    ensures known_as { IfOk result (HasKnown changes.new (gone.now).next) }
+    ensures keeps { OnOk result ((other : ℕ) (r : DatasetRecord) → HasKnown changes.old other r
+        → HasKnown changes.new other r) }
+    ensures touched { OnOk result (AreAtMostRead changes.old changes.new) }
     ensures fits { IfOk result (λ found. FitsRecord found × IsNumber (gone.now).next) }
     ensures linked { IfOk result (λ found. found.previous ≡ number) }
     ensures value { IfOk result (λ found. (stored : Contents) (objects : ℕ → Option Object)

@@ -4,8 +4,9 @@ ghost use Rattle.block_store.specs.Blocks.{Contents};
 ghost use Rattle.block_store.specs.Losses.{IsForLoss};
 ghost use Rattle.block_store.specs.Steps.{OnlyReadsBlocks};
 ghost use Rattle.dataset_chains.specs.Refused.{HasKnown, IsRecordLost};
+ghost use Rattle.dataset_chains.specs.Touched.{AreAtMostRead};
 ghost use Rattle.dataset_changes.specs.Over.{AreOver, HasRecordNow};
-ghost use Rattle.dataset_changes.specs.States.{AreOfOneSet, HaveSameLists, IsNumber};
+ghost use Rattle.dataset_changes.specs.States.{AreOfOneSet, HaveSameLists, IsNumber, record_at};
 ghost use Rattle.dataset_destroys.specs.Steps.{AreSameNow, FitsBefore, IsBefore, IsFound, IsKnownBefore, IsPutNow, IsTakenOut, TellsObjects};
 ghost use Rattle.meta_objset.specs.Record.{FitsRecord};
 ghost use Rattle.meta_objset.specs.declared.record.DatasetKind.TheVariants as kinds;
@@ -27,9 +28,11 @@ pub(crate) fn known_record<D: Disk + Drop>(
 ) -> Result<DatasetRecord, Refusal>
     ensures reads { OnlyReadsBlocks store.old store.new [] }
     ensures one_set { AreOfOneSet changes.old changes.new }
+    ensures lists { HaveSameLists changes.old changes.new }
     ensures known_as { IfOk result (HasKnown changes.new number) }
     ensures keeps { OnOk result ((other : ℕ) (r : DatasetRecord) → HasKnown changes.old other r
         → HasKnown changes.new other r) }
+    ensures touched { OnOk result (AreAtMostRead changes.old changes.new) }
     ensures fits { IfOk result (λ found. FitsRecord found × IsNumber number) }
     ensures value { IfOk result (λ found. (stored : Contents) (objects : ℕ → Option Object)
         → TellsObjects store.old store.new changes.old stored objects → AreOver objects changes.old
@@ -52,9 +55,11 @@ pub(crate) fn record_before<D: Disk + Drop>(
 ) -> Result<Option<DatasetRecord>, Refusal>
     ensures reads { OnlyReadsBlocks store.old store.new [] }
     ensures one_set { AreOfOneSet changes.old changes.new }
+    ensures lists { HaveSameLists changes.old changes.new }
     ensures known_as { IfOk result (IsKnownBefore changes.new (dataset.now).previous) }
     ensures keeps { OnOk result ((other : ℕ) (r : DatasetRecord) → HasKnown changes.old other r
         → HasKnown changes.new other r) }
+    ensures touched { OnOk result (AreAtMostRead changes.old changes.new) }
     ensures fits { IfOk result (FitsBefore (dataset.now).previous) }
     ensures value { IfOk result (λ found. (stored : Contents) (objects : ℕ → Option Object)
         → TellsObjects store.old store.new changes.old stored objects → AreOver objects changes.old
@@ -104,6 +109,8 @@ pub(crate) fn put_record(
     requires number { IsNumber number }
     ensures one_set { AreOfOneSet changes.old changes.new }
     ensures lists { HaveSameLists changes.old changes.new }
+    ensures others { OnOk result ((other : ℕ) → other ≢ number
+        → record_at changes.new other ≡ record_at changes.old other) }
     ensures value { OnOk result ((objects : ℕ → Option Object) (r : DatasetRecord)
         → AreOver objects changes.old → HasRecordNow objects changes.old number r
         → IsPutNow objects changes.old changes.new number dataset.now) }
@@ -117,6 +124,8 @@ pub(crate) fn take_out(changes: &mut DatasetChanges, number: u64) -> Result<(), 
     requires { IsNumber number }
     ensures one_set { AreOfOneSet changes.old changes.new }
     ensures lists { HaveSameLists changes.old changes.new }
+    ensures others { OnOk result ((other : ℕ) → other ≢ number
+        → record_at changes.new other ≡ record_at changes.old other) }
     ensures value { OnOk result ((objects : ℕ → Option Object) (r : DatasetRecord)
         → AreOver objects changes.old → HasRecordNow objects changes.old number r
         → IsTakenOut objects changes.old changes.new number) }

@@ -11,6 +11,7 @@ ghost use Rattle.dead_list.specs.Datasets.{Pool};
 ghost use Rattle.dead_list.specs.Operations.{DestroySnapshot, Makes, MayDo};
 ghost use Rattle.objset.specs.Objects.{Object, AreObjects};
 ghost use Rattle.dataset_destroys.specs.Refused.{IsSnapshotKept};
+ghost use Rattle.dataset_destroys.specs.Touched.{IsDestroyTouched, TouchesOwnLists};
 
 use crate::links::link_past;
 use crate::lists::give_over;
@@ -50,6 +51,15 @@ pub fn destroy_snapshot<D: Disk + Drop>(
         × SpellsChains known group objects changes.new new readings) }
     ensures behind { OnOk result ((gone : List Block)
         × (freed.new.items ≡ freed.old.items ++ gone)) }
+    ensures touched { OnOk result (IsDestroyTouched changes.old changes.new snapshot) }
+    ensures own_lists { OnOk result ((stored known : Contents) (group : ℕ)
+        (objects : ℕ → Option Object) (own : List Block) (blocks : ℕ → List Block) (pool : Pool)
+        (readings : ℕ → Reading) → Holds store.old stored
+        → AreObjects stored (birth_of changes.old) (set_of changes.old) objects own blocks
+        → AnswersAreTrue store.old store.new
+        → SpellsChains known group objects changes.old pool readings
+        → MayDo pool (DestroySnapshot snapshot)
+        → TouchesOwnLists objects changes.old changes.new) }
     ensures refused { IfErr result (IsSnapshotKept store.old store.new changes.old changes.new
         snapshot) }
     ensures known { IfErr result (λ refusal. (stored known : Contents) (group : ℕ)

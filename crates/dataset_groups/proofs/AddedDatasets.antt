@@ -34,7 +34,10 @@ use Rattle.dataset_groups.proofs.KnownBlocks.{reached_known}
 use Rattle.dataset_groups.proofs.MakingVolumes.{volumes_same}
 use Rattle.dataset_groups.proofs.MoreDatasets.{acts_with, new_numbers, next_unused, passed_over}
 use Rattle.dataset_groups.proofs.MoreNames.{names_with, not_new}
+use Rattle.dataset_groups.proofs.NameParts.{volume_is_part}
 use Rattle.dataset_groups.proofs.OneMore.{one_with}
+use Rattle.dataset_groups.proofs.RowMore.{IsRowMore}
+use Rattle.dataset_groups.proofs.ToldMore.{told_volume}
 
 -- ---- new blocks
 
@@ -78,12 +81,23 @@ volume_made old new name size block_size v group object_set r planned later obje
           cc,
     ) in
     let leads : LeadsTo later group made blocks reading = record { size = sym (length-replicate v.size 0); block_size = refl; bytes = bytes; blocks_are = refl } in
+    let row_more : IsRowMore pool readings old.directory plain n new.directory (created group name size block_size) = record {
+      unused = unused;
+      sound = spells.chains.sound;
+      names = spells.names;
+      row = row;
+      among = it.row;
+      lacks = lacks;
+      at = refl;
+      named = is.0;
+    } in
+    let told = told_volume pool readings old.directory plain n new.directory (created group name size block_size) row_more (volume_is_part name good) (volume_with pool blocks) refl refl refl in
     let chains = it.adds later group objects pool readings blocks reading some (chains_stay.more planned later group objects old.changes pool readings more spells.chains) unused
     (record { kind = refl; created = refl; previous = refl; next = refl; clones = refl })
     (new_numbers old group planned objects pool readings plain spells behind within) leads are_new (each_once group planned later blocks one) in
     acts_with old group planned objects pool readings plain spells later new _ _ Head reading one_more chains
     (names_with pool _ n Head one_more readings old.directory plain spells.names reading new.directory row (created group name size block_size) it.row lacks refl is.0 good refl in_group
-    (ap (λ k. replicate k 0) is.1) is.2)
+    (ap (λ k. replicate k 0) is.1) is.2 told)
     it.next it.touched.lists
     (reach_with group planned later pool spells.chains.sound n unused blocks old.directory new.directory row it.row.at
     (λ block held. let birth = born_now group planned later blocks one block held in omega (arith, birth, some)) refl

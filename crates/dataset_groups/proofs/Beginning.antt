@@ -64,7 +64,11 @@ pub group_begins : (stored : Contents) (bound birth group : ℕ) (set : ObjectSe
 group_begins stored bound birth group set objects own blocks pool readings rows plain datasets none directory next least are chains le names = record {
   chains = in_later_group stored bound group objects datasets.changes pool readings le (begins objects datasets.changes none stored bound pool readings chains);
   names = subst (λ (rs : List DirectoryRow). NamesPool (in_group pool group) readings rs plain) (sym directory)
-      (record { numbers = record { each = names.numbers.each; once = names.numbers.once }; volumes = named_in pool group readings rows plain.volumes names.volumes });
+      (record {
+        numbers = record { each = names.numbers.each; once = names.numbers.once };
+        volumes = named_in pool group readings rows plain.volumes names.volumes;
+        chains = record { chains = names.chains.chains; branches = names.chains.branches; clones = names.chains.clones };
+      });
   fresh = λ number behind. record {
     no_object = nothing_behind stored birth set objects own blocks are number (omega (arith, behind, next, least));
     no_record = (none number).0;

@@ -30,9 +30,12 @@ use Rattle.dataset_groups.proofs.KindNames.{names_snapshot, snapshot_is_one}
 use Rattle.dataset_groups.proofs.MakingVolumes.{volumes_same}
 use Rattle.dataset_groups.proofs.MoreDatasets.{acts_with, new_numbers, next_unused}
 use Rattle.dataset_groups.proofs.MoreNames.{names_with}
+use Rattle.dataset_groups.proofs.NameParts.{volume_is_part}
 use Rattle.dataset_groups.proofs.NamedRows.{IsLedTo, led_to, none_at}
 use Rattle.dataset_groups.proofs.OneMore.{one_with}
+use Rattle.dataset_groups.proofs.RowMore.{IsRowMore}
 use Rattle.dataset_groups.proofs.SameReach.{same_reach}
+use Rattle.dataset_groups.proofs.ToldMore.{told_clone}
 
 -- ---- nothing is made
 
@@ -90,8 +93,21 @@ clone_made law before after old new group padded snapshot name row stored known 
     let unused : IsUnused pool.datasets n = next_unused old group known objects pool readings plain spells behind in
     let one_more = one_with pool n (clone_of pool origin) unused refl in
     let chains = cloned.adds stored known objects own blocks pool readings holds are honest spells.chains is unused (new_numbers old group known objects pool readings plain spells behind within) in
-    let names = names_with pool _ n Head one_more readings old.directory plain spells.names (readings origin) new.directory (record { name = padded; object = n })
-    (plain_clone_of group name there.v) cloned.row lacks refl padded_is good_name refl spells.chains.now there.names.array there.names.block_size in
+    let more : PlainVolume = plain_clone_of group name there.v in
+    let row_more : IsRowMore pool readings old.directory plain n new.directory more = record {
+      unused = unused;
+      sound = spells.chains.sound;
+      names = spells.names;
+      row = record { name = padded; object = n };
+      among = cloned.row;
+      lacks = lacks;
+      at = refl;
+      named = padded_is;
+    } in
+    let told = told_clone pool readings old.directory plain n new.directory more row_more (volume_is_part name good_name) (clone_of pool origin) refl is there.v.name
+    (row, held, refl, there.names.name) refl in
+    let names = names_with pool _ n Head one_more readings old.directory plain spells.names (readings origin) new.directory (record { name = padded; object = n }) more cloned.row lacks refl padded_is
+    good_name refl spells.chains.now there.names.array there.names.block_size told in
     subst (AreActed group objects known known old new pool) (sym (plain_cloned pool readings old.directory plain row snapshot order held named good spells.names group name))
     (acts_with old group known objects pool readings plain spells known new _ _ Head (readings origin) one_more chains names cloned.next cloned.touched.lists
     (same_reach law pool (with_dataset pool n (clone_of pool origin)) spells.chains.sound (MakeClone origin n) (is, unused) (refl, refl) refl (objects_of_rows old.directory)

@@ -20,6 +20,7 @@ use Rattle.dataset_groups.specs.Names.{NamesPool, NamesVolume, objects_of_rows, 
 use Rattle.dataset_groups.specs.Writing.{AreWritten, numbers_of}
 use Rattle.dataset_groups.proofs.HeadsWritten.{AreHeadsWritten}
 use Rattle.dataset_groups.proofs.KnownBlocks.{reached_known}
+use Rattle.dataset_groups.proofs.ToldWritten.{told_after}
 use Rattle.dataset_groups.proofs.WrittenReach.{exchanged}
 use Rattle.dataset_groups.proofs.WrittenVolumes.{named_after, number_or_not, unwritten_bytes, written_each, zip_to}
 
@@ -47,6 +48,7 @@ module _ (stored planned later : Contents) (bound group : ℕ) (objects : ℕ �
     volumes = zip_to (NamesVolume pool readings) (NamesVolume after now) (λ volume. after_writes volume writes) old.directory plain.volumes
         (λ row volume held names. named_after pool after readings now row volume writes all.shapes names (array_after row volume held names) (all.block_size row.object))
         spelled.names.volumes;
+    chains = told_after pool after old.directory plain writes all.shapes all.next spelled.names.chains;
   })
 
   pub spelled_after : SpellsGroup later group objects new after now (fold written plain writes)

@@ -41,7 +41,7 @@ use Rattle.dataset_groups.proofs.ListParts.{first_or_later, is_first, nothing_in
 use Rattle.dataset_groups.proofs.OneHead.{head_not_free}
 use Rattle.dataset_groups.proofs.Overwriting.{HaveSameShapes, entered_reached, freed_was, kept_or_freed, others_same, same_group_before, shapes_none, shapes_on, shapes_same}
 use Rattle.dataset_groups.proofs.TouchedHeads.{number_before, number_cases, number_last, still_fresh, still_unmixed}
-use Rattle.dataset_groups.proofs.WrittenVolumes.{one_row, one_volume, zip_has}
+use Rattle.dataset_groups.proofs.WrittenVolumes.{no_clone, one_row, one_volume, same_bytes_after, zip_has}
 
 -- ---- what is known anew
 
@@ -103,6 +103,7 @@ pub record AreHeadsWritten (planned later : Contents) (group : ℕ) (objects : �
   pub fresh : (number : ℕ) → new.next ≤ number → IsFresh objects new.changes number
   pub unmixed : ¬ AreMixed new.changes
   pub shapes : HaveSameShapes pool after
+  pub next : (m : ℕ) → after.next m ≡ pool.next m
   pub others : (m : ℕ) → ¬ Contains (numbers_of done) m → (after.datasets m ≡ pool.datasets m) × (now m ≡ readings m)
   pub block_size : (m : ℕ) → (now m).block_size ≡ (readings m).block_size
   pub reads : (row : DirectoryRow) (volume : PlainVolume) → Contains old.directory row → Contains (numbers_of done) row.object → NamesVolume pool readings row volume
@@ -123,6 +124,7 @@ none_written planned group objects old pool readings plain writes spelled = reco
   fresh = spelled.fresh;
   unmixed = spelled.unmixed;
   shapes = shapes_none pool;
+  next = λ m. refl;
   others = λ m not. (refl, refl);
   block_size = λ m. refl;
   reads = λ row volume held none. absurd (nothing_in row.object none);
@@ -327,8 +329,8 @@ module _ (stored planned mid : Contents) (bound group : ℕ) (objects : ℕ → 
           ∙ first.reads row volume there_is sooner names
       | inr e ↦
           let one : named.row ≡ row = one_row old.directory named.row row spelled.names.numbers.once named.held there_is (named.is ∙ e) in
-          let same : named.volume ≡ volume = one_volume pool readings row named.volume volume (subst (λ (r : DirectoryRow). NamesVolume pool readings r named.volume) one named.names) names in
-          ap (λ k. (now k).array) (sym e) ∙ ap (λ (x : Reading). x.array) (same_at reads next.number reading) ∙ ap (λ (v : PlainVolume). (after_writes v writes).bytes) same
+          let same : no_clone named.volume ≡ no_clone volume = one_volume pool readings row named.volume volume (subst (λ (r : DirectoryRow). NamesVolume pool readings r named.volume) one named.names) names in
+          ap (λ k. (now k).array) (sym e) ∙ ap (λ (x : Reading). x.array) (same_at reads next.number reading) ∙ same_bytes_after named.volume volume writes same
     ]
 
     pub one_more : AreHeadsWritten planned later group objects old new pool after readings now writes (done ++ next ∷ []) (gone ++ left_too)
@@ -338,6 +340,7 @@ module _ (stored planned mid : Contents) (bound group : ℕ) (objects : ℕ → 
           (first.fresh number (subst (λ k. k ≤ number) next_is le));
       unmixed = still_unmixed mid later group objects so_far.changes new.changes at after reads now next.number first.chains step.chains there still touched step.list first.unmixed;
       shapes = shapes_on pool at after first.shapes shapes_too;
+      next = λ m. ap (λ (p : Pool). p.next m) step.made.new_is ∙ first.next m;
       others = others_too;
       block_size = at_each reads next.number reading (λ k x. x.block_size ≡ (readings k).block_size) (first.block_size next.number) (λ k ne. first.block_size k);
       reads = reads_too;

@@ -11,7 +11,7 @@ use Rattle.dataset_groups.specs.Names.{IsOfKind}
 use Rattle.dataset_groups.proofs.GoodNames.{both}
 
 -- a snapshot's name has an '@'
-has_at : (name : List ℕ) → is_name_for Snapshot name ≡ true → is_snapshot_name name ≡ true
+pub has_at : (name : List ℕ) → is_name_for Snapshot name ≡ true → is_snapshot_name name ≡ true
 has_at name good = (both (is_name (volume_part name)) (is_snapshot_name name) good).1
 
 -- a volume's name isn't a snapshot's
@@ -31,7 +31,7 @@ pub snapshot_is_one : (kind : VolumeKind) (of : Kind) → IsOfKind kind of → i
 snapshot_is_one Volume of is snapshot = absurd (true≢false (sym snapshot))
 snapshot_is_one Snapshot of is snapshot = is
 
-both_true : (a b : Bool) → a ≡ true → b ≡ true → (a && b) ≡ true
+pub both_true : (a b : Bool) → a ≡ true → b ≡ true → (a && b) ≡ true
 both_true true b one two = two
 both_true false b one two = absurd (true≢false (sym one))
 

@@ -16,14 +16,14 @@ use Rattle.pool_model.specs.declared.volume.VolumeKind.{VolumeKind}
 use Rattle.pool_model.specs.declared.volume.VolumeKind.TheVariants.{Snapshot, Volume}
 use Rattle.pool_model.specs.Names.{is_name_for}
 use Rattle.pool_model.specs.Pools.{PlainPool, with_volume}
-use Rattle.dataset_groups.specs.Names.{IsOfKind, NamesPool, NamesVolume, objects_of_rows}
+use Rattle.dataset_groups.specs.Names.{IsOfKind, NamesPool, NamesTellChains, NamesVolume, objects_of_rows}
 use Rattle.dataset_groups.proofs.ListParts.{first_or_later, nothing_in}
 use Rattle.dataset_groups.proofs.MakingVolumes.{volumes_with}
 use Rattle.dataset_groups.proofs.MoreNumbers.{has_new, has_old, of_row, once_with}
 use Rattle.dataset_groups.proofs.OneMore.{IsOneMore, not_new_number}
 
 -- a row that names a volume or a snapshot names a dataset
-named_stands : (kind : VolumeKind) (of : Kind) → IsOfKind kind of → of ≢ Free
+pub named_stands : (kind : VolumeKind) (of : Kind) → IsOfKind kind of → of ≢ Free
 named_stands Volume of is free = absurd (let clash : Head ≡ Free = sym is ∙ free in cc)
 named_stands Snapshot of is free = absurd (let clash : ASnapshot ≡ Free = sym is ∙ free in cc)
 
@@ -72,8 +72,8 @@ module _ (pool after : Pool) (n : ℕ) (of : Kind) (more : IsOneMore pool after 
     -- with a row for it
     pub names_with : (new_rows : List DirectoryRow) (row : DirectoryRow) (volume : PlainVolume) → IsPlacedAmong rows row new_rows → LacksName rows row.name → row.object ≡ n
         → IsNamed row.name volume.name → is_name_for volume.kind volume.name ≡ true → IsOfKind volume.kind of → pool.group ≡ volume.group → reading.array ≡ volume.bytes
-        → reading.block_size ≡ volume.block_size → NamesPool after now new_rows (with_volume volume plain)
-    names_with new_rows row volume among lacks at named good kind group array block_size =
+        → reading.block_size ≡ volume.block_size → NamesTellChains after new_rows (with_volume volume plain) → NamesPool after now new_rows (with_volume volume plain)
+    names_with new_rows row volume among lacks at named good kind group array block_size told =
         let reads : now row.object ≡ reading = ap now at ∙ same_at readings n reading in
         record {
           numbers = subst (λ (rs : List DirectoryRow). AreNumbersOf after.datasets (objects_of_rows rs)) (sym among.placed) (record {
@@ -93,4 +93,5 @@ module _ (pool after : Pool) (n : ℕ) (of : Kind) (more : IsOneMore pool after 
                 array = ap (λ (r : Reading). r.array) reads ∙ array;
                 block_size = ap (λ (r : Reading). r.block_size) reads ∙ block_size;
               });
+          chains = told;
         }

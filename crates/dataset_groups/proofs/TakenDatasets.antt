@@ -13,6 +13,7 @@ use Rattle.meta_objset.specs.declared.directory.DirectoryRow.{DirectoryRow}
 use Rattle.meta_objset.specs.Directory.{IsDirectory, LacksName}
 use Rattle.meta_objset.specs.Names.{IsNamed}
 use Rattle.objset.specs.Objects.{AreObjects, Object}
+use Rattle.pool_model.proofs.Letters.{volumes_part}
 use Rattle.pool_model.specs.declared.item.Change.TheVariants.{Snapshot}
 use Rattle.pool_model.specs.declared.volume.PlainVolume.{PlainVolume}
 use Rattle.pool_model.specs.Names.{is_name, snapshot_name}
@@ -29,9 +30,12 @@ use Rattle.dataset_groups.proofs.KindNames.{good_snapshot, names_volume, volume_
 use Rattle.dataset_groups.proofs.MakingVolumes.{volumes_same}
 use Rattle.dataset_groups.proofs.MoreDatasets.{acts_with, new_numbers, next_unused}
 use Rattle.dataset_groups.proofs.MoreNames.{names_with}
+use Rattle.dataset_groups.proofs.NameParts.{volume_is_part}
 use Rattle.dataset_groups.proofs.NamedRows.{IsLedTo, led_to, none_at}
+use Rattle.dataset_groups.proofs.RowMore.{IsRowMore}
 use Rattle.dataset_groups.proofs.SameReach.{same_reach}
 use Rattle.dataset_groups.proofs.TakenPools.{one_taken}
+use Rattle.dataset_groups.proofs.ToldTaken.{told_taken}
 
 -- ---- nothing is made
 
@@ -91,8 +95,22 @@ snapshot_made law before after old new group padded volume part row stored known
     let unused : IsUnused pool.datasets n = next_unused old group known objects pool readings plain spells behind in
     let one_more = one_taken pool head n is unused in
     let chains = taken.adds stored known objects own blocks pool readings holds are honest spells.chains is unused (new_numbers old group known objects pool readings plain spells behind within) in
-    let names = names_with pool _ n ASnapshot one_more readings old.directory plain spells.names (readings head) new.directory (record { name = padded; object = n })
-    (snapshot_of group (snapshot_name volume part) there.v) taken.row lacks refl padded_is (good_snapshot volume part good) refl spells.chains.now there.names.array there.names.block_size in
+    let name : List ℕ = snapshot_name volume part in
+    let more : PlainVolume = snapshot_of group name there.v in
+    let row_more : IsRowMore pool readings old.directory plain n new.directory more = record {
+      unused = unused;
+      sound = spells.chains.sound;
+      names = spells.names;
+      row = record { name = padded; object = n };
+      among = taken.row;
+      lacks = lacks;
+      at = refl;
+      named = padded_is;
+    } in
+    let told = told_taken pool readings old.directory plain n new.directory more row_more head is volume (row, held, refl, named)
+    (volumes_part volume part good ∙ sym (volume_is_part volume good)) refl in
+    let names = names_with pool _ n ASnapshot one_more readings old.directory plain spells.names (readings head) new.directory (record { name = padded; object = n }) more taken.row lacks refl padded_is
+    (good_snapshot volume part good) refl spells.chains.now there.names.array there.names.block_size told in
     subst (AreActed group objects known known old new pool) (sym (plain_taken pool readings old.directory plain row volume order held named good spells.names group part))
     (acts_with old group known objects pool readings plain spells known new _ _ ASnapshot (readings head) one_more chains names taken.next taken.touched.touched.lists
     (same_reach law pool (with_snapshot pool head n) spells.chains.sound (TakeSnapshot head n) (is, unused) (refl, refl) refl (objects_of_rows old.directory) (objects_of_rows new.directory)

@@ -7,7 +7,7 @@ use Rattle.dead_list.proofs.Updates.{other_at, same_at}
 use Rattle.dataset_groups.proofs.OneMore.{IsOneMore}
 
 module _ (pool : Pool) (head n : ℕ) (is : IsHead pool.datasets head) (unused : IsUnused pool.datasets n) where
-  abbrev taken : ℕ → Dataset
+  abbrev pub taken : ℕ → Dataset
   taken = (with_snapshot pool head n).datasets
 
   abbrev with_new : ℕ → Dataset
@@ -19,15 +19,15 @@ module _ (pool : Pool) (head n : ℕ) (is : IsHead pool.datasets head) (unused :
       absurd cc
 
   -- the snapshot is there
-  at_new : taken n ≡ snapshot_of pool.group (pool.datasets head)
+  pub at_new : taken n ≡ snapshot_of pool.group (pool.datasets head)
   at_new =
       other_at with_new head (head_after n (pool.datasets head)) n (not_head n unused.1)
       ∙ same_at pool.datasets n (snapshot_of pool.group (pool.datasets head))
 
-  at_head : taken head ≡ head_after n (pool.datasets head)
+  pub at_head : taken head ≡ head_after n (pool.datasets head)
   at_head = same_at with_new head (head_after n (pool.datasets head))
 
-  at_other : (m : ℕ) → m ≢ head → m ≢ n → taken m ≡ pool.datasets m
+  pub at_other : (m : ℕ) → m ≢ head → m ≢ n → taken m ≡ pool.datasets m
   at_other m nh nn =
       other_at with_new head (head_after n (pool.datasets head)) m nh
       ∙ other_at pool.datasets n (snapshot_of pool.group (pool.datasets head)) m nn

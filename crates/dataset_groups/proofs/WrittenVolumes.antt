@@ -1,5 +1,5 @@
 -- The volumes that rows name once a group's writes are made.
-use Rattle.std.proofs.Common.{◌≡◌, ◌≢◌, ◌⊎◌, ℕ, Bool, true, false, cond, List, [], ◌∷◌, map, Contains, AllPairs, inl, inr, refl, sym, ap, subst, ◌∙◌}
+use Rattle.std.proofs.Common.{◌≡◌, ◌≢◌, ◌⊎◌, ℕ, Bool, true, false, cond, List, [], ◌∷◌, map, None, Contains, AllPairs, inl, inr, refl, sym, ap, subst, ◌∙◌}
 use Rattle.std.specs.Prelude.{◌&&◌, fold, not}
 use Rattle.std.specs.List.{AllZip}
 use Rattle.std.proofs.lemmas.Bool.{cases_eq}
@@ -52,6 +52,42 @@ snapshot_stays volume (write ∷ writes) is =
     passed_by v w true e is =
         ap (λ t. cond (t && not (is_snapshot v.kind)) (record v { bytes = with_bytes w.offset w.bytes v.bytes }) v) e
         ∙ ap (λ t. cond (not t) (record v { bytes = with_bytes w.offset w.bytes v.bytes }) v) is
+
+-- ---- origins
+
+-- the volume as it were if it was no clone
+abbrev pub no_clone : PlainVolume → PlainVolume
+no_clone volume = record volume { origin = None }
+
+-- writes leave the origin
+origin_after : (write : Write) (volume : PlainVolume) → (volume_after write volume).origin ≡ volume.origin
+origin_after write volume =
+    elim (same volume.name write.volume && not (is_snapshot volume.kind)) as (λ b. (cond b (record volume { bytes = with_bytes write.offset write.bytes volume.bytes }) volume).origin ≡ volume.origin) [
+      | true ↦ refl
+      | false ↦ refl
+    ]
+
+pub origin_after_writes : (volume : PlainVolume) (writes : List Write) → (after_writes volume writes).origin ≡ volume.origin
+origin_after_writes volume [] = refl
+origin_after_writes volume (write ∷ writes) = origin_after_writes (volume_after write volume) writes ∙ origin_after write volume
+
+-- and they don't ask for it
+no_clone_after : (write : Write) (volume : PlainVolume) → volume_after write (no_clone volume) ≡ no_clone (volume_after write volume)
+no_clone_after write volume =
+    elim (same volume.name write.volume && not (is_snapshot volume.kind))
+    as (λ b. cond b (record (no_clone volume) { bytes = with_bytes write.offset write.bytes volume.bytes }) (no_clone volume)
+    ≡ no_clone (cond b (record volume { bytes = with_bytes write.offset write.bytes volume.bytes }) volume)) [
+      | true ↦ refl
+      | false ↦ refl
+    ]
+
+no_clone_after_writes : (volume : PlainVolume) (writes : List Write) → after_writes (no_clone volume) writes ≡ no_clone (after_writes volume writes)
+no_clone_after_writes volume [] = refl
+no_clone_after_writes volume (write ∷ writes) = ap (λ (v : PlainVolume). after_writes v writes) (no_clone_after write volume) ∙ no_clone_after_writes (volume_after write volume) writes
+
+pub same_bytes_after : (volume other : PlainVolume) (writes : List Write) → no_clone volume ≡ no_clone other → (after_writes volume writes).bytes ≡ (after_writes other writes).bytes
+same_bytes_after volume other writes same =
+    ap (λ (v : PlainVolume). v.bytes) (sym (no_clone_after_writes volume writes) ∙ ap (λ (v : PlainVolume). after_writes v writes) same ∙ no_clone_after_writes other writes)
 
 -- the pool after writes has each volume after them
 pub written_each : (pool : PlainPool) (writes : List Write) → fold written pool writes ≡ record pool { volumes = map (λ volume. after_writes volume writes) pool.volumes }
@@ -113,15 +149,16 @@ one_kind Snapshot Snapshot is one two = refl
 one_kind Volume Snapshot is one two = absurd (let clash : Head ≡ ASnapshot = sym one ∙ two in cc)
 one_kind Snapshot Volume is one two = absurd (let clash : Head ≡ ASnapshot = sym two ∙ one in cc)
 
--- and a row names one volume
-pub one_volume : (pool : Pool) (readings : ℕ → Reading) (row : DirectoryRow) (volume other : PlainVolume) → NamesVolume pool readings row volume → NamesVolume pool readings row other → volume ≡ other
+-- and a row names one volume, but for its origin
+pub one_volume : (pool : Pool) (readings : ℕ → Reading) (row : DirectoryRow) (volume other : PlainVolume) → NamesVolume pool readings row volume → NamesVolume pool readings row other
+    → no_clone volume ≡ no_clone other
 one_volume pool readings row volume other one two =
     let name : volume.name ≡ other.name = names_same row.name volume.name other.name one.name two.name in
     let bytes : volume.bytes ≡ other.bytes = sym one.array ∙ two.array in
     let block_size : volume.block_size ≡ other.block_size = sym one.block_size ∙ two.block_size in
     let group : volume.group ≡ other.group = sym one.created ∙ two.created in
     let kind = one_kind volume.kind other.kind (pool.datasets row.object).kind one.kind two.kind in
-    λ i. record { name = name i; bytes = bytes i; block_size = block_size i; group = group i; kind = kind i }
+    λ i. record { name = name i; bytes = bytes i; block_size = block_size i; group = group i; kind = kind i; origin = None }
 
 -- a row names the volume after the writes where its dataset reads so
 pub named_after : (pool after : Pool) (readings now : ℕ → Reading) (row : DirectoryRow) (volume : PlainVolume) (writes : List Write) → HaveSameShapes pool after

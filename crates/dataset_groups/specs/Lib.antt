@@ -9,3 +9,4 @@ pub mod Touched
 pub mod Demands
 pub mod Actions
 pub mod Laws
+pub mod Destroys

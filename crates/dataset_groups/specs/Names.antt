@@ -1,5 +1,5 @@
 -- The datasets of a pool under the names of its directory, as plain volumes.
-use Rattle.std.specs.Prelude.{ℕ, ◌≡◌, true, List, map}
+use Rattle.std.specs.Prelude.{ℕ, ◌≡◌, ◌≢◌, true, List, map, Some, Contains}
 use Rattle.std.specs.List.{AllZip}
 use Rattle.block_pointer.specs.declared.block.Block.{Block}
 use Rattle.dataset_chains.specs.Chains.{Reading}
@@ -11,7 +11,7 @@ use Rattle.meta_objset.specs.Names.{IsNamed}
 use Rattle.pool_model.specs.declared.volume.PlainVolume.{PlainVolume}
 use Rattle.pool_model.specs.declared.volume.VolumeKind.{VolumeKind}
 use Rattle.pool_model.specs.declared.volume.VolumeKind.TheVariants.{Snapshot, Volume}
-use Rattle.pool_model.specs.Names.{is_name_for}
+use Rattle.pool_model.specs.Names.{is_name_for, volume_part}
 use Rattle.pool_model.specs.Pools.{PlainPool}
 
 -- a volume is a head
@@ -33,11 +33,43 @@ pub record NamesVolume (pool : Pool) (readings : ℕ → Reading) (row : Directo
 abbrev pub objects_of_rows : List DirectoryRow → List ℕ
 objects_of_rows rows = map (λ row. row.object) rows
 
--- The rows name all datasets, each once: the volumes of the plain pool, in the order of their names, no more and no fewer.
+-- a row names the dataset so
+abbrev pub IsCalled : List DirectoryRow → ℕ → List ℕ → Type 0
+IsCalled rows number name =
+    (row : DirectoryRow) × Contains rows row × (row.object ≡ number) × IsNamed row.name name
+
+-- the dataset branches off the snapshot before it: something else comes next to that one in its chain
+abbrev pub BranchesOff : Pool → ℕ → Type 0
+BranchesOff pool number =
+    ((pool.datasets number).before ≢ 0) × (pool.next (pool.datasets number).before ≢ number)
+
+-- the volume of the first name is a clone of the snapshot of the second
+abbrev pub HasClone : PlainPool → List ℕ → List ℕ → Type 0
+HasClone plain name origin =
+    (volume : PlainVolume) × Contains plain.volumes volume × (volume.name ≡ name)
+    × (volume.origin ≡ Some origin)
+
+-- Names tell the chains. What comes next to a snapshot is of the volume that the snapshot is of. Where a dataset branches off a snapshot, the
+-- volume that it is of is a clone of that one; and of each clone a dataset does.
+pub record NamesTellChains (pool : Pool) (rows : List DirectoryRow) (plain : PlainPool) : Type 0 where
+  pub chains : (number : ℕ) (name next : List ℕ) → (pool.datasets number).kind ≡ ASnapshot
+      → IsCalled rows number name → IsCalled rows (pool.next number) next
+      → volume_part next ≡ volume_part name
+  pub branches : (number : ℕ) (name origin : List ℕ) → BranchesOff pool number
+      → IsCalled rows number name → IsCalled rows (pool.datasets number).before origin
+      → HasClone plain (volume_part name) origin
+  pub clones : (volume : PlainVolume) (origin : List ℕ) → Contains plain.volumes volume
+      → volume.origin ≡ Some origin
+      → (number : ℕ) × (name : List ℕ) × BranchesOff pool number × IsCalled rows number name
+      × (volume_part name ≡ volume.name) × IsCalled rows (pool.datasets number).before origin
+
+-- The rows name all datasets, each once: the volumes of the plain pool, in the order of their names, no more and no fewer. The names tell the
+-- chains.
 pub record NamesPool (pool : Pool) (readings : ℕ → Reading) (rows : List DirectoryRow) (plain : PlainPool)
     : Type 0 where
   pub numbers : AreNumbersOf pool.datasets (objects_of_rows rows)
   pub volumes : AllZip (NamesVolume pool readings) rows plain.volumes
+  pub chains : NamesTellChains pool rows plain
 
 -- all blocks that the datasets of the rows reach, each in the dataset that it was born in
 abbrev pub reach_by : Pool → List DirectoryRow → List Block

@@ -5,6 +5,7 @@
 mod actions;
 mod cloning;
 mod datasets;
+mod destroying;
 mod laws;
 mod making;
 mod new_volume;

@@ -123,6 +123,11 @@ names_none group rows none =
     (record {
       numbers = record { each = λ m some. absurd (some refl); once = λ i j d before within. absurd (omega (arith, within)) };
       volumes = tt;
+      chains = record {
+        chains = λ number name next kind called later. let wrong : Free ≡ Snapshot = kind in absurd cc;
+        branches = λ number name origin off called before. absurd (off.0 refl);
+        clones = λ volume origin held is. absurd (omega (arith, held.1));
+      };
     })
 
 -- the changes of none are over no objects

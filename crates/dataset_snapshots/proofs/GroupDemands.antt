@@ -1,6 +1,6 @@
 -- What a group's root asks places for, from what its parts ask.
-use Rattle.std.proofs.Common.{◌≡◌, ◌⊎◌, ◌↔◌, inl, inr, Ok, Err, Result, ℕ, ◌-◌, List, [], ◌∷◌, ◌++◌, length, Contains, refl, ap, subst, sym}
-use Rattle.std.specs.Prelude.{IfErr, IfOk, OnOk}
+use Rattle.std.proofs.Common.{Bool, IsTrue, ◌≡◌, ◌⊎◌, ◌↔◌, inl, inr, Ok, Err, Result, ℕ, ◌-◌, List, [], ◌∷◌, ◌++◌, length, Contains, refl, ap, subst, sym}
+use Rattle.std.specs.Prelude.{Any, IfErr, IfOk, OnOk}
 use Rattle.block_pointer.specs.declared.block.Block.{Block}
 use Rattle.block_pointer.specs.Copies.{dvas}
 use Rattle.block_store.proofs.Demands.{have_both, have_one, lack_later, lack_one}
@@ -20,11 +20,14 @@ use Rattle.objset.specs.Demands.{HasDemands, LacksRoom}
 use Rattle.objset.specs.Refused.{IsChangeRefused}
 use Rattle.pool_model.specs.declared.item.Write.{Write}
 use Rattle.pool_model.specs.Pools.{Entry}
+use Rattle.dataset_snapshots.specs.declared.groups.Begun.{Begun}
 use Rattle.dataset_snapshots.specs.declared.groups.Opened.{Opened}
 use Rattle.dataset_snapshots.specs.Demands.{AreMappedRefused, AreWithMaps, HasGroupDemands, HasGroupPlaces, HasMappedPlaces, HasRootDemands, HasRootPlaces, IsGroupRefused, IsRootRefused, demand_of_root}
-use Rattle.dataset_snapshots.specs.Finding.{IsMetaFound}
-use Rattle.dataset_snapshots.specs.Opening.{IsGroupFound, IsGroupUnread, IsOneUnread}
-use Rattle.dataset_snapshots.specs.Writing.{IsWritten}
+use Rattle.dataset_groups.specs.Demands.{IsNameThere}
+use Rattle.dataset_groups.specs.Destroys.{AreDestroysRefused}
+use Rattle.dataset_snapshots.specs.Finding.{IsMetaFound, IsMetaRefused}
+use Rattle.dataset_snapshots.specs.Opening.{IsBegunFound, IsGroupFound, IsGroupUnread, IsOneUnread, IsVolumeUnread, most_blocks}
+use Rattle.dataset_snapshots.specs.Writing.{IsWrittenBut}
 use Rattle.dataset_snapshots.proofs.Asking.{all_demands_in}
 use Rattle.dnode.specs.declared.object_set.ObjectSetKind.TheVariants as kinds
 use Rattle.objset.specs.Changes.{copies_of}
@@ -89,30 +92,43 @@ objects_refused old new set before group copies changes refusal same (inr (inr w
 
 -- ---- what was read
 
-pub volume_unread : (old mid new : Store) (birth : ℕ) (root : Block) (rows kept : List DirectoryRow) (writes : List Write) (set : ObjectSet) (objects : List ℕ) (refusal : Refusal)
-    → OnlyReadsBlocks old mid [] → IsMetaFound old.spaces birth root set → rows ≡ kept → ((object : ℕ) → Contains objects object ↔ IsWritten rows writes object)
-    → (refusal ≡ NoMemory) ⊎ IsOneUnread mid new set root.birth writes rows objects refusal → (refusal ≡ NoMemory) ⊎ IsGroupUnread old new birth root kept writes refusal
-volume_unread old mid new birth root rows kept writes set objects refusal reads meta same which (inl memory) = inl memory
-volume_unread old mid new birth root rows kept writes set objects refusal reads meta same which (inr why) =
+pub volume_unread : (old mid new : Store) (birth : ℕ) (root : Block) (rows kept : List DirectoryRow) (destroyed : List (List ℕ)) (writes : List Write) (set : ObjectSet) (objects : List ℕ)
+    (refusal : Refusal) → OnlyReadsBlocks old mid [] → IsMetaFound old.spaces birth root set → rows ≡ kept → ((object : ℕ) → Contains objects object ↔ IsWrittenBut rows destroyed writes object)
+    → (refusal ≡ NoMemory) ⊎ IsOneUnread mid new set root.birth writes rows objects refusal
+    → (refusal ≡ NoMemory) ⊎ (IsMetaRefused old new [] birth root refusal ⊎ IsVolumeUnread old new birth root kept destroyed writes refusal)
+volume_unread old mid new birth root rows kept destroyed writes set objects refusal reads meta same which (inl memory) = inl memory
+volume_unread old mid new birth root rows kept destroyed writes set objects refusal reads meta same which (inr why) =
     inr (inr (record {
       set = set;
       meta = meta;
       objects = objects;
-      which = subst (λ (list : List DirectoryRow). (object : ℕ) → Contains objects object ↔ IsWritten list writes object) same which;
+      which = subst (λ (list : List DirectoryRow). (object : ℕ) → Contains objects object ↔ IsWrittenBut list destroyed writes object) same which;
       mid = mid;
       before = reads;
       why = subst (λ (list : List DirectoryRow). IsOneUnread mid new set root.birth writes list objects refusal) same why;
     }))
 
+-- and then what is to be destroyed was not
+pub names_kept : (old mid new : Store) (root : Block) (rows : List DirectoryRow) (group : ℕ) (destroyed : List (List ℕ)) (writes : List Write) (begun : Begun) (refusal : Refusal)
+    → OnlyReadsBlocks old mid [] → IsBegunFound old.spaces (group - 1) root rows destroyed writes begun
+    → AreDestroysRefused mid new begun.datasets group most_blocks destroyed refusal
+    → (refusal ≡ NoMemory) ⊎ IsGroupUnread old new root rows group destroyed writes refusal
+names_kept old mid new root rows group destroyed writes begun refusal reads found why =
+    inr (inr (inr (record { set = begun.set; meta = found.meta; begun = begun.datasets; begins = found.begins; mid = mid; before = reads; why = why })))
+
+pub renamed_by : (rows kept : List DirectoryRow) (destroyed : List (List ℕ)) (renamed : Bool) → rows ≡ kept → (IsTrue renamed ↔ Any (IsNameThere rows) destroyed)
+    → (IsTrue renamed ↔ Any (IsNameThere kept) destroyed)
+renamed_by rows kept destroyed renamed same is = subst (λ (list : List DirectoryRow). IsTrue renamed ↔ Any (IsNameThere list) destroyed) same is
+
 -- ---- the group
 
-module _ (old first second new : Store) (root : Block) (rows : List DirectoryRow) (group : ℕ) (items : Entry) (opened : Opened) (reads : OnlyReadsBlocks old first [])
-    (found : IsGroupFound old.spaces (group - 1) root rows items.writes opened) where
-  pub group_volumes_refused : (refusal : Refusal) → AreMappedRefused first new root.birth group opened items.actions refusal → IsGroupRefused old new root rows group items refusal
+module _ (old first second new : Store) (root : Block) (rows : List DirectoryRow) (group : ℕ) (destroyed : List (List ℕ)) (items : Entry) (opened : Opened) (reads : OnlyReadsBlocks old first [])
+    (found : IsGroupFound old.spaces (group - 1) root rows destroyed items.writes opened) where
+  pub group_volumes_refused : (refusal : Refusal) → AreMappedRefused first new root.birth group opened items.actions refusal → IsGroupRefused old new root rows group destroyed items refusal
   group_volumes_refused refusal why = inr (inr (record { opened = opened; found = found; mid = first; before = reads; why = inl why }))
 
   pub group_changes_refused : (gone : List Block) (changes : List ObjectChange) (refusal : Refusal) → OnlyReadsAndPlans first second [] → HasMappedPlaces first second root.birth group opened items.actions gone changes
-      → IsRootRefused second new opened.set root.birth group changes refusal → IsGroupRefused old new root rows group items refusal
+      → IsRootRefused second new opened.set root.birth group changes refusal → IsGroupRefused old new root rows group destroyed items refusal
   group_changes_refused gone changes refusal steps volumes why =
       inr (inr (record {
         opened = opened;
@@ -122,10 +138,10 @@ module _ (old first second new : Store) (root : Block) (rows : List DirectoryRow
         why = inr (record { mid = second; before = steps; gone = gone; all = changes; volumes = volumes; why = why });
       }))
 
-  pub group_has : (gone of_meta replaced : List Block) (all : List ObjectChange) → OnlyReadsAndPlans first second []
+  pub group_has : (gone of_written of_meta replaced : List Block) (all : List ObjectChange) → OnlyReadsAndPlans first second []
       → HasMappedPlaces first second root.birth group opened items.actions gone all → HasRootPlaces second new opened.set group all
-      → replaced ≡ root ∷ gone ++ of_meta → HasGroupPlaces old new root rows group items replaced
-  group_has gone of_meta replaced all steps mapped (of_root, root_asks, root_has) given_back =
+      → gone ≡ opened.freed.items ++ of_written → replaced ≡ root ∷ gone ++ of_meta → HasGroupPlaces old new root rows group destroyed items replaced
+  group_has gone of_written of_meta replaced all steps mapped (of_root, root_asks, root_has) gone_is given_back =
       let volumes = mapped.volumes in
       let same : first.spaces ≡ old.spaces = ap (λ (s : Store). s.spaces) reads.rest in
       let now : second.spaces ≡ mapped.mid.spaces = ap (λ (s : Store). s.spaces) mapped.reads.rest in
@@ -157,6 +173,8 @@ module _ (old first second new : Store) (root : Block) (rows : List DirectoryRow
         opened = opened;
         found = found;
         gone = gone;
+        of_written = of_written;
+        gone_is = gone_is;
         of_meta = of_meta;
         given_back = given_back;
         demands = demands;
@@ -164,8 +182,8 @@ module _ (old first second new : Store) (root : Block) (rows : List DirectoryRow
         places = subst (λ (spaces : List VdevSpace). HavePlaces spaces demands new.spaces) same have;
       }
 
-pub group_unread : (old new : Store) (root : Block) (rows : List DirectoryRow) (group : ℕ) (items : Entry) (writes : List Write) (refusal : Refusal) → writes ≡ items.writes
-    → (refusal ≡ NoMemory) ⊎ IsGroupUnread old new (group - 1) root rows writes refusal → IsGroupRefused old new root rows group items refusal
-group_unread old new root rows group items writes refusal same (inl memory) = inl memory
-group_unread old new root rows group items writes refusal same (inr why) =
-    inr (inl (subst (λ (ws : List Write). IsGroupUnread old new (group - 1) root rows ws refusal) same why))
+pub group_unread : (old new : Store) (root : Block) (rows : List DirectoryRow) (group : ℕ) (destroyed : List (List ℕ)) (items : Entry) (writes : List Write) (refusal : Refusal) → writes ≡ items.writes
+    → (refusal ≡ NoMemory) ⊎ IsGroupUnread old new root rows group destroyed writes refusal → IsGroupRefused old new root rows group destroyed items refusal
+group_unread old new root rows group destroyed items writes refusal same (inl memory) = inl memory
+group_unread old new root rows group destroyed items writes refusal same (inr why) =
+    inr (inl (subst (λ (ws : List Write). IsGroupUnread old new root rows group destroyed ws refusal) same why))

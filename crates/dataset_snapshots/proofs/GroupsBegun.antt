@@ -39,7 +39,8 @@ use Rattle.volume.specs.Writing.{IsArrayWith}
 use Rattle.dataset_snapshots.specs.Finding.{IsRowOf}
 use Rattle.dataset_snapshots.specs.Opening.{IsOneUnread, IsWrittenOf}
 use Rattle.dataset_snapshots.specs.Pools.{SpellsDataset, SpellsPool}
-use Rattle.dataset_snapshots.specs.Writing.{IsReadFrom, IsVolumeIn, IsWritten}
+use Rattle.dataset_snapshots.specs.Groups.{AreRowsLeft}
+use Rattle.dataset_snapshots.specs.Writing.{IsReadFrom, IsVolumeIn, IsWrittenBut}
 use Rattle.dataset_snapshots.proofs.Chained.{IsSpelled, apart_of, row_spelled}
 use Rattle.dataset_snapshots.proofs.ChangedRows.{all_from, any_of, first_or_later, is_first, is_later, nothing_in, zip_has}
 
@@ -60,7 +61,7 @@ and_second : (a b : Bool) → (a && b) ≡ true → b ≡ true
 and_second true b both = both
 and_second false b both = absurd (true≢false (sym both))
 
-all_mapped : {X Y : Type 0} (f : X → Y) (P : Y → Type 0) (xs : List X) → All (λ x. P (f x)) xs → All P (map f xs)
+pub all_mapped : {X Y : Type 0} (f : X → Y) (P : Y → Type 0) (xs : List X) → All (λ x. P (f x)) xs → All P (map f xs)
 all_mapped f P [] all = All-nil P
 all_mapped f P (x ∷ xs) all = All-cons P (f x) (map f xs) (All-head (λ x. P (f x)) x xs all) (all_mapped f P xs (All-tail (λ x. P (f x)) x xs all))
 
@@ -140,7 +141,8 @@ names_then : (pool : Pool) (readings : ℕ → Reading) (group : ℕ) (row : Dir
 names_then pool readings group row volume named =
     record { name = named.name; good = named.good; kind = named.kind; created = named.created; array = named.array; block_size = named.block_size }
 
-module _ (stored : Contents) (birth : ℕ) (root : Block) (plain : PlainPool) (is : SpellsPool stored birth root plain) (writes : List Write) (group : ℕ) (later : root.birth < group) where
+module _ (stored : Contents) (birth : ℕ) (root : Block) (plain : PlainPool) (is : SpellsPool stored birth root plain) (writes : List Write) (group : ℕ) (later : root.birth < group)
+    (destroyed : List (List ℕ)) (left : List DirectoryRow) (rows_left : AreRowsLeft is.rows destroyed left) where
   abbrev now : Pool
   now = record is.datasets { group = group }
 
@@ -159,19 +161,29 @@ module _ (stored : Contents) (birth : ℕ) (root : Block) (plain : PlainPool) (i
       let at = subst (IsReadAt stored root.birth is.datasets is.readings head.volume) from.1.1 read in
       record { is = at.0.0; blocks = at.0.1; block_size = at.1 }
 
+  abbrev IsFor : ℕ → Type 0
+  IsFor number = IsWrittenBut is.rows destroyed writes number
+
   -- the write's name has one row, whose volume is that of a head
-  is_head : (number : ℕ) → IsWritten is.rows writes number → IsHead is.datasets.datasets number
+  is_head : (number : ℕ) → IsFor number → IsHead is.datasets.datasets number
   is_head number wrote =
-      let row = wrote.4.1 in
+      let row = wrote.4.1.1 in
       let to = zip_has (NamesVolume is.datasets is.readings) is.rows plain.volumes row.0 is.names.volumes row.1 in
       let name = name_once row.0.name to.0.name wrote.1.volume to.1.name row.2 in
       let kind = volume_by_name to.0.kind to.0.name to.1.good (ap is_snapshot_name name ∙ wrote.4.0) in
       subst (IsHead is.datasets.datasets) row.3 (head_of to.0.kind (is.datasets.datasets row.0.object).kind to.1.kind kind)
 
-  after : (head : WrittenHead) → IsFrom head → IsHead is.datasets.datasets head.number → IsAfterWrites now is.readings is.rows writes head
+  -- and which is left
+  is_left : (number : ℕ) → IsFor number → (row : DirectoryRow) × Contains left row × (row.object ≡ number)
+  is_left number wrote =
+      let row = wrote.4.1.1 in
+      let still = (rows_left row.0).1 (row.1, λ name gone named. wrote.4.1.0 (subst (Contains destroyed) (name_once row.0.name name wrote.1.volume named row.2) gone)) in
+      (row.0, still, row.3)
+
+  after : (head : WrittenHead) → IsFrom head → IsHead is.datasets.datasets head.number → IsAfterWrites now is.readings left writes head
   after head from heads row volume held at named =
       let first : DirectoryRow = from.0 in
-      let same : row ≡ first = one_row is.rows row first (apart_of is) held from.1.0 (at ∙ sym from.1.1) in
+      let same : row ≡ first = one_row is.rows row first (apart_of is) ((rows_left row).0 held).0 from.1.0 (at ∙ sym from.1.1) in
       let spells = subst (λ (r : DirectoryRow). SpellsDataset stored root.birth is.objects r volume) same (spelled row volume (names_then is.datasets is.readings group row volume named)).0 in
       subst (λ (n : ℕ). IsArrayWith volume.bytes n head.blocks.items (after_writes volume writes).bytes) spells.is.block_size
       ((from.2 volume spells).1 (volume_of_head volume.kind (is.datasets.datasets row.object).kind named.kind (subst (IsHead is.datasets.datasets) (sym at) heads)))
@@ -185,25 +197,27 @@ module _ (stored : Contents) (birth : ℕ) (root : Block) (plain : PlainPool) (i
       omega (arith, made, past, same, later)
 
   pub written_are : (heads : List WrittenHead) (objects : List ℕ) → numbers_of heads ≡ objects → IsStrictlyIncreasing objects
-      → ((object : ℕ) → Contains objects object ↔ IsWritten is.rows writes object) → All IsFrom heads → AreWritten stored root.birth now is.readings is.rows writes heads
+      → ((object : ℕ) → Contains objects object ↔ IsFor object) → All IsFrom heads → AreWritten stored root.birth now is.readings left writes heads
   written_are heads objects numbers once which from =
       let each : (head : WrittenHead) → Contains heads head → IsFrom head = λ head held. All-contains IsFrom heads head from held in
-      let is_one : (head : WrittenHead) → Contains heads head → IsHead is.datasets.datasets head.number =
-      λ head held. is_head head.number ((which head.number).0 (subst (λ (ns : List ℕ). Contains ns head.number) numbers (mapped_in (λ (h : WrittenHead). h.number) heads head held))) in
+      let wrote : (head : WrittenHead) → Contains heads head → IsFor head.number =
+      λ head held. (which head.number).0 (subst (λ (ns : List ℕ). Contains ns head.number) numbers (mapped_in (λ (h : WrittenHead). h.number) heads head held)) in
+      let is_one : (head : WrittenHead) → Contains heads head → IsHead is.datasets.datasets head.number = λ head held. is_head head.number (wrote head held) in
       record {
         once = subst IsStrictlyIncreasing (sym numbers) once;
-        named = all_from (λ (head : WrittenHead). (row : DirectoryRow) × Contains is.rows row × (row.object ≡ head.number)) heads (λ head held.
-            let it = each head held in (it.0, it.1.0, it.1.1));
+        named = all_from (λ (head : WrittenHead). (row : DirectoryRow) × Contains left row × (row.object ≡ head.number)) heads (λ head held. is_left head.number (wrote head held));
         read = all_from (IsHeadRead stored root.birth now is.readings) heads (λ head held. head_read head (each head held));
         are = all_from (λ (head : WrittenHead). IsHead now.datasets head.number) heads is_one;
         writable = all_from (λ (head : WrittenHead). IsWritable now head.number) heads (λ head held. writable head.number);
-        after = all_from (IsAfterWrites now is.readings is.rows writes) heads (λ head held. after head (each head held) (is_one head held));
+        after = all_from (IsAfterWrites now is.readings left writes) heads (λ head held. after head (each head held) (is_one head held));
         all = λ row volume held named wrote.
+            let there = (rows_left row).0 held in
+            let by_name = subst (IsNamed row.name) (sym wrote.1.2) named.name in
             subst (λ (ns : List ℕ). Contains ns row.object) (sym numbers)
             ((which row.object).1
-            (any_of (λ (w : Write). (is_snapshot_name w.volume ≡ false) × IsRowOf is.rows w.volume row.object) writes wrote.1.0 wrote.1.1 (
+            (any_of (λ (w : Write). (is_snapshot_name w.volume ≡ false) × ((¬ Contains destroyed w.volume) × IsRowOf is.rows w.volume row.object)) writes wrote.1.0 wrote.1.1 (
               ap is_snapshot_name wrote.1.2 ∙ volumes_name volume.kind volume.name named.good wrote.0,
-              (row, held, subst (IsNamed row.name) (sym wrote.1.2) named.name, refl),
+              (λ gone. there.1 wrote.1.0.volume gone by_name, (row, there.0, by_name, refl)),
             )));
       }
 

@@ -1,5 +1,5 @@
 -- What a group makes of the records, the dead lists and the directory, as changes of objects.
-use Rattle.std.proofs.Common.{◌≡◌, ◌≢◌, ◌⊎◌, inl, inr, ℕ, ◌<◌, ◌≤◌, List, ◌∷◌, Option, Some, None, All, refl, sym, ap, subst, ◌∙◌, arith}
+use Rattle.std.proofs.Common.{◌≡◌, ◌≢◌, ◌⊎◌, Bool, true, false, inl, inr, ℕ, ◌<◌, ◌≤◌, List, ◌∷◌, Option, Some, None, All, refl, sym, ap, subst, ◌∙◌, arith}
 use Rattle.std.proofs.lemmas.Bool.{cases_eq}
 use Rattle.std.proofs.lemmas.List.Elements.{All-cons, All-contains, All-weaker}
 use Rattle.block_pointer.specs.declared.block.Block.{Block}
@@ -16,6 +16,7 @@ use Rattle.dataset_changes.specs.declared.states.ListState.TheVariants as lists
 use Rattle.dataset_changes.specs.declared.states.RecordState.{RecordState}
 use Rattle.dataset_changes.specs.declared.states.RecordState.TheVariants as records
 use Rattle.dataset_groups.specs.declared.datasets.GroupDatasets.{GroupDatasets}
+use Rattle.dataset_groups.specs.Destroys.{all_destroyed}
 use Rattle.dataset_groups.specs.Groups.{SpellsGroup}
 use Rattle.dataset_groups.specs.Names.{reach_by}
 use Rattle.dataset_groups.specs.Writing.{AreWritten}
@@ -55,16 +56,16 @@ objects_still stored old new objects own blocks one are =
     subst (λ (n : ℕ). AreObjects stored n (set_of new) objects own blocks) (sym one.1) (subst (λ (set : ObjectSet). AreObjects stored (birth_of old) set objects own blocks) (sym one.0) are)
 
 -- a group that is opened begins with these datasets, and writes to these heads
-pub begun : (stored planned : Contents) (birth group : ℕ) (root : Block) (plain : PlainPool) (is : SpellsPool stored birth root plain) (writes : List Write) (opened : Opened) → Extends stored planned
-    → root.birth < group → IsOpened writes opened → IsOpenedFrom stored birth root plain is writes opened
+pub begun : (stored planned : Contents) (birth group : ℕ) (root : Block) (plain : PlainPool) (is : SpellsPool stored birth root plain) (destroyed : List (List ℕ)) (writes : List Write) (opened : Opened)
+    → Extends stored planned → IsOpened writes opened → (from : IsOpenedFrom stored group birth root plain is destroyed writes opened)
     → AreObjects stored (birth_of opened.datasets.changes) (set_of opened.datasets.changes) is.objects is.own is.blocks
-    × SpellsGroup planned group is.objects opened.datasets (record is.datasets { group = group }) is.readings plain
-    × AreWritten stored root.birth (record is.datasets { group = group }) is.readings opened.datasets.directory writes opened.written.items
-begun stored planned birth group root plain is writes opened more lt opens from = (
+    × SpellsGroup planned group is.objects opened.datasets from.datasets is.readings (all_destroyed destroyed plain)
+    × AreWritten stored root.birth from.datasets is.readings opened.datasets.directory writes opened.written.items
+begun stored planned birth group root plain is destroyed writes opened more opens from = (
   subst (λ (n : ℕ). AreObjects stored n (set_of opened.datasets.changes) is.objects is.own is.blocks) (sym from.born)
       (subst (λ (set : ObjectSet). AreObjects stored root.birth set is.objects is.own is.blocks) (sym (opens.of_set ∙ from.set)) is.are),
-  group_stays stored planned group is.objects opened.datasets (record is.datasets { group = group }) is.readings plain more (from.begins group (omega (arith, lt))),
-  subst (λ (rows : List DirectoryRow). AreWritten stored root.birth (record is.datasets { group = group }) is.readings rows writes opened.written.items) (sym from.directory) (from.written group lt),
+  group_stays stored planned group is.objects opened.datasets from.datasets is.readings (all_destroyed destroyed plain) more from.begins,
+  from.written,
 )
 
 -- ---- of which objects they are
@@ -177,13 +178,12 @@ module _ (known : Contents) (group : ℕ) (objects : ℕ → Option Object) (row
             (are_of_datasets objects datasets.changes made are spells.chains.over),
       )
 
-pub left_by : (known : Contents) (group : ℕ) (objects : ℕ → Option Object) (rows : List DirectoryRow) (datasets : GroupDatasets) (pool : Pool) (readings : ℕ → Reading) (plain : PlainPool) (first : ℕ)
-    (changes : List ObjectChange) → HasDirectory (objects 1) rows → SpellsGroup known group objects datasets pool readings plain → (datasets.next ≡ first → datasets.directory ≡ rows)
-    → HasDatasetChanges datasets first changes → IsLeft known group objects datasets pool plain changes
-left_by known group objects rows datasets pool readings plain first changes directory spells same (made, are, alone, behind) = elim (cases_eq datasets.next first) [
-  | inl e ↦ subst (IsLeft known group objects datasets pool plain) (sym (alone e)) (left_alone known group objects rows datasets pool readings plain directory spells made are (same e))
-  | inr ne ↦
-      let with_first = behind ne in
-      subst (IsLeft known group objects datasets pool plain) (sym with_first.2)
-      (left_behind known group objects rows datasets pool readings plain directory spells made are with_first.0 with_first.1)
-]
+pub left_by : (known : Contents) (group : ℕ) (objects : ℕ → Option Object) (rows : List DirectoryRow) (datasets : GroupDatasets) (pool : Pool) (readings : ℕ → Reading) (plain : PlainPool) (renamed : Bool)
+    (changes : List ObjectChange) → HasDirectory (objects 1) rows → SpellsGroup known group objects datasets pool readings plain → (renamed ≡ false → datasets.directory ≡ rows)
+    → HasDatasetChanges datasets renamed changes → IsLeft known group objects datasets pool plain changes
+left_by known group objects rows datasets pool readings plain false changes directory spells same (made, are, alone, behind) =
+    subst (IsLeft known group objects datasets pool plain) (sym (alone refl)) (left_alone known group objects rows datasets pool readings plain directory spells made are (same refl))
+left_by known group objects rows datasets pool readings plain true changes directory spells same (made, are, alone, behind) =
+    let with_first = behind refl in
+    subst (IsLeft known group objects datasets pool plain) (sym with_first.2)
+    (left_behind known group objects rows datasets pool readings plain directory spells made are with_first.0 with_first.1)

@@ -1,5 +1,7 @@
 -- Which records and dead lists a group changed, and what its volumes ask.
-use Rattle.std.proofs.Common.{◌≡◌, ◌⊎◌, inl, inr, ℕ, ◌+◌, ◌*◌, List, [], ◌∷◌, length, refl, sym, ap, subst, ◌∙◌, arith}
+use Rattle.std.proofs.Common.{◌≡◌, ◌⊎◌, Bool, true, false, true≢false, inl, inr, ℕ, ◌+◌, ◌*◌, List, [], ◌∷◌, length, refl, sym, ap, subst, ◌∙◌, arith}
+use Rattle.std.specs.Prelude.{not, ◌==◌}
+use Rattle.std.proofs.lemmas.Bool.{eq-eqb, ne_eqb}
 use Rattle.block_store.proofs.Demands.{have_both}
 use Rattle.block_store.specs.Demands.{Demand}
 use Rattle.block_store.specs.declared.refusal.Refusal.{Refusal}
@@ -20,29 +22,46 @@ use Rattle.pool_model.specs.declared.item.Change.{Change}
 use Rattle.pool_model.specs.declared.item.Change.TheVariants.{Clone, Create, Snapshot}
 use Rattle.volume.specs.Demands.{empty_set}
 use Rattle.dataset_snapshots.specs.declared.groups.Opened.{Opened}
-use Rattle.dataset_snapshots.specs.Demands.{AreGroupChanges, AreGroupDatasets, AreMisnumbered, AreVolumesRefused, HasDatasetChanges, HasVolumePlaces}
+use Rattle.dataset_snapshots.specs.Demands.{AreDirectoryChanges, are_renamed, AreGroupChanges, AreGroupDatasets, AreMisnumbered, AreVolumesRefused, HasDatasetChanges, HasVolumePlaces}
 use Rattle.dataset_snapshots.specs.Groups.{objects_of}
 use Rattle.dataset_snapshots.proofs.Asking.{set_demands_in}
 
 -- ---- the changes
 
-pub group_changes : (opened : Opened) (datasets : GroupDatasets) (first : ℕ) (made : List Action) (changes : List ObjectChange) → AreGroupDatasets opened made datasets.changes
-    → datasets.next ≡ first + 2 * length made → length datasets.directory ≡ length opened.datasets.directory + length made → HasDatasetChanges datasets first changes
+-- where names go they do whatever is made
+pub renamed_then : (gone : Bool) (made : List Action) → gone ≡ true → are_renamed gone made ≡ true
+renamed_then gone [] is = is
+renamed_then gone (action ∷ made) is = refl
+
+-- where none go, and none is made, none come
+pub not_renamed : (gone : Bool) (made : List Action) → are_renamed gone made ≡ false → (gone ≡ false) × (made ≡ [])
+not_renamed gone [] is = (is, refl)
+not_renamed gone (action ∷ made) is = absurd (true≢false is)
+
+-- where none go they come with the numbers
+pub renamed_so : (gone : Bool) (made : List Action) (next first : ℕ) → gone ≡ false → next ≡ first + 2 * length made → not (next == first) ≡ are_renamed gone made
+renamed_so gone [] next first none is = ap not (eq-eqb next first (omega (arith, is))) ∙ sym none
+renamed_so gone (action ∷ made) next first none is = ap not (ne_eqb next first (λ same. omega (arith, is, same)))
+
+pub group_changes : (opened : Opened) (datasets : GroupDatasets) (renamed : Bool) (made : List Action) (changes : List ObjectChange) → AreGroupDatasets opened made datasets.changes
+    → length datasets.directory ≡ length opened.datasets.directory + length made → renamed ≡ are_renamed opened.renamed made → HasDatasetChanges datasets renamed changes
     → AreGroupChanges opened made changes
-group_changes opened datasets first [] changes are next rows (of, of_are, alone, behind) = record {
+group_changes opened datasets false made changes are rows is (of, of_are, alone, behind) = record {
   of_directory = [];
-  directory_are = refl;
+  directory_are = subst (λ (renamed : Bool). AreDirectoryChanges renamed (length opened.datasets.directory + length made) []) is refl;
   datasets = datasets.changes;
   datasets_are = are;
   of_datasets = of;
   of_datasets_are = of_are;
-  are = alone (omega (arith, next));
+  are = alone refl;
 }
-group_changes opened datasets first (action ∷ made) changes are next rows (of, of_are, alone, behind) =
-    let with_first = behind (λ same. omega (arith, next, same)) in
+group_changes opened datasets true made changes are rows is (of, of_are, alone, behind) =
+    let with_first = behind refl in
+    let first : List ObjectChange = record { number = 1; change = with_first.0 } ∷ [] in
     record {
-      of_directory = record { number = 1; change = with_first.0 } ∷ [];
-      directory_are = (with_first.0, (datasets.directory, rows, with_first.1), refl);
+      of_directory = first;
+      directory_are = subst (λ (renamed : Bool). AreDirectoryChanges renamed (length opened.datasets.directory + length made) first) is
+          (with_first.0, (datasets.directory, rows, with_first.1), refl);
       datasets = datasets.changes;
       datasets_are = are;
       of_datasets = of;
@@ -50,15 +69,11 @@ group_changes opened datasets first (action ∷ made) changes are next rows (of,
       are = with_first.2;
     }
 
--- where no number was given none was made
-none_made : {X : Type 0} (made : List X) (next first : ℕ) → next ≡ first + 2 * length made → next ≡ first → made ≡ []
-none_made [] next first is same = refl
-none_made (x ∷ made) next first is same = absurd (omega (arith, is, same))
-
-pub idle_rows : (before after : Store) (group : ℕ) (mid new : GroupDatasets) (actions : List Action) (first : ℕ) (rows : List DirectoryRow) → mid.next ≡ first → mid.directory ≡ rows
-    → MakesAll before after group mid new actions → new.next ≡ first → new.directory ≡ rows
-idle_rows before after group mid new actions first rows next is makes same =
-    ap (λ (d : GroupDatasets). d.directory) (makes.idle (none_made makes.made new.next mid.next makes.names.next (same ∙ sym next))) ∙ is
+-- then the rows are the same
+pub idle_rows : (before after : Store) (group : ℕ) (mid new : GroupDatasets) (actions : List Action) (gone renamed : Bool) (rows : List DirectoryRow) → (gone ≡ false → mid.directory ≡ rows)
+    → (makes : MakesAll before after group mid new actions) → renamed ≡ are_renamed gone makes.made → renamed ≡ false → new.directory ≡ rows
+idle_rows before after group mid new actions gone renamed rows same makes is none =
+    let both = not_renamed gone makes.made (sym is ∙ none) in ap (λ (d : GroupDatasets). d.directory) (makes.idle both.1) ∙ same both.0
 
 -- ---- what the volumes ask, and why they are refused
 
@@ -125,16 +140,16 @@ module _ (old mid new : Store) (group : ℕ) (opened : Opened) (actions : List A
           mis = subst (AreMisnumbered last.changes) last_next mis;
         })))
 
-    pub volumes_have : (changes : List ObjectChange) (next : ℕ) → next ≡ last.next → shapes_of mid.spaces ≡ shapes_of old.spaces → HasDatasetChanges last (first_number opened.set) changes
-        → HasVolumePlaces old new group opened actions changes next
-    volumes_have changes next is same changes_are =
+    pub volumes_have : (changes : List ObjectChange) (next : ℕ) (renamed : Bool) → next ≡ last.next → shapes_of mid.spaces ≡ shapes_of old.spaces
+        → renamed ≡ are_renamed opened.renamed makes.made → HasDatasetChanges last renamed changes → HasVolumePlaces old new group opened actions changes next
+    volumes_have changes next renamed is same renamed_is changes_are =
         let asked = makes.places in
         record {
           made = makes.made;
           made_are = made_are;
           next_is = is ∙ last_next;
-          changes_are = group_changes opened last (first_number opened.set) makes.made changes datasets_are last_next
-              (makes.names.rows ∙ ap (λ (rows : List DirectoryRow). length rows + length makes.made) rows_are) changes_are;
+          changes_are = group_changes opened last renamed makes.made changes datasets_are
+              (makes.names.rows ∙ ap (λ (rows : List DirectoryRow). length rows + length makes.made) rows_are) renamed_is changes_are;
           of_written = places.0;
           written_ask = places.1;
           of_made = asked.0;

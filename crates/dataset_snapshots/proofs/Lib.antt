@@ -2,13 +2,17 @@ pub mod Asking
 pub mod BelowNext
 pub mod BlocksOnce
 pub mod Chained
+pub mod ChainCounts
+pub mod ChainIndexes
 pub mod ChainWalks
 pub mod ChangedRows
 pub mod Copied
 pub mod Datasets
 pub mod Exchanges
+pub mod FewBlocks
 pub mod FirstMaps
 pub mod FirstRoots
+pub mod FittingRecords
 pub mod FoundRanges
 pub mod GoodNames
 pub mod GroupDemands
@@ -16,6 +20,7 @@ pub mod GroupReach
 pub mod GroupRoot
 pub mod GroupsBegun
 pub mod GroupsLeft
+pub mod GroupsOpened
 pub mod GroupsTouched
 pub mod HeadsRead
 pub mod Holding
@@ -31,6 +36,7 @@ pub mod NamedRows
 pub mod NextMaps
 pub mod Numbered
 pub mod OpenedRoots
+pub mod Origins
 pub mod OtherObjects
 pub mod Pushing
 pub mod Reaching

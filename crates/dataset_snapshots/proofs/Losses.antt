@@ -7,6 +7,9 @@ use Rattle.block_store.specs.declared.refusal.Refusal.TheVariants.{DiskFault}
 use Rattle.block_store.specs.Losses.{IsBlockLost}
 use Rattle.block_store.specs.Store.{Store}
 use Rattle.dataset_changes.specs.declared.changes.DatasetChanges.{DatasetChanges}
+use Rattle.dataset_destroys.specs.Laws.{LossesOfDestroys}
+use Rattle.dataset_groups.specs.declared.datasets.GroupDatasets.{GroupDatasets}
+use Rattle.dataset_groups.specs.Destroys.{AreDestroysRefused}
 use Rattle.dataset_groups.specs.Demands.{IsActionRefused, IsMakingRefused, IsUnmade}
 use Rattle.dnode.specs.declared.object_set.ObjectSet.{ObjectSet}
 use Rattle.dnode_slots.proofs.Losses.{set_lost}
@@ -29,7 +32,7 @@ use Rattle.dataset_snapshots.specs.Demands.{AreMappedRefused, AreVolumesRefused,
 use Rattle.dataset_snapshots.specs.Finding.{IsDirectoryRefused, IsMetaRefused, IsRefusedIn}
 use Rattle.dataset_snapshots.specs.FirstGroup.{empty_meta}
 use Rattle.dataset_snapshots.specs.Laws.{LossesByRows, LossesOfDatasets, LossesOfFirstGroups, LossesOfGroups, LossesOfRanges}
-use Rattle.dataset_snapshots.specs.Opening.{IsGroupUnread, IsWrittenRefused}
+use Rattle.dataset_snapshots.specs.Opening.{IsGroupUnread, IsVolumeUnread, IsWrittenRefused, most_blocks}
 use Rattle.dataset_snapshots.specs.Ranges.{IsRangeRefusedIn}
 use Rattle.dataset_snapshots.proofs.LostHeads.{chain_lost, head_lost}
 use Rattle.dataset_snapshots.proofs.LostMaps.{some_map_lost}
@@ -59,13 +62,25 @@ blocks_lost old new set birth writes row refusal (inr (inr (inl of_record))) is 
 blocks_lost old new set birth writes row refusal (inr (inr (inr unread))) is =
     lost_behind_reads old unread.mid new [] unread.before (read_lost unread.mid new [] unread.volume birth _ refusal unread.why.2 is)
 
-unread_lost : (old new : Store) (birth : ℕ) (root : Block) (rows : List DirectoryRow) (writes : List Write) (refusal : Refusal) → IsGroupUnread old new birth root rows writes refusal
-    → refusal ≡ DiskFault → IsBlockLost old new []
-unread_lost old new birth root rows writes refusal (inl refused) is = meta_lost old new [] birth root refusal refused is
-unread_lost old new birth root rows writes refusal (inr volume) is =
+volume_lost : (old new : Store) (birth : ℕ) (root : Block) (rows : List DirectoryRow) (destroyed : List (List ℕ)) (writes : List Write) (refusal : Refusal)
+    → IsVolumeUnread old new birth root rows destroyed writes refusal → refusal ≡ DiskFault → IsBlockLost old new []
+volume_lost old new birth root rows destroyed writes refusal volume is =
     let one = volume.why in
     lost_behind_reads old volume.mid new [] volume.before
     (lost_behind_reads volume.mid one.mid new [] one.before (blocks_lost one.mid new volume.set root.birth writes one.row refusal one.why is))
+
+names_lost : (old new : Store) (datasets : GroupDatasets) (group most : ℕ) (names : List (List ℕ)) (refusal : Refusal) → LossesOfDestroys → AreDestroysRefused old new datasets group most names refusal
+    → refusal ≡ DiskFault → IsBlockLost old new []
+names_lost old new datasets group most names refusal lost (inl memory) is = absurd (cc)
+names_lost old new datasets group most names refusal lost (inr one) is =
+    lost_behind_reads old one.store new [] one.reads (lost one.store new one.mid.changes one.last one.row.object group most one.left refusal one.why is)
+
+unread_lost : (old new : Store) (root : Block) (rows : List DirectoryRow) (group : ℕ) (destroyed : List (List ℕ)) (writes : List Write) (refusal : Refusal) → LossesOfDestroys
+    → IsGroupUnread old new root rows group destroyed writes refusal → refusal ≡ DiskFault → IsBlockLost old new []
+unread_lost old new root rows group destroyed writes refusal lost (inl refused) is = meta_lost old new [] _ root refusal refused is
+unread_lost old new root rows group destroyed writes refusal lost (inr (inl volume)) is = volume_lost old new _ root rows destroyed writes refusal volume is
+unread_lost old new root rows group destroyed writes refusal lost (inr (inr names)) is =
+    lost_behind_reads old names.mid new [] names.before (names_lost names.mid new names.begun group most_blocks destroyed refusal lost names.why is)
 
 unmade_lost : (old new : Store) (changes : DatasetChanges) (group : ℕ) (rows : List DirectoryRow) (next : ℕ) (change : Change) (refusal : Refusal)
     → IsUnmade old new changes group rows next change refusal → refusal ≡ DiskFault → IsBlockLost old new []
@@ -117,10 +132,10 @@ mapped_lost old new born group opened actions refusal (inl volumes) is = volumes
 mapped_lost old new born group opened actions refusal (inr maps) is =
     lost_later old maps.mid new [] maps.before (maps_lost maps.mid new opened.set born maps.gone maps.changes maps.next refusal maps.why is)
 
-pub losses_of_groups : LossesOfGroups
-losses_of_groups old new root rows group items refusal (inl memory) is = absurd (cc)
-losses_of_groups old new root rows group items refusal (inr (inl unread)) is = unread_lost old new _ root rows items.writes refusal unread is
-losses_of_groups old new root rows group items refusal (inr (inr unplanned)) is =
+pub losses_of_groups : LossesOfDestroys → LossesOfGroups
+losses_of_groups lost old new root rows group destroyed items refusal (inl memory) is = absurd (cc)
+losses_of_groups lost old new root rows group destroyed items refusal (inr (inl unread)) is = unread_lost old new root rows group destroyed items.writes refusal lost unread is
+losses_of_groups lost old new root rows group destroyed items refusal (inr (inr unplanned)) is =
     lost_behind_reads old unplanned.mid new [] unplanned.before (elim unplanned.why [
       | inl mapped ↦ mapped_lost unplanned.mid new root.birth group unplanned.opened items.actions refusal mapped is
       | inr changes ↦ lost_later unplanned.mid changes.mid new [] changes.before (root_lost changes.mid new unplanned.opened.set root.birth group changes.all refusal changes.why is)

@@ -1,5 +1,5 @@
 -- The names of rows, known one after the other.
-use Rattle.std.proofs.Common.{◌≡◌, ◌≢◌, ℕ, zero, suc, ◌+◌, ◌<◌, List, [], ◌∷◌, ◌++◌, length, take, get_or, Bool, true, false, Option, Some, None, AllPairs, inl, inr, refl, sym, ap, ◌∙◌, subst, arith}
+use Rattle.std.proofs.Common.{◌≡◌, ◌≢◌, ℕ, zero, suc, ◌+◌, ◌<◌, List, [], ◌∷◌, ◌++◌, length, map, take, get_or, Bool, true, false, Option, Some, None, AllPairs, inl, inr, refl, sym, ap, ◌∙◌, subst, arith}
 use Rattle.std.specs.Prelude.{cond, min, replicate, All}
 use Rattle.std.specs.List.{AllZip}
 use Rattle.std.specs.Option.{option_map}
@@ -13,27 +13,31 @@ use Rattle.block_store.specs.declared.refusal.Refusal.TheVariants.{NoSpace}
 use Rattle.block_store.specs.Spaces.{VdevSpace}
 use Rattle.block_store.specs.Steps.{OnlyReadsBlocks}
 use Rattle.block_store.specs.Store.{Store}
+use Rattle.dataset_groups.specs.Names.{objects_of_rows}
 use Rattle.dnode.specs.declared.object_set.ObjectSet.{ObjectSet}
 use Rattle.dnode_tree.specs.ReadRefusals.{IsForRead}
 use Rattle.meta_objset.proofs.Edits.{apart, pairs_head, pairs_tail}
 use Rattle.meta_objset.specs.declared.directory.DirectoryRow.{DirectoryRow}
-use Rattle.meta_objset.specs.declared.record.DatasetKind.{DatasetKind}
 use Rattle.meta_objset.specs.declared.record.DatasetRecord.{DatasetRecord}
+use Rattle.meta_objset.specs.Datasets.{HasRecord}
+use Rattle.meta_objset.specs.Found.{IsRecordFound}
 use Rattle.meta_objset.specs.Names.{IsBefore, IsName, IsNamed}
 use Rattle.object_table.proofs.Tables.{spaces_stay}
 use Rattle.objset.specs.Objects.{Object}
 use Rattle.pool_model.proofs.Places.{same_is, volume_more}
 use Rattle.pool_model.specs.declared.volume.PlainVolume.{PlainVolume}
-use Rattle.pool_model.specs.declared.volume.VolumeKind.{VolumeKind}
 use Rattle.pool_model.specs.Names.{same}
 use Rattle.pool_model.specs.Pools.{PlainPool, volume_at, with_volume}
 use Rattle.volume_rules.specs.declared.index.NameIndex.{NameIndex}
 use Rattle.volume_rules.specs.declared.shape.VolumeShape.{VolumeShape}
 use Rattle.volume_rules.specs.Index.{Knows}
 use Rattle.volume_rules.specs.Shapes.{shape_of}
-use Rattle.dataset_snapshots.specs.Contents.{AreVolumesNamed, IsVolumeNamed, IsVolumeShapeFound}
-use Rattle.dataset_snapshots.specs.Pools.{IsRecordKind, IsRecordOf, SpellsDataset}
+use Rattle.dataset_snapshots.specs.declared.chaining.RowRecord.{RowRecord}
+use Rattle.dataset_snapshots.specs.Contents.{AreVolumesNamed, IsRowRecord, IsShapeIn, IsVolumeNamed}
+use Rattle.dataset_snapshots.specs.Pools.{IsRecordOf, SpellsDataset}
 use Rattle.dataset_snapshots.proofs.Chained.{one_kind}
+use Rattle.dataset_snapshots.proofs.ChainIndexes.{object_of}
+use Rattle.dataset_snapshots.proofs.Pushing.{all_more}
 use Rattle.dataset_snapshots.proofs.Rows.{at, padded_same}
 
 abbrev Before : DirectoryRow → DirectoryRow → Type 0
@@ -97,14 +101,12 @@ knows_next names volumes k volume more known =
 shapes_same : (shape other : VolumeShape) → shape.size ≡ other.size → shape.block_size ≡ other.block_size → shape.group ≡ other.group → shape.kind ≡ other.kind → shape ≡ other
 shapes_same shape other size block_size group kind = λ i. record { size = size i; block_size = block_size i; group = group i; kind = kind i }
 
--- the record that was read has the volume's shape
-pub shape_is : (volume : PlainVolume) (r found : DatasetRecord) (kind : VolumeKind) → found ≡ r → IsRecordKind kind found.kind → IsRecordOf r volume
-    → shape_of volume ≡ record { size = found.size; block_size = found.block_size; group = found.created; kind = kind }
-shape_is volume r found kind same kind_is is =
-    let kinds = ap (λ (other : DatasetRecord). other.kind) same in
-    shapes_same (shape_of volume) (record { size = found.size; block_size = found.block_size; group = found.created; kind = kind })
-    (sym is.size ∙ ap (λ (other : DatasetRecord). other.size) (sym same)) (sym is.block_size ∙ ap (λ (other : DatasetRecord). other.block_size) (sym same))
-    (sym is.created ∙ ap (λ (other : DatasetRecord). other.created) (sym same)) (one_kind volume.kind kind r.kind is.kind (subst (λ (of : DatasetKind). IsRecordKind kind of) kinds kind_is))
+-- the record of a volume has its shape
+pub shape_is : (volume : PlainVolume) (r found : DatasetRecord) (shape : VolumeShape) → found ≡ r → IsShapeIn found shape → IsRecordOf r volume → shape_of volume ≡ shape
+shape_is volume r found shape same has is =
+    let here : IsShapeIn r shape = subst (λ (of : DatasetRecord). IsShapeIn of shape) same has in
+    shapes_same (shape_of volume) shape (sym is.size ∙ sym here.size) (sym is.block_size ∙ sym here.block_size) (sym is.created ∙ sym here.created)
+    (one_kind volume.kind shape.kind r.kind is.kind here.kind)
 
 -- ---- whatever the root is
 
@@ -129,17 +131,16 @@ module _ (spaces : List VdevSpace) (set : ObjectSet) (birth : ℕ) where
       (no_name rows volumes row name all.1 (All-tail (λ one. Before one row) first rows before) named)
 
   -- one row more
-  named_more : (rows : List DirectoryRow) (k : ℕ) (row other : DirectoryRow) (names after : NameIndex) (shape : VolumeShape) → AllPairs Before rows → k < length rows → row ≡ get_or rows k other
-      → IsName row.name → IsVolumeShapeFound spaces set birth row.object shape → AreVolumesNamed spaces set birth (take k rows) names
+  named_more : (rows : List DirectoryRow) (k : ℕ) (row other : DirectoryRow) (names after : NameIndex) (r : DatasetRecord) (shape : VolumeShape) → AllPairs Before rows → k < length rows → row ≡ get_or rows k other
+      → IsName row.name → IsRecordFound spaces set birth row.object r → IsShapeIn r shape → AreVolumesNamed spaces set birth (take k rows) names
       → ((pool : PlainPool) (volume : PlainVolume) → Knows names pool → IsNamed row.name volume.name → volume_at volume.name pool ≡ None → shape_of volume ≡ shape → Knows after (with_volume volume pool))
       → AreVolumesNamed spaces set birth (take (k + 1) rows) after
-  named_more rows k row other names after shape order low is named found (before, all, known) added =
-      let r = found.r in
+  named_more rows k row other names after r shape order low is named has found (before, all, known) added =
       let none : ℕ = 0 in
-      let volume : PlainVolume = record { name = named.0; bytes = replicate r.size none; block_size = r.block_size; group = r.created; kind = shape.kind } in
+      let volume : PlainVolume = record { name = named.0; bytes = replicate r.size none; block_size = r.block_size; group = r.created; kind = shape.kind; origin = None } in
       let size : length volume.bytes ≡ r.size = length-replicate r.size none in
       let record_is : IsRecordOf r volume = record { kind = found.kind; size = sym size; block_size = refl; created = refl } in
-      let is_named : IsVolumeNamed spaces set birth row volume = record { name = named.1; r = r; has = found.has; is = record_is } in
+      let is_named : IsVolumeNamed spaces set birth row volume = record { name = named.1; r = r; has = has; is = record_is } in
       let new : at volume.name before ≡ None = no_name (take k rows) before row volume.name all (before_row rows k row other order low is) named.1 in
       let same_shape : shape_of volume ≡ shape =
       shapes_same (shape_of volume) shape (size ∙ sym found.size) (sym found.block_size) (sym found.created) refl in
@@ -151,14 +152,44 @@ module _ (spaces : List VdevSpace) (set : ObjectSet) (birth : ℕ) where
       )
 
 -- behind reads
-pub named_next : (old mid : Store) (missing : List ℕ) (set : ObjectSet) (birth : ℕ) (rows : List DirectoryRow) (k : ℕ) (row other : DirectoryRow) (names after : NameIndex) (shape : VolumeShape)
-    → OnlyReadsBlocks old mid missing → AllPairs Before rows → k < length rows → IsVolumeShapeFound mid.spaces set birth row.object shape → row ≡ get_or rows k other → IsName row.name
+pub named_next : (old mid : Store) (missing : List ℕ) (set : ObjectSet) (birth : ℕ) (rows : List DirectoryRow) (k : ℕ) (row other : DirectoryRow) (names after : NameIndex) (r : DatasetRecord) (shape : VolumeShape)
+    → OnlyReadsBlocks old mid missing → AllPairs Before rows → k < length rows → IsRecordFound mid.spaces set birth row.object r → IsShapeIn r shape → row ≡ get_or rows k other → IsName row.name
     → AreVolumesNamed old.spaces set birth (take k rows) names
     → ((pool : PlainPool) (volume : PlainVolume) → Knows names pool → IsNamed row.name volume.name → volume_at volume.name pool ≡ None → shape_of volume ≡ shape → Knows after (with_volume volume pool))
     → AreVolumesNamed old.spaces set birth (take (k + 1) rows) after
-named_next old mid missing set birth rows k row other names after shape reads order low found is named before added =
-    named_more old.spaces set birth rows k row other names after shape order low is named
-    (subst (λ (spaces : List VdevSpace). IsVolumeShapeFound spaces set birth row.object shape) (spaces_stay old mid missing reads) found) before added
+named_next old mid missing set birth rows k row other names after r shape reads order low has found is named before added =
+    named_more old.spaces set birth rows k row other names after r shape order low is named
+    (subst (λ (spaces : List VdevSpace). IsRecordFound spaces set birth row.object r) (spaces_stay old mid missing reads) has) found before added
+
+-- the record of one row more
+pub records_next : (old mid : Store) (missing : List ℕ) (set : ObjectSet) (birth : ℕ) (rows : List DirectoryRow) (k : ℕ) (row other : DirectoryRow) (records now : List RowRecord) (r : DatasetRecord)
+    → OnlyReadsBlocks old mid missing → k < length rows → IsRecordFound mid.spaces set birth row.object r → row ≡ get_or rows k other → now ≡ records ++ record { object = row.object; «record» = r } ∷ []
+    → AllZip (IsRowRecord old.spaces set birth) (take k rows) records → AllZip (IsRowRecord old.spaces set birth) (take (k + 1) rows) now
+records_next old mid missing set birth rows k row other records now r reads low has is now_is before =
+    let one : RowRecord = record { object = row.object; «record» = r } in
+    let here : IsRowRecord old.spaces set birth row one = record {
+      object = refl;
+      has = subst (λ (spaces : List VdevSpace). IsRecordFound spaces set birth row.object r) (spaces_stay old mid missing reads) has;
+    } in
+    let taken : take k rows ++ row ∷ [] ≡ take (k + 1) rows = ap (λ (r : DirectoryRow). take k rows ++ r ∷ []) is ∙ sym (take_more rows k other low) in
+    subst (λ (them : List RowRecord). AllZip (IsRowRecord old.spaces set birth) (take (k + 1) rows) them) (sym now_is)
+    (subst (λ (rs : List DirectoryRow). AllZip (IsRowRecord old.spaces set birth) rs (records ++ one ∷ [])) taken
+    (all_zipped_more (IsRowRecord old.spaces set birth) (take k rows) records row one before here))
+
+-- their objects are those of the rows
+pub objects_read : (spaces : List VdevSpace) (set : ObjectSet) (birth : ℕ) (rows : List DirectoryRow) (records : List RowRecord) → AllZip (IsRowRecord spaces set birth) rows records
+    → map object_of records ≡ objects_of_rows rows
+objects_read spaces set birth [] [] all = refl
+objects_read spaces set birth (row ∷ rows) (one ∷ records) all = λ i. all.0.object i ∷ objects_read spaces set birth rows records all.1 i
+objects_read spaces set birth [] (one ∷ records) all = absurd all
+objects_read spaces set birth (row ∷ rows) [] all = absurd all
+
+-- and it is that of its object
+pub objects_next : (objects : ℕ → Option Object) (object : ℕ) (r found : DatasetRecord) (records now : List RowRecord) → now ≡ records ++ record { object = object; «record» = found } ∷ [] → found ≡ r
+    → HasRecord (objects object) r → All (λ (one : RowRecord). HasRecord (objects one.object) one.record) records → All (λ (one : RowRecord). HasRecord (objects one.object) one.record) now
+objects_next objects object r found records now now_is same has all =
+    all_more (λ (one : RowRecord). HasRecord (objects one.object) one.record) records now (record { object = object; «record» = found }) now_is all
+    (subst (λ (of : DatasetRecord). HasRecord (objects object) of) (sym same) has)
 
 -- ---- what a read is refused for
 

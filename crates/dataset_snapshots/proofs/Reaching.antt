@@ -80,7 +80,7 @@ set_known stored birth set objects own blocks block are held =
     ]
 
 -- so are those that some dataset reaches
-chains_known : (stored : Contents) (birth : ℕ) (objects : ℕ → Option Object) (pool : Pool) (readings : ℕ → Reading) (block : Block) → HasChains stored birth objects pool readings
+pub chains_known : (stored : Contents) (birth : ℕ) (objects : ℕ → Option Object) (pool : Pool) (readings : ℕ → Reading) (block : Block) → HasChains stored birth objects pool readings
     → IsDatasetBlock pool.datasets block → IsKnown stored block
 chains_known stored birth objects pool readings block chains (m, held) = elim (free_or_not (pool.datasets m).kind) [
   | inl free ↦

@@ -1,16 +1,18 @@
 -- A root spells one pool, and leads to one list of blocks.
 use Rattle.pool_maps.specs.Reached.{AreMapsFor}
 use Rattle.block_pointer.specs.Copies.{dvas}
-use Rattle.std.proofs.Common.{◌≡◌, ℕ, ◌%◌, List, [], ◌∷◌, ◌++◌, Option, inl, inr, refl, sym, ap, subst, ◌∙◌, All, length, ◌≢◌}
+use Rattle.std.proofs.Common.{◌≡◌, ℕ, ◌%◌, List, [], ◌∷◌, ◌++◌, Option, inl, inr, refl, sym, ap, subst, ◌∙◌, All, Contains, length, ◌≢◌}
 use Rattle.std.specs.List.{AllZip, flat_map}
 use Rattle.block_pointer.specs.declared.block.Block.{Block}
 use Rattle.block_store.specs.Opened.{AreBlocksApart}
 use Rattle.block_store.specs.Blocks.{Contents}
+use Rattle.dataset_chains.proofs.ReadRecords.{one_kind as one_kind_of}
 use Rattle.dataset_chains.specs.Chains.{Reading}
 use Rattle.dataset_chains.specs.Standing.{HasChains, StandsAt}
 use Rattle.dataset_groups.proofs.KnownBlocks.{free_or_not}
-use Rattle.dataset_groups.specs.Names.{objects_of_rows, reach_by}
-use Rattle.dead_list.specs.Datasets.{Dataset, Pool, group_before}
+use Rattle.dataset_groups.proofs.ListParts.{is_first, is_later}
+use Rattle.dataset_groups.specs.Names.{NamesPool, objects_of_rows, reach_by}
+use Rattle.dead_list.specs.Datasets.{Dataset, Free, Pool, Snapshot, group_before}
 use Rattle.dead_list.specs.Reach.{born_after, own_of}
 use Rattle.dnode.specs.declared.object_set.ObjectSet.{ObjectSet}
 use Rattle.dnode_slots.proofs.Readings.{set_block_once}
@@ -18,6 +20,7 @@ use Rattle.dnode_tree.specs.Rewriting.{AreDistinct}
 use Rattle.meta_objset.proofs.Readings.{directory_once, name_once, record_once}
 use Rattle.meta_objset.specs.declared.directory.DirectoryRow.{DirectoryRow}
 use Rattle.meta_objset.specs.declared.record.DatasetKind.{DatasetKind}
+use Rattle.meta_objset.specs.declared.record.DatasetKind.TheVariants as record_kinds
 use Rattle.meta_objset.specs.declared.record.DatasetRecord.{DatasetRecord}
 use Rattle.meta_objset.specs.Reading.{HasDirectory}
 use Rattle.objset.proofs.Readings.{objects_are_one}
@@ -32,6 +35,7 @@ use Rattle.dataset_snapshots.specs.Pools.{IsRecordKind, SpellsDataset}
 use Rattle.dataset_snapshots.specs.Reach.{reach_of, volume_blocks_of}
 use Rattle.dataset_snapshots.proofs.Chained.{one_kind, volumes_of}
 use Rattle.dataset_snapshots.proofs.KeptVolumes.{volume_blocks}
+use Rattle.dataset_snapshots.proofs.Origins.{BranchAlike, origin_once}
 
 -- ---- datasets
 
@@ -49,28 +53,34 @@ volume_once stored birth array other r s same whole one =
         let blocks = reads.3 in
         (reads.0, λ i. blocks_of_volume r.object_set (set i) (own i) (blocks i))
 
+-- volumes of one name have one origin
+abbrev HaveOneOrigin : List PlainVolume → List PlainVolume → Type 0
+HaveOneOrigin volumes others = (volume other : PlainVolume) → Contains volumes volume → Contains others other → volume.name ≡ other.name → volume.origin ≡ other.origin
+
 dataset_once : (stored : Contents) (birth : ℕ) (objects : ℕ → Option Object) (row : DirectoryRow) (volume other : PlainVolume) → SpellsDataset stored birth objects row volume
-    → SpellsDataset stored birth objects row other → volume ≡ other
-dataset_once stored birth objects row volume other one two =
+    → SpellsDataset stored birth objects row other → (volume.name ≡ other.name → volume.origin ≡ other.origin) → volume ≡ other
+dataset_once stored birth objects row volume other one two origins =
     let r = record_once (objects row.object) one.r two.r one.has two.has in
     let name = name_once row.name volume.name other.name one.name two.name in
+    let origin = origins name in
     let bytes = (volume_once stored birth volume.bytes other.bytes one.r two.r r one.has.spelled.0.record_is.whole one.bytes two.bytes).0 in
     let block_size : volume.block_size ≡ other.block_size = sym one.is.block_size ∙ ap (λ (r : DatasetRecord). r.block_size) r ∙ two.is.block_size in
     let group : volume.group ≡ other.group = sym one.is.created ∙ ap (λ (r : DatasetRecord). r.created) r ∙ two.is.created in
     let kinds = ap (λ (r : DatasetRecord). r.kind) r in
     let kind : volume.kind ≡ other.kind = one_kind volume.kind other.kind two.r.kind (subst (λ (of : DatasetKind). IsRecordKind volume.kind of) kinds one.is.kind) two.is.kind in
-    λ i. record { name = name i; bytes = bytes i; block_size = block_size i; group = group i; kind = kind i }
+    λ i. record { name = name i; bytes = bytes i; block_size = block_size i; group = group i; kind = kind i; origin = origin i }
 
 datasets_once : (stored : Contents) (birth : ℕ) (objects : ℕ → Option Object) (rows : List DirectoryRow) (volumes others : List PlainVolume)
-    → AllZip (SpellsDataset stored birth objects) rows volumes → AllZip (SpellsDataset stored birth objects) rows others → volumes ≡ others
-datasets_once stored birth objects [] [] [] one two = refl
-datasets_once stored birth objects [] [] (other ∷ others) one two = absurd two
-datasets_once stored birth objects [] (volume ∷ volumes) others one two = absurd one
-datasets_once stored birth objects (row ∷ rows) [] others one two = absurd one
-datasets_once stored birth objects (row ∷ rows) (volume ∷ volumes) [] one two = absurd two
-datasets_once stored birth objects (row ∷ rows) (volume ∷ volumes) (other ∷ others) one two =
-    let first = dataset_once stored birth objects row volume other one.0 two.0 in
-    let rest = datasets_once stored birth objects rows volumes others one.1 two.1 in
+    → AllZip (SpellsDataset stored birth objects) rows volumes → AllZip (SpellsDataset stored birth objects) rows others → HaveOneOrigin volumes others → volumes ≡ others
+datasets_once stored birth objects [] [] [] one two origins = refl
+datasets_once stored birth objects [] [] (other ∷ others) one two origins = absurd two
+datasets_once stored birth objects [] (volume ∷ volumes) others one two origins = absurd one
+datasets_once stored birth objects (row ∷ rows) [] others one two origins = absurd one
+datasets_once stored birth objects (row ∷ rows) (volume ∷ volumes) [] one two origins = absurd two
+datasets_once stored birth objects (row ∷ rows) (volume ∷ volumes) (other ∷ others) one two origins =
+    let first = dataset_once stored birth objects row volume other one.0 two.0 (origins volume other (is_first volume volumes) (is_first other others)) in
+    let rest = datasets_once stored birth objects rows volumes others one.1 two.1
+    (λ v o held there. origins v o (is_later volume v volumes held) (is_later other o others there)) in
     λ i. first i ∷ rest i
 
 -- ---- what datasets reach
@@ -115,6 +125,34 @@ module _ (stored : Contents) (birth : ℕ) (objects : ℕ → Option Object) (po
       let blocks = same.blocks in
       λ i. born_after (before i) (blocks i)
 
+  -- a snapshot has the same next to it
+  next_once : (m : ℕ) → (pool.datasets m).kind ≡ Snapshot → pool.next m ≡ other.next m
+  next_once m kind =
+      let this = one.each m (λ free. let wrong : Snapshot ≡ Free = sym kind ∙ free in cc) in
+      elim (free_or_not (other.datasets m).kind) [
+        | inl free ↦ absurd ((two.none m free).none this.r this.has)
+        | inr there ↦
+            let that = two.each m there in
+            let r = record_once (objects m) this.r that.r this.has that.has in
+            let is_snapshot : this.r.kind ≡ record_kinds.Snapshot = one_kind_of this.r.kind record_kinds.Snapshot (sym this.is.kind ∙ kind) in
+            this.is.next is_snapshot ∙ (ap (λ (of : DatasetRecord). of.next) r ∙ sym (that.is.next (sym (ap (λ (of : DatasetRecord). of.kind) r) ∙ is_snapshot)))
+      ]
+
+  -- the same branches off
+  branch_alike : BranchAlike pool other
+  branch_alike = record {
+    before = λ m. (alike m).before;
+    branches = λ m off.
+        let before = (alike m).before in
+        elim (one.sound.linked m) [
+          | inl none ↦ absurd (off.0 none)
+          | inr linked ↦ (
+            λ none. off.0 (before ∙ none),
+            λ next. off.1 (next_once (pool.datasets m).before linked.0 ∙ (ap other.next before ∙ next)),
+          )
+        ];
+  }
+
   -- they reach the same
   reach_once : (rows : List DirectoryRow) → reach_by pool rows ≡ reach_by other rows
   reach_once rows = λ i. flat_map (λ m. own_once m i) (objects_of_rows rows)
@@ -131,8 +169,13 @@ roots_spell_one_pool stored birth later root pool other one two =
     let rows = directory_once (two.objects 1) one.rows two.rows (subst (λ objects. HasDirectory (objects 1) one.rows) same.0 one.directory) two.directory in
     let spelled = subst (λ objects. AllZip (SpellsDataset stored root.birth objects) two.rows pool.volumes) same.0
     (subst (λ (list : List DirectoryRow). AllZip (SpellsDataset stored root.birth one.objects) list pool.volumes) rows (volumes_of one)) in
-    let volumes = datasets_once stored root.birth two.objects two.rows pool.volumes other.volumes spelled (volumes_of two) in
     let chains = subst (λ objects. HasChains stored root.birth objects one.datasets one.readings) same.0 one.chains in
+    let origins : HaveOneOrigin pool.volumes other.volumes =
+    origin_once one.datasets two.datasets one.readings two.readings two.rows pool other two.directory.0.order
+    (subst (λ (list : List DirectoryRow). NamesPool one.datasets one.readings list pool) rows one.names) two.names
+    (branch_alike stored root.birth two.objects one.datasets two.datasets one.readings two.readings chains two.chains)
+    (branch_alike stored root.birth two.objects two.datasets one.datasets two.readings one.readings two.chains chains) in
+    let volumes = datasets_once stored root.birth two.objects two.rows pool.volumes other.volumes spelled (volumes_of two) origins in
     let below : volume_blocks_of one ≡ volume_blocks_of two =
     reach_once stored root.birth two.objects one.datasets two.datasets one.readings two.readings chains two.chains one.rows ∙ ap (reach_by two.datasets) rows in
     let reach : reach_of one ≡ reach_of two = λ i. root ∷ blocks_of_set (set i) (own i) (blocks i) ++ below i in (

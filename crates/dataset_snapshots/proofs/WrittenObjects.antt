@@ -14,7 +14,7 @@ use Rattle.meta_objset.proofs.Edits.{apart, pairs_head, pairs_tail}
 use Rattle.pool_model.specs.declared.item.Write.{Write}
 use Rattle.pool_model.specs.Names.{is_snapshot_name}
 use Rattle.dataset_snapshots.specs.Finding.{HasNoRow, IsRowOf}
-use Rattle.dataset_snapshots.specs.Writing.{IsWritten}
+use Rattle.dataset_snapshots.specs.Writing.{IsWrittenBut}
 use Rattle.dataset_snapshots.proofs.ChangedRows.{first_or_later, nothing_in}
 use Rattle.dataset_snapshots.proofs.Rows.{padded_same}
 
@@ -42,48 +42,62 @@ one_object rows name object other order (row, held, named, is) (next, also, name
     let same : row ≡ next = one_name rows row next order held also (padded_same row.name next.name name name named named_too refl) in
     sym is ∙ (ap (λ (r : DirectoryRow). r.object) same ∙ is_too)
 
--- the write is to a name, and no snapshot's, that the directory has with this object
-abbrev IsTo : List DirectoryRow → ℕ → Write → Type 0
-IsTo rows object write = (is_snapshot_name write.volume ≡ false) × IsRowOf rows write.volume object
+-- the write is to a name, no snapshot's and none of these, that the directory has with this object
+abbrev IsTo : List DirectoryRow → List (List ℕ) → ℕ → Write → Type 0
+IsTo rows destroyed object write =
+    (is_snapshot_name write.volume ≡ false) × ((¬ Contains destroyed write.volume) × IsRowOf rows write.volume object)
 
-abbrev AreWritten : List DirectoryRow → List Write → List ℕ → Type 0
-AreWritten rows writes objects = (object : ℕ) → Contains objects object ↔ IsWritten rows writes object
+abbrev AreWritten : List DirectoryRow → List (List ℕ) → List Write → List ℕ → Type 0
+AreWritten rows destroyed writes objects = (object : ℕ) → Contains objects object ↔ IsWrittenBut rows destroyed writes object
 
-module _ (rows : List DirectoryRow) (writes : List Write) (i : ℕ) (write : Write) (lt : i < length writes) (is : write ≡ get_or writes i write) where
+module _ (rows : List DirectoryRow) (destroyed : List (List ℕ)) (writes : List Write) (i : ℕ) (write : Write) (lt : i < length writes) (is : write ≡ get_or writes i write) where
+  abbrev Before : List ℕ → Type 0
+  Before objects = AreWritten rows destroyed (take i writes) objects
+
+  abbrev After : List ℕ → Type 0
+  After objects = AreWritten rows destroyed (take (i + 1) writes) objects
+
+  abbrev Named : ℕ → Write → Type 0
+  Named object = IsTo rows destroyed object
+
   taken_more : take (i + 1) writes ≡ take i writes ++ write ∷ []
   taken_more = take_more writes i write lt ∙ ap (λ w. take i writes ++ w ∷ []) (sym is)
 
   -- one more name that the directory has
-  pub one_more : (objects new : List ℕ) (object : ℕ) → AllPairs (λ before later. IsBefore before.name later.name) rows → is_snapshot_name write.volume ≡ false → IsRowOf rows write.volume object
-      → new ≡ objects ++ object ∷ [] → AreWritten rows (take i writes) objects → AreWritten rows (take (i + 1) writes) new
-  one_more objects new object order volume row more so_far =
-      subst (λ ws. AreWritten rows ws new) (sym taken_more) (subst (AreWritten rows (take i writes ++ write ∷ [])) (sym more) (λ x. (
+  pub one_more : (objects new : List ℕ) (object : ℕ) → AllPairs (λ before later. IsBefore before.name later.name) rows → is_snapshot_name write.volume ≡ false
+      → ¬ Contains destroyed write.volume → IsRowOf rows write.volume object → new ≡ objects ++ object ∷ [] → Before objects → After new
+  one_more objects new object order volume other row more so_far =
+      subst (λ ws. AreWritten rows destroyed ws new) (sym taken_more) (subst (AreWritten rows destroyed (take i writes ++ write ∷ [])) (sym more) (λ x. (
         λ held.
-            ⊎_elim (λ old. any_append_left (IsTo rows x) (take i writes) write ((so_far x).0 old))
-            (λ same. Any-push (IsTo rows x) (take i writes) write (volume, subst (IsRowOf rows write.volume) same row))
+            ⊎_elim (λ old. any_append_left (Named x) (take i writes) write ((so_far x).0 old))
+            (λ same. Any-push (Named x) (take i writes) write (volume, (other, subst (IsRowOf rows write.volume) same row)))
             (Contains-push_cases objects object x held),
         λ any.
             ⊎_elim (λ old. Contains-append_left objects (object ∷ []) x ((so_far x).1 old))
-            (λ here. subst (Contains (objects ++ object ∷ [])) (one_object rows write.volume object x order row here.1) (Contains-push objects object))
-            (any_push_cases (IsTo rows x) (take i writes) write any),
+            (λ here. subst (Contains (objects ++ object ∷ [])) (one_object rows write.volume object x order row here.1.1) (Contains-push objects object))
+            (any_push_cases (Named x) (take i writes) write any),
       )))
 
   -- a write that is to no volume
-  none_more : (objects new : List ℕ) → ((object : ℕ) → ¬ IsTo rows object write) → new ≡ objects → AreWritten rows (take i writes) objects → AreWritten rows (take (i + 1) writes) new
-  none_more objects new none same so_far = subst (λ ws. AreWritten rows ws new) (sym taken_more) (subst (AreWritten rows (take i writes ++ write ∷ [])) (sym same) (λ x. (
-    λ held. any_append_left (IsTo rows x) (take i writes) write ((so_far x).0 held),
-    λ any. ⊎_elim (λ old. (so_far x).1 old) (λ here. absurd (none x here)) (any_push_cases (IsTo rows x) (take i writes) write any),
+  none_more : (objects new : List ℕ) → ((object : ℕ) → ¬ Named object write) → new ≡ objects → Before objects → After new
+  none_more objects new none same so_far = subst (λ ws. AreWritten rows destroyed ws new) (sym taken_more) (subst (AreWritten rows destroyed (take i writes ++ write ∷ [])) (sym same) (λ x. (
+    λ held. any_append_left (Named x) (take i writes) write ((so_far x).0 held),
+    λ any. ⊎_elim (λ old. (so_far x).1 old) (λ here. absurd (none x here)) (any_push_cases (Named x) (take i writes) write any),
   )))
 
   -- whose name the directory hasn't got
-  pub no_more : (objects new : List ℕ) → HasNoRow rows write.volume → new ≡ objects → AreWritten rows (take i writes) objects → AreWritten rows (take (i + 1) writes) new
+  pub no_more : (objects new : List ℕ) → HasNoRow rows write.volume → new ≡ objects → Before objects → After new
   no_more objects new none same so_far =
       none_more objects new
-      (λ object here. All-contains (λ (row : DirectoryRow). ¬ (row.name ≡ here.1.0.name)) rows here.1.0 (none here.1.0.name here.1.2) here.1.1 refl) same so_far
+      (λ object here. let row = here.1.1 in All-contains (λ (r : DirectoryRow). ¬ (r.name ≡ row.0.name)) rows row.0 (none row.0.name row.2) row.1 refl) same so_far
 
   -- or whose name is a snapshot's
-  pub skipped : (objects new : List ℕ) → is_snapshot_name write.volume ≡ true → new ≡ objects → AreWritten rows (take i writes) objects → AreWritten rows (take (i + 1) writes) new
+  pub skipped : (objects new : List ℕ) → is_snapshot_name write.volume ≡ true → new ≡ objects → Before objects → After new
   skipped objects new snapshot same so_far = none_more objects new (λ object here. true≢false (sym snapshot ∙ here.0)) same so_far
+
+  -- or is one of these
+  pub passed : (objects new : List ℕ) → Contains destroyed write.volume → new ≡ objects → Before objects → After new
+  passed objects new gone same so_far = none_more objects new (λ object here. here.1.0 gone) same so_far
 
 -- each once, in order
 pub sorted_once : (objects sorted once : List ℕ) (P : ℕ → Type 0) → IsPermutation objects sorted → once ≡ dedup nat_eq sorted → ((object : ℕ) → Contains objects object ↔ P object)

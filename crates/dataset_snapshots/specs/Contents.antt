@@ -4,7 +4,7 @@ use Rattle.std.specs.List.{AllZip}
 use Rattle.block_pointer.specs.declared.block.Block.{Block}
 use Rattle.block_store.specs.Blocks.{Contents}
 use Rattle.block_store.specs.declared.refusal.Refusal.{Refusal}
-use Rattle.block_store.specs.declared.refusal.Refusal.TheVariants.{NoMemory}
+use Rattle.block_store.specs.declared.refusal.Refusal.TheVariants.{BadPointer, NoMemory}
 use Rattle.block_store.specs.Spaces.{VdevSpace}
 use Rattle.block_store.specs.Steps.{OnlyReadsBlocks}
 use Rattle.block_store.specs.Store.{Store}
@@ -21,7 +21,9 @@ use Rattle.space_map_objects.specs.declared.refusal.Refusal.TheVariants.{NoMemor
 use Rattle.volume_rules.specs.declared.index.NameIndex.{NameIndex}
 use Rattle.volume_rules.specs.declared.shape.VolumeShape.{VolumeShape}
 use Rattle.volume_rules.specs.Index.{Knows}
+use Rattle.dataset_snapshots.specs.declared.chaining.RowRecord.{RowRecord}
 use Rattle.dataset_snapshots.specs.declared.contents.RootContents.{RootContents}
+use Rattle.dataset_snapshots.specs.Chaining.{AreChained}
 use Rattle.dataset_snapshots.specs.Finding.{AreRowsFound, IsDirectoryRefused, IsMetaFound, IsMetaRefused}
 use Rattle.dataset_snapshots.specs.Pools.{IsRecordKind, IsRecordOf, SpellsPool}
 use Rattle.dataset_snapshots.specs.Reach.{meta_blocks_of, IsMetaWalked, IsMetaWalkRefused}
@@ -38,11 +40,8 @@ pub record AreContentsOf (stored : Contents) (spaces : List VdevSpace) (birth : 
 
 -- ---- what was read, whether or not the root is whole
 
--- the dataset's record was read, and is that of a volume or snapshot of this shape
-pub record IsVolumeShapeFound (spaces : List VdevSpace) (set : ObjectSet) (birth object : ℕ) (shape : VolumeShape)
-    : Type 0 where
-  pub r : DatasetRecord
-  pub has : IsRecordFound spaces set birth object r
+-- the shape of the volume or snapshot of the record
+pub record IsShapeIn (r : DatasetRecord) (shape : VolumeShape) : Type 0 where
   pub kind : IsRecordKind shape.kind r.kind
   pub size : shape.size ≡ r.size
   pub block_size : shape.block_size ≡ r.block_size
@@ -63,12 +62,25 @@ AreVolumesNamed spaces set birth rows names =
     (volumes : List PlainVolume) × AllZip (IsVolumeNamed spaces set birth) rows volumes
     × Knows names (record { volumes = volumes })
 
--- the root was read, and then the record of each row
+-- the record of the row's object was read
+pub record IsRowRecord (spaces : List VdevSpace) (set : ObjectSet) (birth : ℕ) (row : DirectoryRow)
+    (one : RowRecord) : Type 0 where
+  pub object : one.object ≡ row.object
+  pub has : IsRecordFound spaces set birth row.object one.record
+
+-- the records of all rows were read, and fit one another
+abbrev pub AreChainsFound : List VdevSpace → ObjectSet → ℕ → List DirectoryRow → Type 0
+AreChainsFound spaces set birth rows =
+    (records : List RowRecord) × AllZip (IsRowRecord spaces set birth) rows records
+    × AreChained records
+
+-- the root was read, and then the record of each row; these fit one another
 pub record AreNamesFound (spaces : List VdevSpace) (birth : ℕ) (root : Block)
     (rows : List DirectoryRow) (names : NameIndex) : Type 0 where
   pub set : ObjectSet
   pub meta : IsMetaFound spaces birth root set
   pub volumes : AreVolumesNamed spaces set root.birth rows names
+  pub chains : AreChainsFound spaces set root.birth rows
 
 -- the directory was read, the names of its rows, then the blocks of the root and its set, by so many
 -- reads of these, and then the set's space maps
@@ -94,7 +106,15 @@ pub record IsRowUnnamed (old new : Store) (missing : List ℕ) (set : ObjectSet)
   pub reads : OnlyReadsBlocks old mid missing
   pub why : IsRecordRefused mid new missing set birth row.object refusal
 
--- the root was read, and then one of the rows was refused
+-- they were read, and don't
+abbrev pub AreUnchained :
+    List VdevSpace → ObjectSet → ℕ → List DirectoryRow → Refusal → Type 0
+AreUnchained spaces set birth rows refusal =
+    (refusal ≡ BadPointer)
+    × ((records : List RowRecord) × AllZip (IsRowRecord spaces set birth) rows records
+    × ¬ AreChained records)
+
+-- the root was read, and then one of the rows was refused, or their records don't fit one another
 pub record AreRowsUnnamed (old new : Store) (missing : List ℕ) (birth : ℕ) (root : Block)
     (rows : List DirectoryRow) (refusal : Refusal) : Type 0 where
   pub set : ObjectSet
@@ -102,8 +122,10 @@ pub record AreRowsUnnamed (old new : Store) (missing : List ℕ) (birth : ℕ) (
   pub mid : Store
   pub first : OnlyReadsBlocks old mid missing
   pub why : IsRowUnnamed mid new missing set root.birth rows refusal
+      ⊎ AreUnchained mid.spaces set root.birth rows refusal
 
--- why the names of the rows were not read: the root was not, or one of the rows was refused
+-- why the names of the rows were not read: the root was not, or one of the rows was refused, or their
+-- records don't fit one another
 abbrev pub AreNamesRefused :
     Store → Store → List ℕ → ℕ → Block → List DirectoryRow → Refusal → Type 0
 AreNamesRefused old new missing birth root rows refusal =

@@ -3,7 +3,7 @@ use Rattle.meta_objset.specs.Found.{AreMapsFound}
 use Rattle.meta_objset.specs.declared.space_maps.MetaslabMap.{MetaslabMap}
 use Rattle.pool_maps.specs.Plans.{AreSparing, OthersStay}
 use Rattle.pool_maps.specs.Refused.{IsPlanRefused as AreMapsUnplanned}
-use Rattle.std.specs.Prelude.{ℕ, ◌≡◌, ◌≢◌, ◌⊎◌, ◌+◌, ◌*◌, ◌≤◌, ◌-◌, List, [], ◌∷◌, ◌++◌, length, Any, Some}
+use Rattle.std.specs.Prelude.{ℕ, ◌≡◌, ◌≢◌, ◌⊎◌, ◌+◌, ◌*◌, ◌≤◌, ◌-◌, Bool, true, false, List, [], ◌∷◌, ◌++◌, length, Any, Some}
 use Rattle.block_pointer.specs.declared.block.Block.{Block}
 use Rattle.block_store.specs.declared.refusal.Refusal.{Refusal}
 use Rattle.block_store.specs.declared.refusal.Refusal.TheVariants.{NoMemory, NoSpace, BadPointer}
@@ -48,10 +48,15 @@ abbrev pub WritesDirectory : ℕ → ObjectsChange → Type 0
 WritesDirectory names change =
     (rows : List DirectoryRow) × (length rows ≡ names) × WritesRows rows change
 
--- where volumes or snapshots are made the directory is written anew, with so many names
-abbrev pub AreDirectoryChanges : ℕ → List Action → List ObjectChange → Type 0
-AreDirectoryChanges names [] changes = changes ≡ []
-AreDirectoryChanges names (action ∷ made) changes =
+-- names go, or these actions make some
+abbrev pub are_renamed : Bool → List Action → Bool
+are_renamed gone [] = gone
+are_renamed gone (action ∷ made) = true
+
+-- where names come or go the directory is written anew, with so many names
+abbrev pub AreDirectoryChanges : Bool → ℕ → List ObjectChange → Type 0
+AreDirectoryChanges false names changes = changes ≡ []
+AreDirectoryChanges true names changes =
     (directory : ObjectsChange) × WritesDirectory names directory
     × (changes ≡ record { number = 1; change = directory } ∷ [])
 
@@ -91,8 +96,8 @@ IsRootRefused old new set before group changes refusal =
 
 -- ---- the group
 
--- Of the records and dead lists of the set those are changed that the heads have which are written to, and then those that these actions
--- make and change, under rows that have come to those that there were.
+-- Of the records and dead lists as the group was opened those are changed that the heads have which are written to, and then those that these
+-- actions make and change, under rows that have come to those that there were.
 pub record AreGroupDatasets (opened : Opened) (made : List Action) (datasets : DatasetChanges) : Type 0 where
   pub one_set : AreOfOneSet opened.datasets.changes datasets
   pub written : DatasetChanges
@@ -101,24 +106,23 @@ pub record AreGroupDatasets (opened : Opened) (made : List Action) (datasets : D
   pub kept : HasMoreRows opened.datasets.directory (first_number opened.set) rows
   pub touched : TouchesMade written datasets rows (first_number opened.set) made
 
--- The changes that a group makes of the set: that of the directory, where volumes are made; and those that its records and dead lists come to.
+-- The changes that a group makes of the set: that of the directory, where names come or go; and those that its records and dead lists come to.
 pub record AreGroupChanges (opened : Opened) (made : List Action) (changes : List ObjectChange) : Type 0 where
   pub of_directory : List ObjectChange
-  pub directory_are :
-      AreDirectoryChanges (length opened.datasets.directory + length made) made of_directory
+  pub directory_are : AreDirectoryChanges (are_renamed opened.renamed made)
+      (length opened.datasets.directory + length made) of_directory
   pub datasets : DatasetChanges
   pub datasets_are : AreGroupDatasets opened made datasets
   pub of_datasets : List ObjectChange
   pub of_datasets_are : AreChangesOf datasets of_datasets
   pub are : changes ≡ of_directory ++ of_datasets
 
--- these are the changes that the records and dead lists come to, with that of the directory in front where the next number isn't the first
--- one any more
-abbrev pub HasDatasetChanges : GroupDatasets → ℕ → List ObjectChange → Type 0
-HasDatasetChanges datasets first changes =
+-- these are the changes that the records and dead lists come to, with that of the directory in front where names came or went
+abbrev pub HasDatasetChanges : GroupDatasets → Bool → List ObjectChange → Type 0
+HasDatasetChanges datasets renamed changes =
     (of_datasets : List ObjectChange) × AreChangesOf datasets.changes of_datasets
-    × (datasets.next ≡ first → changes ≡ of_datasets)
-    × (datasets.next ≢ first → (directory : ObjectsChange) × WritesRows datasets.directory directory
+    × (renamed ≡ false → changes ≡ of_datasets)
+    × (renamed ≡ true → (directory : ObjectsChange) × WritesRows datasets.directory directory
     × (changes ≡ record { number = 1; change = directory } ∷ of_datasets))
 
 -- one number has both a record and a dead list, or one that is changed is behind all objects that there are
@@ -236,12 +240,15 @@ pub record HasGroupDemands (spaces : List VdevSpace) (born group : ℕ) (opened 
   pub is : demands ≡ of_written ++ of_made ++ of_root
 
 -- The root was read, and then places were taken for what the group asks, and for nothing else. Given
--- back are the root, then what its volumes give back, and then what the meta object set does.
+-- back are the root, then what its volumes give back, those first that are destroyed, and then what
+-- the meta object set does.
 pub record HasGroupPlaces (old new : Store) (root : Block) (rows : List DirectoryRow) (group : ℕ)
-    (items : Entry) (replaced : List Block) : Type 0 where
+    (destroyed : List (List ℕ)) (items : Entry) (replaced : List Block) : Type 0 where
   pub opened : Opened
-  pub found : IsGroupFound old.spaces (group - 1) root rows items.writes opened
+  pub found : IsGroupFound old.spaces (group - 1) root rows destroyed items.writes opened
   pub gone : List Block
+  pub of_written : List Block
+  pub gone_is : gone ≡ opened.freed.items ++ of_written
   pub of_meta : List Block
   pub given_back : replaced ≡ root ∷ gone ++ of_meta
   pub demands : List Demand
@@ -261,19 +268,19 @@ pub record AreChangesRefused (old new : Store) (born group : ℕ) (opened : Open
 
 -- the root was read, and then the group's volumes or space maps were refused, or its changes
 pub record IsGroupUnplanned (old new : Store) (root : Block) (rows : List DirectoryRow) (group : ℕ)
-    (items : Entry) (refusal : Refusal) : Type 0 where
+    (destroyed : List (List ℕ)) (items : Entry) (refusal : Refusal) : Type 0 where
   pub opened : Opened
-  pub found : IsGroupFound old.spaces (group - 1) root rows items.writes opened
+  pub found : IsGroupFound old.spaces (group - 1) root rows destroyed items.writes opened
   pub mid : Store
   pub before : OnlyReadsBlocks old mid []
   pub why : AreMappedRefused mid new root.birth group opened items.actions refusal
       ⊎ AreChangesRefused mid new root.birth group opened items.actions refusal
 
--- why the root after a group was not planned, by the rows of the directory before: the root before
--- was not read, or behind it a volume, or there was no memory, or a part of the group was refused
+-- why the root after a group was not planned, by the rows of the directory before: there was no
+-- memory, the group was not opened, or a part of it was refused
 abbrev pub IsGroupRefused :
-    Store → Store → Block → List DirectoryRow → ℕ → Entry → Refusal → Type 0
-IsGroupRefused old new root rows group items refusal =
+    Store → Store → Block → List DirectoryRow → ℕ → List (List ℕ) → Entry → Refusal → Type 0
+IsGroupRefused old new root rows group destroyed items refusal =
     (refusal ≡ NoMemory)
-    ⊎ (IsGroupUnread old new (group - 1) root rows items.writes refusal
-    ⊎ IsGroupUnplanned old new root rows group items refusal)
+    ⊎ (IsGroupUnread old new root rows group destroyed items.writes refusal
+    ⊎ IsGroupUnplanned old new root rows group destroyed items refusal)

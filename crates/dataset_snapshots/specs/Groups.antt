@@ -1,5 +1,5 @@
 -- The root of a group.
-use Rattle.std.specs.Prelude.{ℕ, ◌≡◌, ◌⊎◌, ◌<◌, ◌≤◌, List, Contains, Option, None, All}
+use Rattle.std.specs.Prelude.{ℕ, ◌≡◌, ◌⊎◌, ◌↔◌, ◌<◌, ◌≤◌, false, List, Contains, Option, None, All}
 use Rattle.std.specs.List.Sorted.{IsStrictlyIncreasing}
 use Rattle.block_pointer.specs.declared.block.Block.{Block}
 use Rattle.block_store.specs.Blocks.{Contents}
@@ -7,8 +7,10 @@ use Rattle.dataset_chains.specs.Chains.{Reading}
 use Rattle.dataset_chains.specs.Standing.{HasChains}
 use Rattle.dataset_changes.specs.Over.{IsForList, IsForRecord}
 use Rattle.dataset_changes.specs.States.{birth_of, set_of}
+use Rattle.dataset_groups.specs.Destroys.{all_destroyed}
 use Rattle.dataset_groups.specs.Groups.{SpellsGroup, first_number}
-use Rattle.dataset_groups.specs.Names.{NamesPool}
+use Rattle.dataset_groups.specs.Leaving.{IsReachExchanged}
+use Rattle.dataset_groups.specs.Names.{NamesPool, reach_by}
 use Rattle.dataset_groups.specs.NewVolumes.{numbers_end}
 use Rattle.dataset_groups.specs.Writing.{AreWritten, FitsHead, numbers_of}
 use Rattle.dead_list.specs.Datasets.{Pool}
@@ -17,12 +19,14 @@ use Rattle.dnode.specs.declared.object_set.ObjectSetKind.{ObjectSetKind}
 use Rattle.dnode.specs.ObjectSet.{FitsObjectSet}
 use Rattle.dnode_slots.specs.Sets.{IsSetBlock}
 use Rattle.meta_objset.specs.declared.directory.DirectoryRow.{DirectoryRow}
+use Rattle.meta_objset.specs.Names.{IsNamed}
 use Rattle.meta_objset.specs.Reading.{HasDirectory}
 use Rattle.objset.specs.declared.changes.ObjectChange.{ObjectChange}
 use Rattle.objset.specs.Changes.{MayChange, changed}
 use Rattle.objset.specs.Objects.{Object, AreObjects}
 use Rattle.pool_model.specs.declared.item.Write.{Write}
 use Rattle.pool_model.specs.Pools.{PlainPool}
+use Rattle.dataset_snapshots.specs.declared.groups.Begun.{Begun}
 use Rattle.dataset_snapshots.specs.declared.groups.Opened.{Opened}
 use Rattle.dataset_snapshots.specs.Pools.{SpellsPool}
 use Rattle.dataset_snapshots.specs.Writing.{IsWritten}
@@ -41,16 +45,42 @@ pub record IsOpened (writes : List Write) (opened : Opened) : Type 0 where
   pub each : All FitsHead opened.written.items
   pub all : (object : ℕ) → IsWritten opened.datasets.directory writes object → Contains (objects_of opened) object
 
--- they are those of the root's pool, with the blocks that the writes change, and a later group begins with its datasets
-pub record IsOpenedFrom (stored : Contents) (birth : ℕ) (root : Block) (pool : PlainPool) (is : SpellsPool stored birth root pool)
-    (writes : List Write) (opened : Opened) : Type 0 where
+-- so it is before anything is destroyed
+pub record IsBegun (begun : Begun) : Type 0 where
+  pub set : FitsObjectSet begun.set
+  pub once : IsStrictlyIncreasing (numbers_of begun.written.items)
+  pub within : All (λ number. number < begun.set.objects) (numbers_of begun.written.items)
+  pub each : All FitsHead begun.written.items
+
+-- the rows that have none of these names
+abbrev pub AreRowsLeft : List DirectoryRow → List (List ℕ) → List DirectoryRow → Type 0
+AreRowsLeft rows names left =
+    (row : DirectoryRow) → Contains left row ↔ (Contains rows row × ((name : List ℕ) → Contains names name → ¬ IsNamed row.name name))
+
+-- The group begins with the datasets of the root's pool. The volumes are those that the writes name by the rows that are left once these names are
+-- gone, with the blocks that the writes change.
+pub record IsBegunFrom (stored : Contents) (birth : ℕ) (root : Block) (pool : PlainPool) (is : SpellsPool stored birth root pool)
+    (destroyed : List (List ℕ)) (writes : List Write) (begun : Begun) : Type 0 where
+  pub set : begun.set ≡ is.set
+  pub born : birth_of begun.datasets.changes ≡ root.birth
+  pub directory : begun.datasets.directory ≡ is.rows
+  pub begins : (group : ℕ) → root.birth ≤ group
+      → SpellsGroup stored group is.objects begun.datasets (record is.datasets { group = group }) is.readings pool
+  pub written : (group : ℕ) (left : List DirectoryRow) → root.birth < group → AreRowsLeft is.rows destroyed left
+      → AreWritten stored root.birth (record is.datasets { group = group }) is.readings left writes begun.written.items
+
+-- They are those of the root's pool, with the blocks that the writes change, and the group begins with its datasets, once those are destroyed
+-- that have these names. Where no name went the rows are the same. What is freed is what the root's pool reached and isn't any more.
+pub record IsOpenedFrom (stored : Contents) (group birth : ℕ) (root : Block) (pool : PlainPool) (is : SpellsPool stored birth root pool)
+    (destroyed : List (List ℕ)) (writes : List Write) (opened : Opened) : Type 0 where
   pub set : opened.set ≡ is.set
   pub born : birth_of opened.datasets.changes ≡ root.birth
-  pub directory : opened.datasets.directory ≡ is.rows
-  pub begins : (group : ℕ) → root.birth ≤ group
-      → SpellsGroup stored group is.objects opened.datasets (record is.datasets { group = group }) is.readings pool
-  pub written : (group : ℕ) → root.birth < group
-      → AreWritten stored root.birth (record is.datasets { group = group }) is.readings is.rows writes opened.written.items
+  pub same : opened.renamed ≡ false → opened.datasets.directory ≡ is.rows
+  pub datasets : Pool
+  pub begins : SpellsGroup stored group is.objects opened.datasets datasets is.readings (all_destroyed destroyed pool)
+  pub exchanged : IsReachExchanged group stored stored (reach_by is.datasets is.rows) (reach_by datasets opened.datasets.directory)
+      opened.freed.items
+  pub written : AreWritten stored root.birth datasets is.readings opened.datasets.directory writes opened.written.items
 
 -- the changes are of objects below the next number, which is behind the tables
 pub record IsNextOf (changes : List ObjectChange) (next : ℕ) : Type 0 where

@@ -82,8 +82,9 @@ LossesOfDatasets =
 -- And where the root after a group is refused for a fault of disks.
 abbrev pub LossesOfGroups : Type 0
 LossesOfGroups =
-    (old new : Store) (root : Block) (rows : List DirectoryRow) (group : ℕ) (items : Entry)
-    (refusal : Refusal) → IsGroupRefused old new root rows group items refusal
+    (old new : Store) (root : Block) (rows : List DirectoryRow) (group : ℕ)
+    (destroyed : List (List ℕ)) (items : Entry) (refusal : Refusal)
+    → IsGroupRefused old new root rows group destroyed items refusal
     → refusal ≡ DiskFault → IsBlockLost old new []
 
 -- And where the first root is.

@@ -1,3 +1,4 @@
+pub mod Chaining
 pub mod Contents
 pub mod Creating
 pub mod Demands

@@ -1,13 +1,20 @@
 -- What was read of the volumes that a group writes to, whether or not the root is whole.
-use Rattle.std.specs.Prelude.{ℕ, ◌≡◌, ◌≢◌, ◌⊎◌, ◌↔◌, List, [], Contains, All}
+use Rattle.std.specs.Prelude.{ℕ, ◌≡◌, ◌≢◌, ◌⊎◌, ◌↔◌, ◌-◌, ◌^◌, List, [], Contains, All, Any, IsTrue}
 use Rattle.block_pointer.specs.declared.block.Block.{Block}
 use Rattle.block_store.specs.declared.refusal.Refusal.{Refusal}
 use Rattle.block_store.specs.declared.refusal.Refusal.TheVariants.{NoMemory, BadPointer}
 use Rattle.block_store.specs.Spaces.{VdevSpace}
 use Rattle.block_store.specs.Steps.{OnlyReadsBlocks}
 use Rattle.block_store.specs.Store.{Store}
-use Rattle.dataset_changes.specs.States.{IsNumber}
+use Rattle.dataset_changes.specs.States.{AreOfOneSet, AreUntouched, IsNumber, set_of}
+use Rattle.dataset_changes.specs.declared.changes.DatasetChanges.{DatasetChanges}
+use Rattle.dataset_chains.specs.Touched.{TouchesOnly}
+use Rattle.dataset_groups.specs.Demands.{IsNameThere}
+use Rattle.dataset_groups.specs.Destroys.{AreDestroysRefused, DestroysAll}
+use Rattle.dataset_groups.specs.Groups.{first_number}
+use Rattle.dataset_groups.specs.declared.datasets.GroupDatasets.{GroupDatasets}
 use Rattle.dataset_groups.specs.declared.writing.WrittenHead.{WrittenHead}
+use Rattle.dataset_groups.specs.Writing.{numbers_of}
 use Rattle.dnode.specs.declared.object_set.ObjectSet.{ObjectSet}
 use Rattle.dnode_tree.specs.declared.writes.BlockWrite.{BlockWrite}
 use Rattle.meta_objset.specs.declared.directory.DirectoryRow.{DirectoryRow}
@@ -18,10 +25,11 @@ use Rattle.pool_model.specs.declared.item.Write.{Write}
 use Rattle.volume.specs.declared.volume.VolumeSet.{VolumeSet}
 use Rattle.volume.specs.Reading.{IsReadRefused, IsVolumeFound, IsWayRead}
 use Rattle.volume.specs.Writing.{AreBlocksOf, HasId, IsChanged, IsCovered, NeedsOldBytes}
+use Rattle.dataset_snapshots.specs.declared.groups.Begun.{Begun}
 use Rattle.dataset_snapshots.specs.declared.groups.Opened.{Opened}
 use Rattle.dataset_snapshots.specs.Finding.{IsMetaFound, IsMetaRefused}
 use Rattle.dataset_snapshots.specs.Groups.{IsOpened, objects_of}
-use Rattle.dataset_snapshots.specs.Writing.{HasRow, IsVolumeIn, IsWritten}
+use Rattle.dataset_snapshots.specs.Writing.{HasRow, IsNone, IsVolumeIn, IsWrittenBut}
 
 -- these are the blocks that the writes to the row's volume change; where there are any its set was
 -- found, and the way was read to each that no single write covers
@@ -91,31 +99,75 @@ pub record IsOneUnread (old new : Store) (set : ObjectSet) (birth : ℕ) (writes
   pub before : OnlyReadsBlocks old mid []
   pub why : IsWrittenRefused mid new set birth writes row refusal
 
+-- the datasets of the set, under these rows: records of them were read, and nothing was made of them
+pub record AreBegun (set : ObjectSet) (rows : List DirectoryRow) (begun : GroupDatasets)
+    : Type 0 where
+  pub fresh : DatasetChanges
+  pub untouched : AreUntouched fresh
+  pub of_set : set_of fresh ≡ set
+  pub one_set : AreOfOneSet fresh begun.changes
+  pub read : TouchesOnly fresh begun.changes IsNone IsNone
+  pub directory : begun.directory ≡ rows
+  pub next : begun.next ≡ first_number set
+
 -- by the rows of the directory that is kept: the root was read, and the volumes that the writes
--- name, no others
+-- name, no others, but for those that are destroyed
+pub record IsBegunFound (spaces : List VdevSpace) (birth : ℕ) (root : Block)
+    (rows : List DirectoryRow) (destroyed : List (List ℕ)) (writes : List Write) (begun : Begun)
+    : Type 0 where
+  pub meta : IsMetaFound spaces birth root begun.set
+  pub which : (object : ℕ) → Contains (numbers_of begun.written.items) object
+      ↔ IsWrittenBut rows destroyed writes object
+  pub each : All (IsWrittenOf spaces begun.set root.birth writes rows) begun.written.items
+  pub begins : AreBegun begun.set rows begun.datasets
+
+-- by the rows of the directory that is kept: the root was read, and the volumes that the writes
+-- name, no others, but for those that are destroyed; and then these datasets were destroyed
 pub record IsGroupFound (spaces : List VdevSpace) (birth : ℕ) (root : Block)
-    (rows : List DirectoryRow) (writes : List Write) (opened : Opened) : Type 0 where
+    (rows : List DirectoryRow) (destroyed : List (List ℕ)) (writes : List Write) (opened : Opened)
+    : Type 0 where
   pub meta : IsMetaFound spaces birth root opened.set
-  pub by_rows : opened.datasets.directory ≡ rows
   pub is : IsOpened writes opened
-  pub which : (object : ℕ) → Contains (objects_of opened) object ↔ IsWritten rows writes object
+  pub which : (object : ℕ) → Contains (objects_of opened) object
+      ↔ IsWrittenBut rows destroyed writes object
   pub each : All (IsWrittenOf spaces opened.set root.birth writes rows) opened.written.items
+  pub begun : GroupDatasets
+  pub begins : AreBegun opened.set rows begun
+  pub destroys : DestroysAll begun opened.datasets destroyed
+  pub renamed : IsTrue opened.renamed ↔ Any (IsNameThere rows) destroyed
 
 -- the root was read, and then one of the volumes that the writes name by these rows was not
 pub record IsVolumeUnread (old new : Store) (birth : ℕ) (root : Block) (rows : List DirectoryRow)
-    (writes : List Write) (refusal : Refusal) : Type 0 where
+    (destroyed : List (List ℕ)) (writes : List Write) (refusal : Refusal) : Type 0 where
   pub set : ObjectSet
   pub meta : IsMetaFound old.spaces birth root set
   pub objects : List ℕ
-  pub which : (object : ℕ) → Contains objects object ↔ IsWritten rows writes object
+  pub which : (object : ℕ) → Contains objects object ↔ IsWrittenBut rows destroyed writes object
   pub mid : Store
   pub before : OnlyReadsBlocks old mid []
   pub why : IsOneUnread mid new set root.birth writes rows objects refusal
 
--- why a group's root was not read for its writes, by these rows: nothing of the directory's blocks is
--- read
+-- of a volume that is destroyed so many blocks are read at most
+abbrev pub most_blocks : ℕ
+most_blocks = 2 ^ 64 - 1
+
+-- the root and volumes were read, and then one of the datasets was not destroyed
+pub record AreNamesKept (old new : Store) (birth : ℕ) (root : Block) (rows : List DirectoryRow)
+    (group : ℕ) (destroyed : List (List ℕ)) (refusal : Refusal) : Type 0 where
+  pub set : ObjectSet
+  pub meta : IsMetaFound old.spaces birth root set
+  pub begun : GroupDatasets
+  pub begins : AreBegun set rows begun
+  pub mid : Store
+  pub before : OnlyReadsBlocks old mid []
+  pub why : AreDestroysRefused mid new begun group most_blocks destroyed refusal
+
+-- why a group was not opened on the root of the one before, by these rows: the root was not read, or
+-- a volume that is written to, or what is to be destroyed was not; nothing of the directory's blocks
+-- is read
 abbrev pub IsGroupUnread :
-    Store → Store → ℕ → Block → List DirectoryRow → List Write → Refusal → Type 0
-IsGroupUnread old new birth root rows writes refusal =
-    IsMetaRefused old new [] birth root refusal
-    ⊎ IsVolumeUnread old new birth root rows writes refusal
+    Store → Store → Block → List DirectoryRow → ℕ → List (List ℕ) → List Write → Refusal → Type 0
+IsGroupUnread old new root rows group destroyed writes refusal =
+    IsMetaRefused old new [] (group - 1) root refusal
+    ⊎ (IsVolumeUnread old new (group - 1) root rows destroyed writes refusal
+    ⊎ AreNamesKept old new (group - 1) root rows group destroyed refusal)

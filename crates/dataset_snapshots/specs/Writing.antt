@@ -27,6 +27,12 @@ abbrev pub IsWritten : List DirectoryRow → List Write → ℕ → Type 0
 IsWritten rows writes object =
     Any (λ write. (is_snapshot_name write.volume ≡ false) × IsRowOf rows write.volume object) writes
 
+-- so it is, and the name is none of these, which are destroyed
+abbrev pub IsWrittenBut : List DirectoryRow → List (List ℕ) → List Write → ℕ → Type 0
+IsWrittenBut rows destroyed writes object =
+    Any (λ write. (is_snapshot_name write.volume ≡ false)
+    × ((¬ Contains destroyed write.volume) × IsRowOf rows write.volume object)) writes
+
 -- the row is one of these, and has this object
 abbrev pub HasRow : List DirectoryRow → ℕ → DirectoryRow → Type 0
 HasRow rows object row = Contains rows row × (row.object ≡ object)

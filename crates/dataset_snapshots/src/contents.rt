@@ -42,9 +42,9 @@ pub struct RootContents {
 ///
 /// The pool may be forged. The walk reads at most as many blocks as are left to be read, and counts each of them off. `Unread` with
 /// `BadPointer` where the block is no root of a pool, its object 1 no directory, the object of a name no record of a dataset, where
-/// no block is left to be read, where a block of the set is there twice, and where the space maps are none of the pool's vdevs, as
-/// `pool_maps::read_maps` says; `BadMap` where one of them is no map. The root was born in the transaction group `birth` or before.
-/// The disks that are named are taken as missing.
+/// the records don't fit one another in chains, where no block is left to be read, where a block of the set is there twice, and where
+/// the space maps are none of the pool's vdevs, as `pool_maps::read_maps` says; `BadMap` where one of them is no map. The root was
+/// born in the transaction group `birth` or before. The disks that are named are taken as missing.
 pub fn contents_under<D: Disk + Drop>(
     root: &Block,
     store: &mut BlockStore<D>,

@@ -50,7 +50,7 @@ pub struct FirstRoot {
 }
 
 /// Plans the first root of a pool, which had no volumes so far, after the items of the transaction group `group`: the volumes that it
-/// makes, with the snapshots that it takes of them, and then the tables of the meta object set: the directory, the configuration, a
+/// makes, with the snapshots that it takes of them and their clones, and then the tables of the meta object set: the directory, the configuration, a
 /// table of stale spans with no rows, and the space maps. Writes do nothing where there are no volumes. `BadConfig` where a volume
 /// can't have its name or its sizes, or a snapshot its name; `NoSpace` also where no numbers are left for objects.
 ///

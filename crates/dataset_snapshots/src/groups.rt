@@ -27,12 +27,14 @@ ghost use Rattle.pool_model.specs.Pools.{changed as pool_changed};
 ghost use Rattle.vdev_label.specs.Plain.{PlainVdev};
 ghost use Rattle.dataset_snapshots.specs.Creating.{HasFirstTables};
 ghost use Rattle.dataset_snapshots.specs.Demands.{AreMappedRefused, HasDatasetChanges, AreMisnumbered, AreVolumesRefused, HasGroupPlaces, HasMappedPlaces, HasRootPlaces, HasVolumePlaces, IsGroupRefused, IsRootRefused};
+ghost use Rattle.dataset_groups.specs.Destroys.{HasAtMost, MayBeDestroyed, all_destroyed};
 ghost use Rattle.dataset_groups.specs.Names.{reach_by};
 ghost use Rattle.dataset_groups.specs.NewVolumes.{AreGoodChanges, numbers_end};
-ghost use Rattle.dataset_snapshots.specs.Groups.{AreOfDatasets, IsNextOf, IsOpened, IsOpenedFrom, IsSetOf, SpellsAfter};
+ghost use Rattle.dataset_snapshots.specs.Finding.{IsMetaRefused};
+ghost use Rattle.dataset_snapshots.specs.Groups.{AreOfDatasets, IsBegun, IsBegunFrom, IsNextOf, IsOpened, IsOpenedFrom, IsSetOf, SpellsAfter};
 ghost use Rattle.dataset_groups.specs.Leaving.{AddsData, AddsMeta, IsReachExchanged};
 ghost use Rattle.dataset_snapshots.specs.Mapped.{HasMapsBehind, HasMapsBy, StandsOnce};
-ghost use Rattle.dataset_snapshots.specs.Opening.{IsGroupFound, IsGroupUnread};
+ghost use Rattle.dataset_snapshots.specs.Opening.{IsBegunFound, IsGroupFound, IsGroupUnread, IsVolumeUnread, most_blocks};
 ghost use Rattle.dataset_snapshots.specs.Pools.{SpellsPool};
 ghost use Rattle.dataset_snapshots.specs.Reach.{reach_of, volume_blocks_of};
 ghost use Rattle.objset.specs.Changes.{copies_of};
@@ -47,7 +49,7 @@ use meta_objset::Directory;
 use model_disk::Disk;
 use objset::{ObjectChange, plan_set};
 use pool_maps::plan_maps;
-use pool_model::Action;
+use pool_model::{Action, Name};
 use std::alloc::{AllocError, Global};
 use txg_pipeline::Pending;
 
@@ -61,10 +63,22 @@ pub struct NextRoot {
     pub directory: Directory,
 }
 
-/// What a group is planned from: the meta object set, its datasets under the names of its directory, and the volumes that the group writes
-/// to.
+/// What a group is planned from: the meta object set, its datasets under the names of its directory, without those that the group destroys, and
+/// the volumes that the group writes to.
 #[derive(Debug, Drop)]
 pub(crate) struct Opened {
+    pub set: ObjectSet,
+    pub datasets: GroupDatasets,
+    pub written: Vec<WrittenHead>,
+    /// The blocks of what the group destroys that nothing reaches any more.
+    pub freed: Vec<Block>,
+    /// Whether a name went.
+    pub renamed: bool,
+}
+
+/// What a group finds before anything is destroyed.
+#[derive(Debug, Drop)]
+pub(crate) struct Begun {
     pub set: ObjectSet,
     pub datasets: GroupDatasets,
     pub written: Vec<WrittenHead>,
@@ -87,12 +101,14 @@ const DIRECTORY: u64 = 1;
 /// A directory of so many names has 2^46 bytes.
 pub(crate) const MOST_NAMES: usize = 1 << 40;
 
-/// Plans the root of a pool after the items of the transaction group `group`: its writes, and then its actions: volumes that it makes, and
-/// snapshots that it takes of what volumes are by then. `root` is the root of the group before, and `directory` the one under it, which
+/// Plans the root of a pool after the transaction group `group`: without the volumes and snapshots that it destroys, in this order, and then with
+/// its items: its writes, and then its actions: volumes and clones that it makes, and snapshots that it takes of what volumes are by then. `root` is the root of the group before, and `directory` the one under it, which
 /// is kept in memory: none of its blocks is read. Each block that a write reaches is read, and then each of them is planned anew: so
 /// where one can't be read that is the answer, whether or not there is room. Of a volume without writes nothing is read but, where a
 /// snapshot is taken of it, its record and that of the snapshot before. All changes of the meta object set are planned at once; its own
-/// block is new in each group. `BadConfig` where a volume can't have its name or its sizes, or a snapshot its name.
+/// block is new in each group. Of a volume that is destroyed those blocks are read that were born after the snapshot before it, of a snapshot two
+/// dead lists. `BadConfig` where a volume can't have its name or its sizes, or a snapshot its name; `BadPointer` where a volume that is to be
+/// destroyed has snapshots, or a snapshot clones.
 ///
 /// After an error blocks may be planned that no root has: begin another plan.
 pub fn after_group<D: Disk + Drop>(
@@ -101,6 +117,7 @@ pub fn after_group<D: Disk + Drop>(
     alloc: Global,
     group: u64,
     directory: &Directory,
+    destroyed: &[Name],
     items: &Pending,
 ) -> Result<NextRoot, Refusal>
     requires born { 0 < group }
@@ -118,9 +135,10 @@ pub fn after_group<D: Disk + Drop>(
     ensures value { IfOk result (λ after. (stored planned : Contents) (pool : PlainPool)
         → Plans store.old stored planned → (is : SpellsPool stored (group - 1) root.now pool)
         → directory.now ≡ is.rows → HasMapsBy store.old.spaces filled is
-        → AnswersAreTrue store.old store.new
+        → MayBeDestroyed destroyed.now pool → AnswersAreTrue store.old store.new
         → (later : Contents) × Plans store.new stored later × Extends planned later
-        × (then : SpellsPool later group after.root (applied group pool items.now))
+        × (then : SpellsPool later group after.root
+        (applied group (all_destroyed destroyed.now pool) items.now))
         × ((vdevs : List PlainVdev) → HasFirstTables is.objects vdevs
         → HasFirstTables then.objects vdevs)
         × IsReachExchanged group planned later (reach_of is) (reach_of then)
@@ -133,17 +151,19 @@ pub fn after_group<D: Disk + Drop>(
         → Plans store.old stored planned → (is : SpellsPool stored (group - 1) root.now pool)
         → directory.now ≡ is.rows → HasMapsBy store.old.spaces filled is
         → StandsOnce store.old.spaces is → AnswersAreTrue store.old store.new
-        → AreGoodChanges items.now.actions
+        → MayBeDestroyed destroyed.now pool → AreGoodChanges items.now.actions
         → IsForRoom refusal ⊎ (refusal ≡ Refusal.DiskFault)) }
 
     // Whatever the root and the directory are: what places are taken for and what is given back, and
     // on a refusal its cause.
     ensures places { IfOk result (λ after. HasGroupPlaces store.old store.new root.now directory.now
-        group items.now after.replaced.items) }
-    ensures refused { IfErr result
-        (IsGroupRefused store.old store.new root.now directory.now group items.now) }
+        group destroyed.now items.now after.replaced.items) }
+    ensures refused { IfErr result (IsGroupRefused store.old store.new root.now directory.now group
+        destroyed.now items.now) }
 {
-    let opened = open_group(root, store, alloc, group - 1, directory, items)?;
+    // There are few vdevs, and so no volume has too many blocks.
+    let _vdevs = store.vdev_count();
+    let opened = open_group(root, store, alloc, group, directory, destroyed, items)?;
     let set = opened.set;
     let born = root.birth;
     let mut gone = Vec::new(alloc);
@@ -176,38 +196,90 @@ fn only(block: &Block, alloc: Global) -> Result<Vec<Block>, AllocError>
     Ok(blocks)
 }
 
-/// Reads what the group is planned from, by the directory under the root that is kept. The root was born in the transaction group
-/// `birth` or before.
+/// Reads what the group is planned from, by the directory under the root that is kept, and destroys the datasets of these names.
 fn open_group<D: Disk + Drop>(
+    root: &Block,
+    store: &mut BlockStore<D>,
+    alloc: Global,
+    group: u64,
+    kept: &Directory,
+    destroyed: &[Name],
+    items: &Pending,
+) -> Result<Opened, Refusal>
+    requires born { 0 < group }
+    ensures reads { OnlyReadsBlocks store.old store.new [] }
+    ensures opened { IfOk result (IsOpened items.now.writes) }
+    ensures kind { IfOk result (λ opened. opened.set.kind ≡ sets.Meta) }
+    ensures early { IfOk result (λ opened. root.now.birth < group) }
+    ensures value { IfOk result (λ opened. (stored : Contents) (pool : PlainPool)
+        → Holds store.old stored → (is : SpellsPool stored (group - 1) root.now pool)
+        → kept.now ≡ is.rows → MayBeDestroyed destroyed.now pool
+        → AnswersAreTrue store.old store.new
+        → IsOpenedFrom stored group (group - 1) root.now pool is destroyed.now items.now.writes
+        opened) }
+    ensures known { IfErr result (λ refusal. (stored : Contents) (pool : PlainPool)
+        → Holds store.old stored → (is : SpellsPool stored (group - 1) root.now pool)
+        → kept.now ≡ is.rows → MayBeDestroyed destroyed.now pool
+        → HasAtMost is.datasets most_blocks → AnswersAreTrue store.old store.new
+        → IsForLoss refusal) }
+    ensures found { IfOk result (IsGroupFound store.old.spaces (group - 1) root.now kept.now
+        destroyed.now items.now.writes) }
+    ensures refused { IfErr result (λ refusal. (refusal ≡ Refusal.NoMemory)
+        ⊎ IsGroupUnread store.old store.new root.now kept.now group destroyed.now
+        items.now.writes refusal) }
+{
+    let begun = begin_group(root, store, alloc, group - 1, kept, destroyed, items)?;
+    let Begun {
+        set,
+        mut datasets,
+        written,
+    } = begun;
+    let mut freed = Vec::new(alloc);
+    let renamed = datasets.destroy_all(store, alloc, group, u64::MAX, destroyed, &mut freed)?;
+    Ok(Opened {
+        set,
+        datasets,
+        written,
+        freed,
+        renamed,
+    })
+}
+
+/// Reads what the group is planned from, before anything is destroyed: also the volumes that are written to, but for those that are to be
+/// destroyed. The root was born in the transaction group `birth` or before.
+fn begin_group<D: Disk + Drop>(
     root: &Block,
     store: &mut BlockStore<D>,
     alloc: Global,
     birth: u64,
     kept: &Directory,
+    destroyed: &[Name],
     items: &Pending,
-) -> Result<Opened, Refusal>
+) -> Result<Begun, Refusal>
     ensures reads { OnlyReadsBlocks store.old store.new [] }
-    ensures opened { IfOk result (IsOpened items.now.writes) }
-    ensures kind { IfOk result (λ opened. opened.set.kind ≡ sets.Meta) }
-    ensures early { IfOk result (λ opened. root.now.birth ≤ birth) }
-    ensures value { IfOk result (λ opened. (stored : Contents) (pool : PlainPool)
+    ensures begun { IfOk result IsBegun }
+    ensures kind { IfOk result (λ begun. begun.set.kind ≡ sets.Meta) }
+    ensures early { IfOk result (λ begun. root.now.birth ≤ birth) }
+    ensures value { IfOk result (λ begun. (stored : Contents) (pool : PlainPool)
         → Holds store.old stored → (is : SpellsPool stored birth root.now pool)
         → kept.now ≡ is.rows → AnswersAreTrue store.old store.new
-        → IsOpenedFrom stored birth root.now pool is items.now.writes opened) }
+        → IsBegunFrom stored birth root.now pool is destroyed.now items.now.writes begun) }
     ensures known { IfErr result (λ refusal. (stored : Contents) (pool : PlainPool)
         → Holds store.old stored → (is : SpellsPool stored birth root.now pool)
         → kept.now ≡ is.rows → AnswersAreTrue store.old store.new → IsForLoss refusal) }
-    ensures found { IfOk result
-        (IsGroupFound store.old.spaces birth root.now kept.now items.now.writes) }
+    ensures found { IfOk result (IsBegunFound store.old.spaces birth root.now kept.now
+        destroyed.now items.now.writes) }
     ensures refused { IfErr result (λ refusal. (refusal ≡ Refusal.NoMemory)
-        ⊎ IsGroupUnread store.old store.new birth root.now kept.now items.now.writes refusal) }
+        ⊎ (IsMetaRefused store.old store.new [] birth root.now refusal
+        ⊎ IsVolumeUnread store.old store.new birth root.now kept.now destroyed.now
+        items.now.writes refusal)) }
 {
     let directory = kept.copied()?;
     let set = read_meta(root, store, alloc, birth, &[])?;
-    let objects = written_objects(&directory, alloc, items.writes())?;
+    let objects = written_objects(&directory, alloc, items.writes(), destroyed)?;
     let mut datasets = GroupDatasets::new(alloc, set, root.birth, directory);
     let written = read_written(&mut datasets, store, alloc, root.birth, &objects, items)?;
-    Ok(Opened {
+    Ok(Begun {
         set,
         datasets,
         written,
@@ -233,12 +305,13 @@ fn mapped_changes<D: Disk + Drop>(
     ensures value { IfOk result (λ made. (stored planned : Contents) (birth : ℕ)
         (root : Block) (pool : PlainPool) (writes : List Write)
         → Plans store.old stored planned → (is : SpellsPool stored birth root pool)
-        → root.birth ≡ born → born < group → IsOpened writes opened
-        → IsOpenedFrom stored birth root pool is writes opened
+        → (destroyed : List (List ℕ)) → root.birth ≡ born → born < group → IsOpened writes opened
+        → IsOpenedFrom stored group birth root pool is destroyed writes opened
         → AreMapsOf is.objects store.old.spaces filled → AnswersAreTrue store.old store.new
         → (later : Contents) × Plans store.new stored later × Extends planned later
         × (then : SpellsAfter later group is.objects made.changes.items
-        (fold (λ p a. pool_changed group p a.change) (fold written pool writes) actions.now))
+        (applied group (all_destroyed destroyed pool)
+        (record { writes = writes; actions = actions.now })))
         × IsReachExchanged group planned later
         (volume_blocks_of is) (reach_by then.datasets then.rows) gone.new.items
         × (then.rows ≡ made.directory) × AddsData planned later
@@ -246,11 +319,13 @@ fn mapped_changes<D: Disk + Drop>(
     ensures known { IfErr result (λ refusal. (stored planned : Contents) (birth : ℕ)
         (root : Block) (pool : PlainPool) (writes : List Write)
         → Plans store.old stored planned → (is : SpellsPool stored birth root pool)
-        → root.birth ≡ born → born < group → IsOpened writes opened
-        → IsOpenedFrom stored birth root pool is writes opened
+        → (destroyed : List (List ℕ)) → root.birth ≡ born → born < group → IsOpened writes opened
+        → IsOpenedFrom stored group birth root pool is destroyed writes opened
         → AreMapsOf is.objects store.old.spaces filled → StandsOnce store.old.spaces is
         → AnswersAreTrue store.old store.new → AreGoodChanges actions.now
         → IsForRoom refusal ⊎ (refusal ≡ Refusal.DiskFault)) }
+    ensures behind { OnOk result ((of_written : List Block)
+        × (gone.new.items ≡ opened.freed.items ++ of_written)) }
     ensures places { IfOk result (λ made. HasMappedPlaces store.old store.new born group opened
         actions.now gone.new.items made.changes.items) }
     ensures refused { IfErr result
@@ -295,12 +370,13 @@ fn changes_of<D: Disk + Drop>(
     ensures value { IfOk result (λ made. (stored planned : Contents) (birth : ℕ)
         (root : Block) (pool : PlainPool) (writes : List Write)
         → Plans store.old stored planned → (is : SpellsPool stored birth root pool)
-        → root.birth < group → IsOpened writes opened
-        → IsOpenedFrom stored birth root pool is writes opened
+        → (destroyed : List (List ℕ)) → root.birth < group → IsOpened writes opened
+        → IsOpenedFrom stored group birth root pool is destroyed writes opened
         → AnswersAreTrue store.old store.new
         → (later : Contents) × Plans store.new stored later × Extends planned later
         × (then : SpellsAfter later group is.objects made.changes.items
-        (fold (λ p a. pool_changed group p a.change) (fold written pool writes) actions.now))
+        (applied group (all_destroyed destroyed pool)
+        (record { writes = writes; actions = actions.now })))
         × (gone : List Block) × (replaced.new.items ≡ replaced.old.items ++ gone)
         × IsReachExchanged group planned later
         (volume_blocks_of is) (reach_by then.datasets then.rows) gone
@@ -309,10 +385,12 @@ fn changes_of<D: Disk + Drop>(
     ensures known { IfErr result (λ refusal. (stored planned : Contents) (birth : ℕ)
         (root : Block) (pool : PlainPool) (writes : List Write)
         → Plans store.old stored planned → (is : SpellsPool stored birth root pool)
-        → root.birth < group → IsOpened writes opened
-        → IsOpenedFrom stored birth root pool is writes opened
+        → (destroyed : List (List ℕ)) → root.birth < group → IsOpened writes opened
+        → IsOpenedFrom stored group birth root pool is destroyed writes opened
         → AnswersAreTrue store.old store.new → AreGoodChanges actions.now
         → IsForRoom refusal ⊎ (refusal ≡ Refusal.DiskFault)) }
+    ensures behind { OnOk result ((of_written : List Block)
+        × (replaced.new.items ≡ (replaced.old.items ++ opened.freed.items) ++ of_written)) }
     ensures places { IfOk result (λ made.
         HasVolumePlaces store.old store.new group opened actions.now made.changes.items
         made.next) }
@@ -322,18 +400,22 @@ fn changes_of<D: Disk + Drop>(
     let Opened {
         mut datasets,
         written,
+        mut freed,
+        renamed,
         ..
     } = opened;
+    replaced.append(&mut freed)?;
     let first = datasets.next;
     datasets.write_all(store, alloc, group, written, replaced)?;
     datasets.act_all(store, alloc, group, actions)?;
-    with_directory(datasets, alloc, first)
+    let renamed = renamed || datasets.next != first;
+    with_directory(datasets, alloc, renamed)
 }
 
-/// What became of the datasets: the changes of the objects of their records and dead lists, with the change of the directory in front where the next
-/// number isn't the first one any more: where a volume was made or a snapshot taken. `NoMemory`, also where the directory would have 2^40 names;
+/// What became of the datasets: the changes of the objects of their records and dead lists, with the change of the directory in front where names
+/// came or went. `NoMemory`, also where the directory would have 2^40 names;
 /// `BadPointer` where one number has both a record and a dead list, and where one that is changed is no number below the next.
-fn with_directory(datasets: GroupDatasets, alloc: Global, first: u64) -> Result<Made, Refusal>
+fn with_directory(datasets: GroupDatasets, alloc: Global, renamed: bool) -> Result<Made, Refusal>
     requires behind { 4 < datasets.next }
     requires within { datasets.next ≤ numbers_end }
     ensures numbers { IfOk result (λ made. All (λ change. (0 < change.number)
@@ -345,7 +427,7 @@ fn with_directory(datasets: GroupDatasets, alloc: Global, first: u64) -> Result<
     ensures next { IfOk result (λ made. IsNextOf made.changes.items made.next) }
     ensures next_is { IfOk result (λ made. made.next ≡ datasets.next) }
     ensures directory { IfOk result (λ made. made.directory ≡ datasets.directory) }
-    ensures changes { IfOk result (λ made. HasDatasetChanges datasets first made.changes.items) }
+    ensures changes { IfOk result (λ made. HasDatasetChanges datasets renamed made.changes.items) }
     ensures refused { IfErr result (λ refusal. (refusal ≡ Refusal.NoMemory)
         ⊎ ((refusal ≡ Refusal.BadPointer) × AreMisnumbered datasets.changes datasets.next)) }
 {
@@ -358,7 +440,7 @@ fn with_directory(datasets: GroupDatasets, alloc: Global, first: u64) -> Result<
     if !are_below(&changes, next) {
         return Err(Refusal::BadPointer);
     }
-    if next != first {
+    if renamed {
         let change = directory_change(&directory, alloc)?;
         put_first(&mut changes, change)?;
     }

@@ -1,5 +1,7 @@
-//! What follows from the definitions, as functions with no body.
+//! What follows from the definitions, as functions that do nothing.
 ghost use Rattle.dataset_snapshots.specs.Laws.{GoodChangesMayBeMade, LossesByRows, LossesOfDatasets, LossesOfFirstGroups, LossesOfGroups, LossesOfRanges, ReachesLieApart, ReachIsKnown, ReadsNeedNoRoom, ReplacedOfGroupsLeave, RootsSpellOnePool, RootsStandOnTheirReach, RootsStay};
+
+use dataset_destroys::losses_of_destroys;
 
 /// A root spells its pool where more blocks are known, and for a later group.
 pub fn roots_stay()
@@ -29,7 +31,9 @@ pub fn losses_of_datasets()
 /// Where the root after a group is refused for a fault of disks, a block is lost.
 pub fn losses_of_groups()
     ensures { LossesOfGroups }
-{}
+{
+    losses_of_destroys();
+}
 
 /// Where the first root is refused for a fault of disks, a block is lost.
 pub fn losses_of_first_groups()

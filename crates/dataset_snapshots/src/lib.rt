@@ -1,6 +1,7 @@
 //! The datasets of a pool under a root: what a root spells, and what it has of a name.
 #![tactic(auto)]
 
+mod chaining;
 mod contents;
 mod finding;
 mod first_root;

@@ -1,37 +1,42 @@
 //! The names of a pool, by the directory under its root.
-ghost use Rattle.std.specs.Prelude.{◌≡◌, ◌≢◌, ◌⊎◌, ℕ, List, Option, None, IfOk, IfErr, OnOk};
+ghost use Rattle.std.specs.Prelude.{◌≡◌, ◌≢◌, ◌⊎◌, ◌∷◌, ◌++◌, ℕ, List, [], Option, None, IfOk, IfErr, OnOk};
 ghost use Rattle.std.specs.List.{AllZip};
 ghost use Rattle.block_pointer.specs.declared.block.Block.{Block};
 ghost use Rattle.block_store.specs.Blocks.{Contents};
 ghost use Rattle.block_store.specs.Losses.{IsForLoss};
 ghost use Rattle.block_store.specs.Steps.{OnlyReadsBlocks, AnswersAreTrue};
 ghost use Rattle.block_store.specs.Store.{Holds};
+ghost use Rattle.dataset_chains.specs.Chains.{Reading};
+ghost use Rattle.dataset_chains.specs.Standing.{HasChains};
+ghost use Rattle.dataset_groups.specs.Names.{NamesPool};
+ghost use Rattle.dead_list.specs.Datasets.{Pool};
 ghost use Rattle.dnode.specs.ObjectSet.{FitsObjectSet};
 ghost use Rattle.meta_objset.specs.declared.directory.DirectoryRow.{DirectoryRow};
 ghost use Rattle.meta_objset.specs.Directory.{IsDirectory};
-ghost use Rattle.meta_objset.specs.Found.{IsRecordRefused};
 ghost use Rattle.meta_objset.specs.Names.{IsName, IsNamed};
 ghost use Rattle.objset.specs.Objects.{Object, AreObjects};
 ghost use Rattle.pool_model.specs.declared.volume.PlainVolume.{PlainVolume};
 ghost use Rattle.pool_model.specs.Pools.{PlainPool, volume_at, with_volume};
 ghost use Rattle.volume_rules.specs.Index.{Knows};
 ghost use Rattle.volume_rules.specs.Shapes.{shape_of};
-ghost use Rattle.dataset_snapshots.specs.Contents.{AreNamesFound, AreNamesRefused, AreVolumesNamed};
-ghost use Rattle.dataset_snapshots.specs.Contents.{IsRowUnnamed, IsVolumeShapeFound};
+ghost use Rattle.dataset_snapshots.specs.Contents.{AreChainsFound, AreNamesFound, AreNamesRefused, AreUnchained, AreVolumesNamed};
+ghost use Rattle.dataset_snapshots.specs.Contents.{IsRowUnnamed, IsShapeIn};
 ghost use Rattle.dataset_snapshots.specs.Pools.{IsRecordKind, SpellsDataset, SpellsPool};
 
+use crate::chaining::{RowRecord, are_chained};
 use crate::finding::{read_dataset, read_meta};
 use block_pointer::Block;
 use block_store::{BlockStore, Refusal};
 use dnode::ObjectSet;
-use meta_objset::{DatasetKind, Directory, DirectoryRow, unpadded};
+use meta_objset::{DatasetKind, DatasetRecord, Directory, DirectoryRow, unpadded};
 use model_disk::Disk;
 use pool_model::{Name, VolumeKind};
 use std::alloc::{AllocError, Global};
 use volume_rules::{NameIndex, VolumeShape};
 
 /// The names of the pool whose root has this directory, and at each the shape of its volume. It reads the root and the record of
-/// each dataset. `BadPointer` where the block is no root of a pool, or the object of a name no record of a dataset.
+/// each dataset. `BadPointer` where the block is no root of a pool, the object of a name no record of a dataset, or where the records
+/// don't fit one another in chains.
 pub(crate) fn names_by<D: Disk + Drop>(
     root: &Block,
     store: &mut BlockStore<D>,
@@ -56,7 +61,7 @@ pub(crate) fn names_by<D: Disk + Drop>(
     names_of(&set, directory.rows(), store, alloc, root.birth, missing)
 }
 
-/// The names of rows, and at each the shape of its volume.
+/// The names of rows, and at each the shape of its volume. `BadPointer` where the records don't fit one another in chains.
 fn names_of<D: Disk + Drop>(
     set: &ObjectSet,
     rows: &[DirectoryRow],
@@ -74,57 +79,45 @@ fn names_of<D: Disk + Drop>(
         → AllZip (SpellsDataset stored birth objects) rows.now volumes
         → AnswersAreTrue store.old store.new → Knows names (record { volumes = volumes })) }
     ensures found { IfOk result (AreVolumesNamed store.old.spaces set.now birth rows.now) }
+    ensures chains { OnOk result (AreChainsFound store.old.spaces set.now birth rows.now) }
     ensures refused { IfErr result (λ refusal. (refusal ≡ Refusal.NoMemory)
-        ⊎ IsRowUnnamed store.old store.new missing.now set.now birth rows.now refusal) }
+        ⊎ (IsRowUnnamed store.old store.new missing.now set.now birth rows.now refusal
+        ⊎ AreUnchained store.old.spaces set.now birth rows.now refusal)) }
     ensures cause { IfErr result (λ refusal. refusal ≢ Refusal.NoSpace) }
     ensures known { IfErr result (λ refusal. (stored : Contents) (objects : ℕ → Option Object)
         (own : List Block) (blocks : ℕ → List Block) (volumes : List PlainVolume)
+        (pool : Pool) (readings : ℕ → Reading)
         → Holds store.old stored → AreObjects stored birth set.now objects own blocks
         → AllZip (SpellsDataset stored birth objects) rows.now volumes
+        → HasChains stored birth objects pool readings
+        → NamesPool pool readings rows.now (record { volumes = volumes })
         → AnswersAreTrue store.old store.new → IsForLoss refusal) }
 {
     let mut names = NameIndex::new(alloc);
+    let mut records = Vec::new(alloc);
     for row in rows {
-        let shape = read_shape(set, store, alloc, birth, row.object, missing)?;
-        add_name(alloc, &mut names, row, shape)?;
+        let dataset = read_dataset(set, store, alloc, birth, row.object, missing)?;
+        let record = dataset.record;
+        add_name(alloc, &mut names, row, shape_in(&record))?;
+        let object = row.object;
+        add_record(&mut records, RowRecord { object, record })?;
+    }
+    if !are_chained(alloc, &records)? {
+        return Err(Refusal::BadPointer);
     }
     Ok(names)
 }
 
-/// The shape of the volume or snapshot whose record an object has.
-fn read_shape<D: Disk + Drop>(
-    set: &ObjectSet,
-    store: &mut BlockStore<D>,
-    alloc: Global,
-    birth: u64,
-    object: u64,
-    missing: &[usize],
-) -> Result<VolumeShape, Refusal>
-    requires { FitsObjectSet set.now }
-    ensures reads { OnlyReadsBlocks store.old store.new missing.now }
-    ensures value { IfOk result (λ shape. (stored : Contents) (objects : ℕ → Option Object)
-        (own : List Block) (blocks : ℕ → List Block) (row : DirectoryRow) (volume : PlainVolume)
-        → Holds store.old stored → AreObjects stored birth set.now objects own blocks
-        → SpellsDataset stored birth objects row volume → row.object ≡ object
-        → AnswersAreTrue store.old store.new → shape_of volume ≡ shape) }
-    ensures found { IfOk result (IsVolumeShapeFound store.old.spaces set.now birth object) }
-    ensures refused { IfErr result (λ refusal. (refusal ≡ Refusal.NoMemory)
-        ⊎ IsRecordRefused store.old store.new missing.now set.now birth object refusal) }
-    ensures cause { IfErr result (λ refusal. refusal ≢ Refusal.NoSpace) }
-    ensures known { IfErr result (λ refusal. (stored : Contents) (objects : ℕ → Option Object)
-        (own : List Block) (blocks : ℕ → List Block) (row : DirectoryRow) (volume : PlainVolume)
-        → Holds store.old stored → AreObjects stored birth set.now objects own blocks
-        → SpellsDataset stored birth objects row volume → row.object ≡ object
-        → AnswersAreTrue store.old store.new → IsForLoss refusal) }
+/// The shape of the volume or snapshot of a record.
+fn shape_in(record: &DatasetRecord) -> VolumeShape
+    ensures { IsShapeIn record.now result }
 {
-    let dataset = read_dataset(set, store, alloc, birth, object, missing)?;
-    let record = dataset.record;
-    Ok(VolumeShape {
+    VolumeShape {
         size: record.size,
         block_size: record.block_size,
         group: record.created,
         kind: kind_of(record.kind),
-    })
+    }
 }
 
 /// What the name of a dataset stands for.
@@ -152,5 +145,13 @@ fn add_name(
     let name = Name::new(Vec::from_slice(alloc, unpadded(&row.name))?);
     names.reserve()?;
     names.add(name, shape);
+    Ok(())
+}
+
+/// Adds the record of a row.
+fn add_record(records: &mut Vec<RowRecord>, one: RowRecord) -> Result<(), AllocError>
+    ensures { OnOk result (records.new.items ≡ records.old.items ++ one ∷ []) }
+{
+    records.push(one)?;
     Ok(())
 }

@@ -1,5 +1,5 @@
 //! Volumes that a group writes to, as they are read.
-ghost use Rattle.std.specs.Prelude.{◌≡◌, ◌≢◌, ◌↔◌, false, ◌⊎◌, ◌++◌, ◌∷◌, [], ℕ, List, Option, None, All, Contains, IfSome, IfNone, IfOk, IfErr, OnOk};
+ghost use Rattle.std.specs.Prelude.{◌≡◌, ◌≢◌, ◌↔◌, false, ◌⊎◌, ◌++◌, ◌∷◌, [], ℕ, List, Option, None, All, Contains, IsTrue, IfSome, IfNone, IfOk, IfErr, OnOk};
 ghost use Rattle.std.specs.List.{AllZip};
 ghost use Rattle.std.specs.List.Sorted.{IsStrictlyIncreasing};
 ghost use Rattle.block_pointer.specs.declared.block.Block.{Block};
@@ -20,7 +20,7 @@ ghost use Rattle.volume.specs.Volume.{Spells, block_size_of};
 ghost use Rattle.volume.specs.Writing.{AreBlocksOf, IsArrayWith};
 ghost use Rattle.dataset_snapshots.specs.Opening.{AreBlocksFound, AreBlocksRefused, IsOneUnread, IsWrittenFound, IsWrittenOf, IsWrittenRefused};
 ghost use Rattle.dataset_snapshots.specs.Pools.{SpellsDataset};
-ghost use Rattle.dataset_snapshots.specs.Writing.{HasRow, IsReadFor, IsReadFrom, IsWritten};
+ghost use Rattle.dataset_snapshots.specs.Writing.{HasRow, IsReadFor, IsReadFrom, IsWrittenBut};
 ghost use Rattle.dataset_snapshots.specs.Writing.{KeepsDatasets, KeepsGroup};
 
 use crate::finding::number_in;
@@ -33,21 +33,23 @@ use std::alloc::{AllocError, Global};
 use txg_pipeline::Pending;
 use volume::{BlockWrite, GroupWrites, VolumeSet};
 
-/// The objects of the volumes that are written to, in the order of their numbers. A write to the name of a snapshot does nothing.
+/// The objects of the volumes that are written to, in the order of their numbers, but for those that are to be destroyed. A write to the name of a
+/// snapshot does nothing.
 pub(crate) fn written_objects(
     directory: &Directory,
     alloc: Global,
     writes: &[Write],
+    destroyed: &[Name],
 ) -> Result<Vec<u64>, AllocError>
     ensures objects { IfOk result (λ objects. (object : ℕ) → Contains objects.items object
-        ↔ IsWritten directory.now writes.now object) }
+        ↔ IsWrittenBut directory.now destroyed.now writes.now object) }
     ensures once { IfOk result (λ objects. IsStrictlyIncreasing objects.items) }
 {
     // Each name stands in one row.
     let _rows = directory.rows();
     let mut objects = Vec::new(alloc);
     for write in writes {
-        if write.volume.is_of_snapshot() {
+        if write.volume.is_of_snapshot() || is_among(destroyed, &write.volume) {
             continue;
         }
         if let Some(object) = number_in(directory, &write.volume) {
@@ -57,6 +59,13 @@ pub(crate) fn written_objects(
     objects.as_mut_slice().sort_unstable();
     objects.dedup();
     Ok(objects)
+}
+
+/// Whether the name is one of these.
+fn is_among(names: &[Name], name: &Name) -> bool
+    ensures { IsTrue result ↔ Contains names.now name.now }
+{
+    names.iter().any(|one| one.is(name))
 }
 
 /// Reads the volumes that have these objects: the record of each, and the blocks that the writes change. The set's blocks were born

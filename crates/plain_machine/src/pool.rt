@@ -117,6 +117,7 @@ impl Pool {
                 block_size: *block_size,
                 group,
                 kind: VolumeKind::Volume,
+                origin: None,
             }),
             Change::Snapshot { volume, part } => self.take(alloc, group, volume, part),
             Change::Clone { snapshot, name } => self.clone_snapshot(alloc, group, snapshot, name),
@@ -146,6 +147,7 @@ impl Pool {
             block_size: found.block_size,
             group,
             kind: VolumeKind::Snapshot,
+            origin: None,
         };
         self.add(snapshot)
     }
@@ -173,6 +175,7 @@ impl Pool {
             block_size: found.block_size,
             group,
             kind: VolumeKind::Volume,
+            origin: Some(found.name.copied(alloc)?),
         };
         self.add(volume)
     }
@@ -211,7 +214,17 @@ fn copy_of(alloc: Global, volume: &PlainVolume) -> Result<PlainVolume, AllocErro
         block_size: volume.block_size,
         group: volume.group,
         kind: volume.kind,
+        origin: copy_of_name(alloc, &volume.origin)?,
     })
+}
+
+fn copy_of_name(alloc: Global, name: &Option<Name>) -> Result<Option<Name>, AllocError>
+    ensures { IfOk result (λ copy. copy ≡ name.now) }
+{
+    match name {
+        Some(name) => Ok(Some(name.copied(alloc)?)),
+        None => Ok(None),
+    }
 }
 
 fn write_each(volumes: &mut Vec<PlainVolume>, write: &Write)

@@ -53,10 +53,10 @@ rows_led stored group kept pool root rows is spells same by =
 -- ---- why the next group is refused, by the directory that is kept
 
 pub next_refused : (old new : Store) (kept : KeptGroup) (group : ℕ) (items : Entry) (refusal : StoreRefusal) (root : Block) (rows : List DirectoryRow) → kept.root ≡ Some root
-    → rows ≡ kept.directory.value → IsGroupRefused old new root rows group items refusal → IsNextRefused old new kept.root kept.directory.value group items refusal
+    → rows ≡ kept.directory.value → IsGroupRefused old new root rows group [] items refusal → IsNextRefused old new kept.root kept.directory.value group items refusal
 next_refused old new kept group items refusal root rows is same why =
     subst (λ (o : Option Block). IsNextRefused old new o kept.directory.value group items refusal) (sym is)
-    (subst (λ (list : List DirectoryRow). IsGroupRefused old new root list group items refusal) same why)
+    (subst (λ (list : List DirectoryRow). IsGroupRefused old new root list group [] items refusal) same why)
 
 pub first_refused : (old new : Store) (kept : KeptGroup) (group : ℕ) (items : Entry) (refusal : StoreRefusal) → kept.root ≡ None → IsNextRefused old new None [] group items refusal
     → IsNextRefused old new kept.root kept.directory.value group items refusal

@@ -25,7 +25,7 @@ Judges offset len shape answer = (volume : Option PlainVolume) → Some shape �
 
 -- a volume of the shape
 abbrev plain : VolumeShape → PlainVolume
-plain shape = record { name = []; bytes = replicate shape.size 0; block_size = shape.block_size; group = shape.group; kind = shape.kind }
+plain shape = record { name = []; bytes = replicate shape.size 0; block_size = shape.block_size; group = shape.group; kind = shape.kind; origin = None }
 
 shape_of_plain : (shape : VolumeShape) → shape ≡ shape_of (plain shape)
 shape_of_plain shape = λ i. record shape { size = sym (length-replicate {A = ℕ} shape.size 0) i }

@@ -25,6 +25,7 @@ use Rattle.meta_objset.specs.declared.directory.DirectoryRow.{DirectoryRow}
 use Rattle.pool_model.specs.Pools.{Entry, PlainPool, volume_at}
 use Rattle.pool_model.specs.Refusals.{read_refusal}
 use Rattle.pool_model.specs.View.{View, Vdev, lost_in}
+use Rattle.dataset_destroys.proofs.Losses.{losses_of_destroys}
 use Rattle.dataset_snapshots.proofs.Losses.{losses_by_rows, losses_of_first_groups, losses_of_groups}
 use Rattle.dataset_snapshots.proofs.ReadRefusals.{reads_need_no_room}
 use Rattle.dataset_snapshots.specs.Ranges.{IsRangeRefusedIn}
@@ -176,7 +177,7 @@ lost_under v old new group kept name offset len missing refusal backs is_kept re
 
 next_lost : (old new : Store) (last : Option Block) (rows : List DirectoryRow) (group : ℕ) (items : Entry) (refusal : StoreRefusal)
     → IsNextRefused old new last rows group items refusal → refusal ≡ store.DiskFault → IsBlockLost old new []
-next_lost old new (Some root) rows group items refusal why is = losses_of_groups old new root rows group items refusal why is
+next_lost old new (Some root) rows group items refusal why is = losses_of_groups losses_of_destroys old new root rows group [] items refusal why is
 next_lost old new None rows group items refusal why is = losses_of_first_groups old new group (configs_from 100 (shapes_of old.spaces)) items refusal why is
 
 pub lost_for_plan : (v : View) (old new : State) (items : Entry) (refusal : Refusal) (is : IsUnreadForPlan old new items refusal)

@@ -1,5 +1,5 @@
 -- Room for the blocks of a group that is to be planned.
-use Rattle.std.specs.Prelude.{ℕ, suc, ◌≡◌, ◌<◌, ◌^◌, List, Option, Some, None}
+use Rattle.std.specs.Prelude.{ℕ, suc, ◌≡◌, ◌<◌, ◌^◌, List, [], Option, Some, None}
 use Rattle.block_pointer.specs.declared.block.Block.{Block}
 use Rattle.block_store.specs.declared.refusal.Refusal.{Refusal as StoreRefusal}
 use Rattle.block_store.specs.declared.refusal.Refusal.TheVariants as store
@@ -25,7 +25,7 @@ pub record IsBegun (group : ℕ) (old begun : Store) : Type 0 where
 abbrev pub IsNextRefused :
     Store → Store → Option Block → List DirectoryRow → ℕ → Entry → StoreRefusal → Type 0
 IsNextRefused old new (Some root) rows group items refusal =
-    IsGroupRefused old new root rows group items refusal
+    IsGroupRefused old new root rows group [] items refusal
 IsNextRefused old new None rows group items refusal =
     IsFirstRefused old new group (configs_from 100 (shapes_of old.spaces)) items refusal
 
@@ -39,6 +39,6 @@ pub record IsPlanRefused (old : State) (new : Store) (items : Entry) (refusal : 
       refusal
 
 -- There is no room for a block that the group makes of the committed root, behind what is stored and others of these blocks; or no
--- two numbers are left for the objects of a volume that it makes.
+-- two numbers are left for the objects of what it makes, or the clones of a snapshot can't be counted any more.
 abbrev pub LacksRoom : State → Entry → Type 0
 LacksRoom s items = (after : Store) × IsPlanRefused s after items store.NoSpace

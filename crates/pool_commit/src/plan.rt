@@ -121,7 +121,7 @@ fn root_after<D: Disk + Drop>(
 {
     match &last.root {
         Some(root) => {
-            let next = after_group(root, store, alloc, group, last.directory(), items)?;
+            let next = after_group(root, store, alloc, group, last.directory(), &[], items)?;
             Ok(PlannedRoot {
                 root: next.root,
                 directory: next.directory,

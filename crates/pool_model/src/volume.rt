@@ -34,4 +34,6 @@ pub struct PlainVolume {
     /// The group that made it, or took it.
     pub group: u64,
     pub kind: VolumeKind,
+    /// Of a clone the name of the snapshot that it was made of.
+    pub origin: Option<Name>,
 }

@@ -39,10 +39,12 @@ names_lost : (old new : Store) (birth : ℕ) (root : Block) (rows : List Directo
     → IsBlockLost old new []
 names_lost old new birth root rows refusal (inl memory) is = absurd (cc)
 names_lost old new birth root rows refusal (inr (inl refused)) is = meta_lost old new [] birth root refusal refused is
-names_lost old new birth root rows refusal (inr (inr unnamed)) is =
-    let row = unnamed.why in
-    lost_behind_reads old unnamed.mid new [] unnamed.first
-    (lost_behind_reads unnamed.mid row.mid new [] row.reads (record_lost row.mid new [] unnamed.set root.birth row.row.object refusal row.why is))
+names_lost old new birth root rows refusal (inr (inr unnamed)) is = elim unnamed.why [
+  | inl row ↦
+      lost_behind_reads old unnamed.mid new [] unnamed.first
+      (lost_behind_reads unnamed.mid row.mid new [] row.reads (record_lost row.mid new [] unnamed.set root.birth row.row.object refusal row.why is))
+  | inr unchained ↦ absurd (let bad = unchained.0 in cc)
+]
 
 -- the meta object set was not walked
 meta_walk_lost : (old new : Store) (birth : ℕ) (root : Block) (before after : ℕ) (refusal : Refusal) → IsMetaWalkRefused old new [] birth root before after refusal → refusal ≡ DiskFault

@@ -1,4 +1,4 @@
-//! Groups that overwrite random blocks of volumes in a store that has room for little more, with snapshots and a clone between them.
+//! Groups that overwrite random blocks of volumes in a store that has room for little more, between snapshots, clones and destroys.
 use crate::stores::{Store, new_store, store_plan};
 use crate::walked::{sectors_if_right, sectors_of};
 use block_store::Refusal;
@@ -24,7 +24,7 @@ struct Volume {
 /// 8,192 sectors before the meta region hold what a root leads to. A group writes to at most two volumes, and takes 592 at most.
 /// As it is planned, what two groups before it gave back can't be used yet, and what it replaces itself is in use still: so there
 /// are up to 4,768 in use then. Each of two snapshots of the smaller volume keeps up to 672 more, and 200 that lead to them, and so
-/// does a clone of the first: so there are up to 7,384 in use at last, 90 of 100.
+/// does a clone of the first: so there are up to 7,384 in use while they are there, 90 of 100.
 const VOLUMES: [Volume; 2] = [
     Volume {
         letter: b'v',
@@ -44,15 +44,19 @@ fn name_of(alloc: Global, volume: &Volume) -> Result<Name, AllocError> {
     Ok(Name::new(vec![in alloc; volume.letter; 1]?))
 }
 
+fn creation_of(alloc: Global, volume: &Volume) -> Result<Change, AllocError> {
+    Ok(Change::Create {
+        name: name_of(alloc, volume)?,
+        size: volume.blocks.saturating_mul(volume.block_bytes),
+        block_size: volume.block_bytes,
+    })
+}
+
 fn creation(alloc: Global, number: u64, volume: &Volume) -> Result<Item, AllocError> {
     Ok(Item::Action(Action {
         writer: 1,
         number,
-        change: Change::Create {
-            name: name_of(alloc, volume)?,
-            size: volume.blocks.saturating_mul(volume.block_bytes),
-            block_size: volume.block_bytes,
-        },
+        change: creation_of(alloc, volume)?,
     }))
 }
 
@@ -110,7 +114,8 @@ impl Numbers {
 
 /// A random volume that a group may write to.
 fn random_volume(numbers: &mut Numbers, group: u64) -> Volume {
-    let count = if group > CLONED { 3 } else { 2 };
+    let at = group % ROUND;
+    let count = if CLONED < at && at < CLONE_GONE { 3 } else { 2 };
     match numbers.below(count) {
         0 => VOLUMES[0],
         1 => VOLUMES[1],
@@ -145,11 +150,13 @@ fn accept_random(
     Ok(())
 }
 
-/// Groups that take a snapshot of the smaller volume, and the letter that is its part.
-const SNAPSHOTS: [(u64, u8); 2] = [(500, b'a'), (1200, b'b')];
+/// After so many groups names come and go as before.
+const ROUND: u64 = 400;
 
-/// The group that makes a clone of the first snapshot; later ones write to it too.
-const CLONED: u64 = 800;
+/// The group of each round that makes a clone of the first snapshot, and the one that destroys it.
+const CLONED: u64 = 150;
+
+const CLONE_GONE: u64 = 250;
 
 const CLONE: Volume = Volume {
     letter: b'u',
@@ -158,23 +165,48 @@ const CLONE: Volume = Volume {
     most: 2,
 };
 
-/// What a group changes besides its writes: the snapshot that it takes, or the clone that it makes.
+/// What a group of a round makes: a snapshot of the smaller volume, by the letter that is its part, the clone, or the larger volume once more.
 fn change_in(alloc: Global, group: u64) -> Result<Option<Change>, AllocError> {
-    if group == CLONED {
-        return Ok(Some(Change::Clone {
+    match group % ROUND {
+        50 => Ok(Some(snapshot(alloc, b'a')?)),
+        100 => Ok(Some(snapshot(alloc, b'b')?)),
+        CLONED => Ok(Some(Change::Clone {
             snapshot: Name::new(Vec::from_slice(alloc, b"v@a")?),
             name: name_of(alloc, &CLONE)?,
-        }));
+        })),
+        380 => Ok(Some(creation_of(alloc, &VOLUMES[1])?)),
+        _ => Ok(None),
     }
-    for &(taken, part) in &SNAPSHOTS {
-        if taken == group {
-            return Ok(Some(Change::Snapshot {
-                volume: name_of(alloc, &VOLUMES[0])?,
-                part: Name::new(vec![in alloc; part; 1]?),
-            }));
-        }
+}
+
+fn snapshot(alloc: Global, part: u8) -> Result<Change, AllocError> {
+    Ok(Change::Snapshot {
+        volume: name_of(alloc, &VOLUMES[0])?,
+        part: Name::new(vec![in alloc; part; 1]?),
+    })
+}
+
+/// What a group of a round destroys: the clone, the snapshots, now the first one first and now the second, or the larger volume.
+fn gone_in(group: u64) -> &'static [u8] {
+    let is_odd = group / ROUND % 2 == 1;
+    match group % ROUND {
+        CLONE_GONE => b"u",
+        300 if is_odd => b"v@b",
+        300 => b"v@a",
+        350 if is_odd => b"v@a",
+        350 => b"v@b",
+        380 => b"w",
+        _ => b"",
     }
-    Ok(None)
+}
+
+fn destroyed_in(alloc: Global, group: u64) -> Result<Vec<Name>, AllocError> {
+    let mut names = Vec::new(alloc);
+    let name = gone_in(group);
+    if !name.is_empty() {
+        names.push(Name::new(Vec::from_slice(alloc, name)?))?;
+    }
+    Ok(names)
 }
 
 fn accept_change(pipeline: &mut Pipeline, alloc: Global, group: u64) -> Result<(), Fail> {
@@ -223,7 +255,8 @@ impl InUse {
     }
 }
 
-/// The root behind another one, after what a group has accepted, once what it replaces is given back, and all is stored.
+/// The root behind another one, without what a group destroys and after what it has accepted, once what it replaces is given back, and all is
+/// stored.
 fn next(
     before: &FirstRoot,
     store: &mut Store,
@@ -232,9 +265,18 @@ fn next(
     in_use: &mut InUse,
 ) -> Result<FirstRoot, Refusal> {
     let group = before.root.birth.saturating_add(1);
+    let gone = destroyed_in(alloc, group)?;
     let items = pipeline.open_items();
     store.begin_plan(group)?;
-    let after = after_group(&before.root, store, alloc, group, &before.directory, items)?;
+    let after = after_group(
+        &before.root,
+        store,
+        alloc,
+        group,
+        &before.directory,
+        &gone,
+        items,
+    )?;
     store.release(&after.replaced, group)?;
     in_use.give_back(sectors_of(&after.replaced));
     store_plan(store);

@@ -78,17 +78,19 @@ pub(crate) fn next_root(
     Ok(next_group(root, store, alloc, item)?.root)
 }
 
-/// The root after what a group has accepted, by the directory under the root before, once it is stored.
-fn planned(
+/// The root after a group that destroys these names and what it has accepted, by the directory under the root before, once it is stored.
+pub(crate) fn planned(
     root: &Block,
     store: &mut Store,
     alloc: Global,
+    destroyed: &[Name],
     pipeline: &Pipeline,
 ) -> Result<NextRoot, Refusal> {
     let group = root.birth.saturating_add(1);
     let directory = directory_under(root, store, alloc, root.birth, &[])?;
     store.drop_plan(group);
-    let next = after_group(root, store, alloc, group, &directory, pipeline.open_items());
+    let items = pipeline.open_items();
+    let next = after_group(root, store, alloc, group, &directory, destroyed, items);
     store_plan(store);
     next
 }
@@ -101,7 +103,7 @@ pub(crate) fn next_group(
     item: Item,
 ) -> Result<NextRoot, Fail> {
     let pipeline = group_of(alloc, item)?;
-    planned(root, store, alloc, &pipeline).map_err(Fail::from)
+    planned(root, store, alloc, &[], &pipeline).map_err(Fail::from)
 }
 
 /// The bytes of `v` from one on.
@@ -141,7 +143,7 @@ pub(crate) fn written_root(store: &mut Store, alloc: Global) -> Result<Block, Fa
 }
 
 /// Whether `v` reads as it is to under a root: after the write, or as zeros.
-fn is_read(root: &Block, store: &mut Store, alloc: Global, written: bool) -> bool {
+pub(crate) fn is_read(root: &Block, store: &mut Store, alloc: Global, written: bool) -> bool {
     match bytes_from(root, store, alloc, FROM) {
         Ok(bytes) => is_after(&bytes, written),
         Err(_) => false,

@@ -301,7 +301,7 @@ fn written_of_many(store: &mut CountedStore, alloc: Global, count: u8) -> Result
     store.drop_plan(2);
     let root = &first.root;
     let items = pipeline.open_items();
-    after_group(root, store, alloc, 2, &first.directory, items).map_err(Fail::from)
+    after_group(root, store, alloc, 2, &first.directory, &[], items).map_err(Fail::from)
 }
 
 /// The group that it is born in.

@@ -3,7 +3,11 @@
 #![tactic(auto)]
 
 #[cfg(test)]
+mod chains;
+#[cfg(test)]
 mod contents;
+#[cfg(test)]
+mod destroyed;
 #[cfg(test)]
 mod groups;
 #[cfg(test)]

@@ -35,7 +35,7 @@ fn reached(
 }
 
 /// Whether the blocks that were replaced are those that the root before leads to and the one after doesn't, each once.
-fn has_left(
+pub(crate) fn has_left(
     before: &Block,
     next: &NextRoot,
     store: &mut Store,

@@ -1,9 +1,11 @@
 use Rattle.std.proofs.Common.{inl}
 use Rattle.std.proofs.lemmas.Result.{IfErr-weaker, on_ok_weaker}
 use Rattle.block_store.proofs.Steps.{reads_on}
+use Rattle.dataset_chains.proofs.Touching.{read_at_most}
 use Rattle.meta_objset.specs.declared.record.DatasetKind.TheVariants.{Volume, Snapshot}
 use Rattle.dataset_destroys.proofs.EachKind.{behind, is_used, kept_behind, made_of_head, made_of_snapshot, may_head, may_snapshot}
 use Rattle.dataset_destroys.proofs.Refusing.{passed_on}
+use Rattle.dataset_destroys.proofs.Touching.{own_lists_behind, touched_behind}
 use Rattle.dataset_destroys.proofs.destroying.destroy.Goals as goal
 
 pub returns-in_err-dataset-clause-refused : goal.returns-in_err-dataset-clause-refused
@@ -55,3 +57,25 @@ returns-in-Volume-clause-known g c = IfErr-weaker c.destroy_head.result _ _ (λ 
     let at = behind _ _ _ c.args.changes.now c.record.new.self c.args.number c.args.group c.in_ok-dataset.dataset c.in_ok-dataset.ensures.reads c.record.ensures.one_set c.destroy_head.ensures.reads
     c.record.ensures.lists c.in_ok-dataset.ensures.kept c.in_ok-dataset.ensures.value stored objects own blocks pool readings held are honest spells Volume c.in-Volume.is in
     known stored objects own blocks pool readings at.held at.are at.honest at.spells (may_head pool c.args.number at.kind_as may) (enough at.kind_as)) c.destroy_head.ensures.known
+
+pub returns-in-Snapshot-clause-touched : goal.returns-in-Snapshot-clause-touched
+returns-in-Snapshot-clause-touched g c = on_ok_weaker c.destroy_snapshot.result (touched_behind c.args.changes.now c.record.new.self c.destroy_snapshot.new.changes c.args.number c.record.ensures.one_set
+    (read_at_most c.args.changes.now c.record.new.self c.args.number c.in_ok-dataset.dataset c.in_ok-dataset.ensures.kept) c.record.ensures.lists) c.destroy_snapshot.ensures.touched
+
+pub returns-in-Volume-clause-touched : goal.returns-in-Volume-clause-touched
+returns-in-Volume-clause-touched g c = on_ok_weaker c.destroy_head.result (touched_behind c.args.changes.now c.record.new.self c.destroy_head.new.changes c.args.number c.record.ensures.one_set
+    (read_at_most c.args.changes.now c.record.new.self c.args.number c.in_ok-dataset.dataset c.in_ok-dataset.ensures.kept) c.record.ensures.lists) c.destroy_head.ensures.touched
+
+pub returns-in-Snapshot-clause-own_lists : goal.returns-in-Snapshot-clause-own_lists
+returns-in-Snapshot-clause-own_lists g c = on_ok_weaker c.destroy_snapshot.result (λ there stored objects own blocks pool readings held are honest spells may.
+    let at = behind _ _ _ c.args.changes.now c.record.new.self c.args.number c.args.group c.in_ok-dataset.dataset c.in_ok-dataset.ensures.reads c.record.ensures.one_set c.destroy_snapshot.ensures.reads
+    c.record.ensures.lists c.in_ok-dataset.ensures.kept c.in_ok-dataset.ensures.value stored objects own blocks pool readings held are honest spells Snapshot c.in-Snapshot.is in
+    own_lists_behind objects c.args.changes.now c.record.new.self c.destroy_snapshot.new.changes c.record.ensures.lists
+    (there stored stored c.args.group objects own blocks pool readings at.held at.are at.honest at.spells (may_snapshot pool c.args.number at.kind_as may))) c.destroy_snapshot.ensures.own_lists
+
+pub returns-in-Volume-clause-own_lists : goal.returns-in-Volume-clause-own_lists
+returns-in-Volume-clause-own_lists g c = on_ok_weaker c.destroy_head.result (λ there stored objects own blocks pool readings held are honest spells may.
+    let at = behind _ _ _ c.args.changes.now c.record.new.self c.args.number c.args.group c.in_ok-dataset.dataset c.in_ok-dataset.ensures.reads c.record.ensures.one_set c.destroy_head.ensures.reads
+    c.record.ensures.lists c.in_ok-dataset.ensures.kept c.in_ok-dataset.ensures.value stored objects own blocks pool readings held are honest spells Volume c.in-Volume.is in
+    own_lists_behind objects c.args.changes.now c.record.new.self c.destroy_head.new.changes c.record.ensures.lists
+    (there stored objects own blocks pool readings at.held at.are at.honest at.spells (may_head pool c.args.number at.kind_as may))) c.destroy_head.ensures.own_lists

@@ -1,4 +1,4 @@
-use Rattle.std.proofs.Common.{◌∙◌, inl, inr, refl, ap, arith}
+use Rattle.std.proofs.Common.{◌∙◌, inl, inr, refl, ap, subst, arith}
 use Rattle.block_store.proofs.Steps.{reads_on}
 use Rattle.dnode_tree.specs.Younger.{younger}
 use Rattle.volume.specs.Walking.{blocks_of_volume}
@@ -7,6 +7,7 @@ use Rattle.dataset_destroys.proofs.Destroyed.{records_on}
 use Rattle.dataset_destroys.proofs.HeadFinding.{known_same, tree_since}
 use Rattle.dataset_destroys.proofs.ReadSteps.{tells_first, tells_rest}
 use Rattle.dataset_destroys.proofs.Refusing.{passed_on}
+use Rattle.dataset_destroys.proofs.Touching.{AreBesideTouched, head_own_lists, head_touched}
 use Rattle.dataset_destroys.specs.Steps.{TellsObjects}
 use Rattle.dataset_destroys.proofs.heads.destroy_head.Goals as goal
 
@@ -115,3 +116,21 @@ returns-clause-value g c = λ stored objects own blocks pool readings held are h
     c.operations_free_what_nothing_reaches.ensures.sound it.0 c.in_ok-free_list.ensures.put c.in_ok-free_list.ensures.records left c.in_ok-leave.ensures.lists leads
     (young ∙ ap (λ since. younger since (blocks_of_volume place.gone.object_set leads.bytes.set leads.bytes.has.own leads.bytes.has.blocks)) c.since.ensures) in
     (c.in_ok-young.young.items, c.in_ok-append.ensures.items, done.0, done.1, done.2)
+
+pub returns-clause-touched : goal.returns-clause-touched
+returns-clause-touched g c =
+    let place = c.in_ok-place.place in
+    let freed = c.free_list.new.self in
+    let left = subst (λ number. AreBesideTouched freed c.leave.new.changes number place.gone) c.in_ok-place.ensures.number c.in_ok-leave.ensures.touched in
+    head_touched c.args.changes.now c.find.new.changes c.leave.new.changes c.args.head place.gone c.in_ok-place.ensures.one_set c.in_ok-place.ensures.touched c.in_ok-place.ensures.lists
+    c.in_ok-place.ensures.known_as freed _ c.in_ok-free_list.ensures.put c.in_ok-free_list.ensures.records left c.in_ok-leave.ensures.lists
+
+pub returns-clause-own_lists : goal.returns-clause-own_lists
+returns-clause-own_lists g c = λ stored objects own blocks pool readings held are honest spells may.
+    let old = c.args.changes.now in
+    let place = c.in_ok-place.place in
+    let told : TellsObjects c.args.store.now c.younger_blocks.new.store old stored objects = record { own = own; blocks = blocks; held = held; are = are; honest = honest } in
+    let it = c.in_ok-place.ensures.value stored objects (tells_first _ _ _ old stored objects c.in_ok-place.ensures.reads c.in_ok-young.ensures.reads told) spells.over in
+    let tells = head_tells stored c.args.group objects old pool readings spells c.args.head may place c.in_ok-place.ensures.number it.1 in
+    head_own_lists objects old c.find.new.changes c.leave.new.changes c.in_ok-place.ensures.lists c.free_list.new.self place.gone.dead_list _ _ tells.dead
+    c.in_ok-free_list.ensures.put c.in_ok-leave.ensures.lists

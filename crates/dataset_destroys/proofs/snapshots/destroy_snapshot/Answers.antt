@@ -1,8 +1,9 @@
-use Rattle.std.proofs.Common.{inl, inr, refl}
+use Rattle.std.proofs.Common.{◌≢◌, inl, inr, refl, subst, arith}
 use Rattle.block_store.proofs.Steps.{reads_on}
 use Rattle.dataset_destroys.proofs.Destroyed.{after_as, destroyed, gone_as, lists_apart, place_apart, placed_same, records_on}
 use Rattle.dataset_destroys.proofs.ReadSteps.{list_lost_on, same_lists, tells_first, tells_rest}
 use Rattle.dataset_destroys.proofs.Refusing.{passed_on}
+use Rattle.dataset_destroys.proofs.Touching.{AreBesideTouched, snapshot_own_lists, snapshot_touched}
 use Rattle.dataset_destroys.specs.Steps.{TellsObjects}
 use Rattle.dataset_destroys.proofs.snapshots.destroy_snapshot.Goals as goal
 
@@ -86,3 +87,27 @@ returns-clause-value g c = λ stored known group objects own blocks pool reading
     let done = destroyed known group objects old pool readings spells c.args.snapshot may place number it.1 c.find.new.changes c.give_over.new.changes c.link_past.new.changes c.free_list.new.self given.0 _
     c.operations_free_what_nothing_reaches.ensures.sound it.0 given.2 c.in_ok-give_over.ensures.records passed c.in_ok-link_past.ensures.lists c.in_ok-free_list.ensures.put c.in_ok-free_list.ensures.records over in
     (given.0, given.1, done.0, done.1, done.2)
+
+pub returns-clause-touched : goal.returns-clause-touched
+returns-clause-touched g c =
+    let place = c.in_ok-place.place in
+    let looked = c.find.new.changes in
+    let given = c.give_over.new.changes in
+    let linked = c.link_past.new.changes in
+    let some : place.gone.next ≢ 0 = λ none. omega (arith, none, c.in_ok-place.ensures.fits.next.0) in
+    let passed = subst (λ number. AreBesideTouched given linked number place.gone) c.in_ok-place.ensures.number c.in_ok-link_past.ensures.touched in
+    snapshot_touched c.args.changes.now looked c.free_list.new.self c.args.snapshot place.gone c.in_ok-place.ensures.one_set c.in_ok-place.ensures.touched c.in_ok-place.ensures.lists
+    c.in_ok-place.ensures.known_as given linked place.after _ c.in_ok-place.ensures.lone.kind c.in_ok-place.ensures.known_after some c.in_ok-give_over.ensures.records c.in_ok-give_over.ensures.touched passed
+    c.in_ok-link_past.ensures.lists c.in_ok-free_list.ensures.put c.in_ok-free_list.ensures.records
+
+pub returns-clause-own_lists : goal.returns-clause-own_lists
+returns-clause-own_lists g c = λ stored known group objects own blocks pool readings held are honest spells may.
+    let old = c.args.changes.now in
+    let place = c.in_ok-place.place in
+    let number = c.in_ok-place.ensures.number in
+    let told : TellsObjects c.args.store.now c.give_over.new.store old stored objects = record { own = own; blocks = blocks; held = held; are = are; honest = honest } in
+    let it = c.in_ok-place.ensures.value stored objects (tells_first _ _ _ old stored objects c.in_ok-place.ensures.reads c.in_ok-give_over.ensures.reads told) spells.over in
+    let gone = gone_as known group objects old pool readings spells c.args.snapshot may place number it.1 in
+    let after = after_as known group objects old pool readings spells c.args.snapshot may place number it.1 in
+    snapshot_own_lists objects old c.find.new.changes c.free_list.new.self c.in_ok-place.ensures.lists c.give_over.new.changes c.link_past.new.changes place.gone.dead_list place.after.dead_list
+    _ _ _ gone.dead after.dead c.in_ok-give_over.ensures.touched c.in_ok-link_past.ensures.lists c.in_ok-free_list.ensures.put

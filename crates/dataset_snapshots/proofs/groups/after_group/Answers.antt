@@ -1,4 +1,4 @@
-use Rattle.std.proofs.Common.{◌≤◌, ◌++◌, [], List, ap, sym, subst, ◌∙◌, refl, arith, ◌≡◌, ◌∷◌, inl}
+use Rattle.std.proofs.Common.{◌-◌, ◌≤◌, ◌++◌, [], List, ap, sym, subst, ◌∙◌, refl, arith, ◌≡◌, ◌∷◌, inl}
 use Rattle.std.specs.Prelude.{All, fold}
 use Rattle.std.proofs.lemmas.Result.{IfErr-weaker}
 use Rattle.block_store.proofs.Steps.{steps_on, steps_read, true_before, true_after}
@@ -8,15 +8,15 @@ use Rattle.dnode_tree.proofs.Refusing.{passed_on}
 use Rattle.objset.specs.declared.changes.ObjectChange.{ObjectChange}
 use Rattle.objset.specs.Changes.{MayChange, changed}
 use Rattle.pool_model.specs.declared.item.Action.{Action}
-use Rattle.pool_model.specs.Pools.{applied, written}
-use Rattle.pool_model.specs.Pools.{changed as pool_changed}
+use Rattle.pool_model.specs.Pools.{applied}
 use Rattle.dnode.specs.declared.object_set.ObjectSet.{ObjectSet}
 use Rattle.dnode.specs.declared.object_set.ObjectSetKind.TheVariants.{Meta}
 use Rattle.block_pointer.specs.declared.block.Block.{Block}
 use Rattle.objset.specs.Within.{blocks_of_set}
 use Rattle.pool_model.specs.Pools.{PlainPool}
 use Rattle.dataset_snapshots.specs.Reach.{volume_blocks_of}
-use Rattle.dataset_snapshots.proofs.GroupReach.{AreVolumesGiven, IsRootGiven}
+use Rattle.dataset_snapshots.proofs.GroupReach.{items_given, replaced_are, root_given}
+use Rattle.dataset_groups.specs.Destroys.{all_destroyed}
 use Rattle.dataset_groups.specs.NewVolumes.{AreGoodChanges}
 use Rattle.objset.specs.Objects.{AreObjects}
 use Rattle.std.specs.Prelude.{AllPairs}
@@ -26,6 +26,7 @@ use Rattle.block_store.specs.Spaces.{VdevSpace}
 use Rattle.block_store.specs.Store.{Store}
 use Rattle.pool_maps.specs.Maps.{AreMapsOf}
 use Rattle.dataset_snapshots.specs.Mapped.{StandsOnce}
+use Rattle.dataset_snapshots.proofs.FewBlocks.{few_blocks}
 use Rattle.dataset_snapshots.proofs.MetaPlaces.{root_places_same}
 use Rattle.dataset_snapshots.proofs.NextMaps.{group_value}
 use Rattle.dataset_snapshots.specs.Demands.{AreMappedRefused, HasMappedPlaces, HasRootPlaces, IsRootRefused}
@@ -38,8 +39,8 @@ returns-in_err-opened-clause-steps g c = steps_read _ _ _ c.in_err-opened.ensure
 
 pub returns-in_err-opened-clause-known : goal.returns-in_err-opened-clause-known
 returns-in_err-opened-clause-known g c =
-    passed_on _ _ _ c.from_residual.ensures.1 (λ stored planned pool plans is same maps stands honest good.
-    loss_in_plan _ (c.in_err-opened.ensures.known stored pool plans.held is same honest))
+    passed_on _ _ _ c.from_residual.ensures.1 (λ stored planned pool plans is same maps stands honest may good.
+    loss_in_plan _ (c.in_err-opened.ensures.known stored pool plans.held is same may (few_blocks c.args.store.now stored planned plans (omega (arith, c.vdev_count-vdevs.ensures.count, c.vdev_count-vdevs.ensures.few)) _ c.args.root.now pool is) honest))
 
 pub mapped_changes-requires-clause-opened : goal.mapped_changes-requires-clause-opened
 mapped_changes-requires-clause-opened g c = (c.args.items.now.writes, c.in_ok-opened.ensures.opened)
@@ -54,12 +55,12 @@ returns-in_err-made-clause-known g c =
     let mid : Store = c.mapped_changes.new.store in
     let first = c.in_ok-opened.ensures.reads in
     let unchanged : old.spaces ≡ read.spaces = sym (ap (λ (s : Store). s.spaces) first.rest) in
-    passed_on _ _ _ c.from_residual-in_err-made.ensures.1 (λ stored planned pool plans is same maps stands honest good.
+    passed_on _ _ _ c.from_residual-in_err-made.ensures.1 (λ stored planned pool plans is same maps stands honest may good.
     let before = true_before old read mid c.mapped_changes.ensures.steps.reads honest in
     let after = true_after old read mid first.reads honest in
     let early = c.in_ok-opened.ensures.early in
-    c.in_err-made.ensures.known stored planned _ c.args.root.now pool _ (first.plans stored planned plans) is refl (omega (arith, early)) c.in_ok-opened.ensures.opened
-    (c.in_ok-opened.ensures.value stored pool plans.held is same before) (subst (λ (spaces : List VdevSpace). AreMapsOf is.objects spaces filled) unchanged maps.maps)
+    c.in_err-made.ensures.known stored planned _ c.args.root.now pool _ (first.plans stored planned plans) is c.args.destroyed.now refl (omega (arith, early)) c.in_ok-opened.ensures.opened
+    (c.in_ok-opened.ensures.value stored pool plans.held is same may before) (subst (λ (spaces : List VdevSpace). AreMapsOf is.objects spaces filled) unchanged maps.maps)
     (subst (λ (spaces : List VdevSpace). StandsOnce spaces is) unchanged stands) after (subst AreGoodChanges (sym c.actions.ensures) good))
 
 pub returns-clause-steps : goal.returns-clause-steps
@@ -77,35 +78,29 @@ returns-clause-value g c =
     let both = steps_on old read mid [] (steps_read old read [] first) second in
     let root = c.in_ok-next.next in
     let gone : List Block = c.mapped_changes.new.gone.items in
-    λ stored planned pool plans is same maps honest.
+    λ stored planned pool plans is same maps may honest.
     let so_far = true_before old mid new c.plan_root.ensures.steps.reads honest in
     let early = c.in_ok-opened.ensures.early in
     let below : c.args.root.now.birth < c.args.group = omega (arith, early) in
     let le : c.args.root.now.birth ≤ c.args.group = omega (arith, below) in
-    let from = c.in_ok-opened.ensures.value stored pool plans.held is same (true_before old read mid second.reads so_far) in
-    let changes = c.in_ok-made.ensures.value stored planned _ c.args.root.now pool _ (first.plans stored planned plans) is refl below c.in_ok-opened.ensures.opened from
+    let from = c.in_ok-opened.ensures.value stored pool plans.held is same may (true_before old read mid second.reads so_far) in
+    let changes = c.in_ok-made.ensures.value stored planned _ c.args.root.now pool _ (first.plans stored planned plans) is c.args.destroyed.now refl below c.in_ok-opened.ensures.opened from
     (subst (λ (spaces : List VdevSpace). AreMapsOf is.objects spaces filled) unchanged maps.maps) (true_after old read mid first.reads so_far) in
     let are = subst (λ (s : ObjectSet). AreObjects stored c.args.root.now.birth s is.objects is.own is.blocks) (sym from.set) is.are in
     let made = c.in_ok-next.ensures.value stored changes.0 c.args.root.now.birth is.objects is.own is.blocks changes.1 are le
     (true_after old mid new both.reads honest) in
     let list : List ObjectChange = c.in_ok-made.made.changes.items in
-    let of_list : IsRootGiven changes.0 made.0 c.args.group root c.in_ok-opened.opened.set.kind (changed list is.objects) (blocks_of_set c.in_ok-opened.opened.set is.own is.blocks) made.4 =
-    subst (λ (cs : List ObjectChange). IsRootGiven changes.0 made.0 c.args.group root c.in_ok-opened.opened.set.kind (changed cs is.objects)
-    (blocks_of_set c.in_ok-opened.opened.set is.own is.blocks) made.4) c.deref-2.ensures.value (made.3, made.6) in
-    let of_kind = subst (λ (kind : ObjectSetKind). IsRootGiven changes.0 made.0 c.args.group root kind (changed list is.objects) (blocks_of_set c.in_ok-opened.opened.set is.own is.blocks) made.4)
-    c.in_ok-opened.ensures.kind of_list in
-    let set = subst (λ (s : ObjectSet). IsRootGiven changes.0 made.0 c.args.group root Meta (changed list is.objects) (blocks_of_set s is.own is.blocks) made.4) from.set of_kind in
-    let items : List Action → PlainPool = λ actions. fold (λ p a. pool_changed c.args.group p a.change) (fold written pool c.args.items.now.writes) actions in
     let before : List Block = volume_blocks_of is in
-    let of_items : AreVolumesGiven planned changes.0 c.args.group is.objects list (items c.args.items.now.actions) before gone c.in_ok-made.made.directory =
-    subst (λ (actions : List Action). AreVolumesGiven planned changes.0 c.args.group is.objects list (items actions) before gone c.in_ok-made.made.directory)
-    c.actions.ensures (changes.3, changes.4, changes.5) in
-    let replaced_is : c.plan_root.new.replaced.items ≡ ((c.args.root.now ∷ []) ++ gone) ++ made.4 =
-    made.5 ∙ ap (λ (bs : List Block). bs ++ made.4) (c.in_ok-extend_from_slice.ensures.items ∙ ap (λ (bs : List Block). bs ++ c.deref.result.now) c.in_ok-replaced.ensures
-    ∙ ap (λ (bs : List Block). (c.args.root.now ∷ []) ++ bs) c.deref.ensures.value) in
+    let after : PlainPool = all_destroyed c.args.destroyed.now pool in
+    let set = root_given changes.0 made.0 c.args.group root c.in_ok-opened.opened.set is.set c.deref-2.result.now list is.objects is.own is.blocks made.4 c.deref-2.ensures.value
+    c.in_ok-opened.ensures.kind from.set (made.3, made.6) in
+    let of_items = items_given planned changes.0 c.args.group is.objects list after c.args.items.now c.actions.result.now before gone c.in_ok-made.made.directory c.actions.ensures
+    (changes.3, changes.4, changes.5) in
+    let replaced_is = replaced_are c.args.root.now c.in_ok-replaced.replaced.items c.extend_from_slice.new.self.items gone c.deref.result.now made.4 c.plan_root.new.replaced.items
+    c.in_ok-replaced.ensures c.in_ok-extend_from_slice.ensures.items c.deref.ensures.value made.5 in
     let places = subst (λ (cs : List ObjectChange). HasRootPlaces mid new c.in_ok-opened.opened.set c.args.group cs) c.deref-2.ensures.value c.in_ok-next.ensures.places in
     let same_before = root_places_same mid new c.in_ok-opened.opened.set c.args.group list places in
-    group_value stored planned changes.0 made.0 _ c.args.group c.args.root.now root pool (applied c.args.group pool c.args.items.now) is maps.copied list
+    group_value stored planned changes.0 made.0 (c.args.group - 1) c.args.group c.args.root.now root pool (applied c.args.group after c.args.items.now) is maps.copied list
     gone made.4 c.plan_root.new.replaced.items c.in_ok-made.made.directory mid new changes.1.held made.1 changes.2 made.2 of_items changes.6 set made.7 c.in_ok-next.ensures.born replaced_is changes.7 same_before
 
 pub returns-in_err-next-clause-steps : goal.returns-in_err-next-clause-steps
@@ -124,13 +119,13 @@ returns-in_err-next-clause-known g c =
     let second = c.in_ok-made.ensures.steps in
     let unchanged : old.spaces ≡ read.spaces = sym (ap (λ (s : Store). s.spaces) first.rest) in
     let both = steps_on old read mid [] (steps_read old read [] first) second in
-    passed_on _ _ _ c.from_residual-in_err-next.ensures.1 (λ stored planned pool plans is same maps stands honest good.
+    passed_on _ _ _ c.from_residual-in_err-next.ensures.1 (λ stored planned pool plans is same maps stands honest may good.
     let so_far = true_before old mid new c.plan_root.ensures.steps.reads honest in
     let early = c.in_ok-opened.ensures.early in
     let below : c.args.root.now.birth < c.args.group = omega (arith, early) in
     let le : c.args.root.now.birth ≤ c.args.group = omega (arith, below) in
-    let from = c.in_ok-opened.ensures.value stored pool plans.held is same (true_before old read mid second.reads so_far) in
-    let changes = c.in_ok-made.ensures.value stored planned _ c.args.root.now pool _ (first.plans stored planned plans) is refl below c.in_ok-opened.ensures.opened from
+    let from = c.in_ok-opened.ensures.value stored pool plans.held is same may (true_before old read mid second.reads so_far) in
+    let changes = c.in_ok-made.ensures.value stored planned _ c.args.root.now pool _ (first.plans stored planned plans) is c.args.destroyed.now refl below c.in_ok-opened.ensures.opened from
     (subst (λ (spaces : List VdevSpace). AreMapsOf is.objects spaces filled) unchanged maps.maps) (true_after old read mid first.reads so_far) in
     let are = subst (λ (s : ObjectSet). AreObjects stored c.args.root.now.birth s is.objects is.own is.blocks) (sym from.set) is.are in
     c.in_err-next.ensures.known stored changes.0 c.args.root.now.birth is.objects is.own is.blocks changes.1 are (omega arith) le
@@ -140,7 +135,7 @@ returns-in_err-next-clause-known g c =
 pub returns-in_err-opened-clause-refused : goal.returns-in_err-opened-clause-refused
 returns-in_err-opened-clause-refused g c =
     passed_on _ _ _ c.from_residual.ensures.1
-    (group_unread c.args.store.now c.open_group.new.store c.args.root.now c.args.directory.now c.args.group c.args.items.now c.args.items.now.writes _ refl c.in_err-opened.ensures.refused)
+    (group_unread c.args.store.now c.open_group.new.store c.args.root.now c.args.directory.now c.args.group c.args.destroyed.now c.args.items.now c.args.items.now.writes _ refl c.in_err-opened.ensures.refused)
 
 pub returns-in_err-made-clause-refused : goal.returns-in_err-made-clause-refused
 returns-in_err-made-clause-refused g c =
@@ -148,7 +143,7 @@ returns-in_err-made-clause-refused g c =
     let found = c.in_ok-opened.ensures.found in
     IfErr-weaker c.from_residual-in_err-made.result _ _
     (λ refusal why.
-    group_volumes_refused c.args.store.now c.open_group.new.store c.open_group.new.store c.mapped_changes.new.store c.args.root.now c.args.directory.now c.args.group c.args.items.now opened c.in_ok-opened.ensures.reads found refusal
+    group_volumes_refused c.args.store.now c.open_group.new.store c.open_group.new.store c.mapped_changes.new.store c.args.root.now c.args.directory.now c.args.group c.args.destroyed.now c.args.items.now opened c.in_ok-opened.ensures.reads found refusal
     (subst (λ (actions : List Action). AreMappedRefused c.open_group.new.store c.mapped_changes.new.store c.args.root.now.birth c.args.group opened actions refusal) c.actions.ensures why))
     (passed_on _ _ _ c.from_residual-in_err-made.ensures.1 c.in_err-made.ensures.refused)
 
@@ -165,9 +160,10 @@ returns-clause-places g c =
     let behind = c.in_ok-next.ensures.behind in
     let volumes = subst (λ (actions : List Action). HasMappedPlaces c.open_group.new.store c.mapped_changes.new.store c.args.root.now.birth c.args.group opened actions gone list) c.actions.ensures
     c.in_ok-made.ensures.places in
-    group_has c.args.store.now c.open_group.new.store c.mapped_changes.new.store c.plan_root.new.store c.args.root.now c.args.directory.now c.args.group c.args.items.now opened c.in_ok-opened.ensures.reads found gone behind.0 c.plan_root.new.replaced.items list
+    group_has c.args.store.now c.open_group.new.store c.mapped_changes.new.store c.plan_root.new.store c.args.root.now c.args.directory.now c.args.group c.args.destroyed.now c.args.items.now opened c.in_ok-opened.ensures.reads found gone c.in_ok-made.ensures.behind.0 behind.0 c.plan_root.new.replaced.items list
     c.in_ok-made.ensures.steps volumes
     (subst (λ (cs : List ObjectChange). HasRootPlaces c.mapped_changes.new.store c.plan_root.new.store opened.set c.args.group cs) c.deref-2.ensures.value c.in_ok-next.ensures.places)
+    c.in_ok-made.ensures.behind.1
     (behind.1 ∙ ap (λ (bs : List Block). bs ++ behind.0) (c.in_ok-extend_from_slice.ensures.items ∙ ap (λ (bs : List Block). bs ++ c.deref.result.now) c.in_ok-replaced.ensures
     ∙ ap (λ (bs : List Block). (c.args.root.now ∷ []) ++ bs) c.deref.ensures.value))
 
@@ -181,7 +177,7 @@ returns-in_err-next-clause-refused g c =
     c.in_ok-made.ensures.places in
     IfErr-weaker c.from_residual-in_err-next.result _ _
     (λ refusal why.
-    group_changes_refused c.args.store.now c.open_group.new.store c.mapped_changes.new.store c.plan_root.new.store c.args.root.now c.args.directory.now c.args.group c.args.items.now opened c.in_ok-opened.ensures.reads found gone list refusal
+    group_changes_refused c.args.store.now c.open_group.new.store c.mapped_changes.new.store c.plan_root.new.store c.args.root.now c.args.directory.now c.args.group c.args.destroyed.now c.args.items.now opened c.in_ok-opened.ensures.reads found gone list refusal
     c.in_ok-made.ensures.steps volumes
     (subst (λ (cs : List ObjectChange). IsRootRefused c.mapped_changes.new.store c.plan_root.new.store opened.set c.args.root.now.birth c.args.group cs refusal) c.deref-2.ensures.value why))
     (passed_on _ _ _ c.from_residual-in_err-next.ensures.1 c.in_err-next.ensures.refused)
@@ -191,8 +187,8 @@ returns-in_err-extend_from_slice-clause-steps g c = steps_on _ _ _ _ (steps_read
 
 pub returns-in_err-replaced-clause-known : goal.returns-in_err-replaced-clause-known
 returns-in_err-replaced-clause-known g c =
-    passed_on _ NoMemory _ c.from_residual-in_err-replaced.ensures.1 (λ stored planned pool plans is same maps stands honest good. inl (inl refl))
+    passed_on _ NoMemory _ c.from_residual-in_err-replaced.ensures.1 (λ stored planned pool plans is same maps stands honest may good. inl (inl refl))
 
 pub returns-in_err-extend_from_slice-clause-known : goal.returns-in_err-extend_from_slice-clause-known
 returns-in_err-extend_from_slice-clause-known g c =
-    passed_on _ NoMemory _ c.from_residual-in_err-extend_from_slice.ensures.1 (λ stored planned pool plans is same maps stands honest good. inl (inl refl))
+    passed_on _ NoMemory _ c.from_residual-in_err-extend_from_slice.ensures.1 (λ stored planned pool plans is same maps stands honest may good. inl (inl refl))

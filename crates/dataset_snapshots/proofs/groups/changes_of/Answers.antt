@@ -1,32 +1,52 @@
-use Rattle.std.proofs.Common.{◌≡◌, ℕ, List, [], ⊎_elim, inl, inr, sym, subst, ◌∙◌, arith}
+use Rattle.std.proofs.Common.{◌≡◌, ◌++◌, ◌+◌, ◌*◌, length, ℕ, false, List, [], ⊎_elim, inl, inr, sym, ap, subst, ◌∙◌, arith}
+use Rattle.std.proofs.lemmas.List.{append_assoc}
 use Rattle.std.specs.Prelude.{fold}
 use Rattle.std.proofs.lemmas.Result.{IfErr-weaker, IfOk-weaker}
 use Rattle.block_pointer.specs.declared.block.Block.{Block}
-use Rattle.block_store.proofs.Steps.{steps_on, true_before, true_after}
+use Rattle.block_store.proofs.Steps.{steps_none, steps_on, true_before, true_after}
 use Rattle.dataset_groups.specs.declared.datasets.GroupDatasets.{GroupDatasets}
 use Rattle.dataset_groups.specs.Leaving.{IsReachExchanged}
 use Rattle.dataset_groups.specs.Names.{reach_by}
 use Rattle.dnode_tree.proofs.Refusing.{ok_both, passed_on}
 use Rattle.meta_objset.specs.declared.directory.DirectoryRow.{DirectoryRow}
-use Rattle.pool_model.specs.Pools.{written}
+use Rattle.pool_model.specs.Pools.{PlainPool, written}
 use Rattle.pool_model.specs.Pools.{changed as pool_changed}
-use Rattle.dataset_snapshots.specs.Demands.{HasDatasetChanges}
+use Rattle.dataset_groups.specs.Destroys.{all_destroyed}
+use Rattle.dataset_snapshots.specs.Demands.{are_renamed}
 use Rattle.dataset_snapshots.proofs.BelowNext.{not_misnumbered}
 use Rattle.dataset_snapshots.proofs.Copied.{adds_on}
-use Rattle.dataset_snapshots.proofs.Exchanges.{given_then}
+use Rattle.dataset_snapshots.proofs.Exchanges.{given_then, gone_first}
+use Rattle.dataset_snapshots.proofs.GroupDemands.{on_ok}
 use Rattle.dataset_snapshots.proofs.GroupsLeft.{begun, left_by, objects_still}
-use Rattle.dataset_snapshots.proofs.GroupsTouched.{actions_refused, datasets_refused, idle_rows, volumes_have}
+use Rattle.dataset_snapshots.proofs.GroupsTouched.{actions_refused, datasets_refused, idle_rows, renamed_so, renamed_then, volumes_have}
+use Rattle.dataset_snapshots.proofs.groups.changes_of.Given.{Over}
 use Rattle.dataset_snapshots.proofs.groups.changes_of.Goals as goal
+use Rattle.dataset_snapshots.proofs.groups.changes_of.Goals.{then-renamed, else-renamed}
+
+-- names come where they went or some were made
+renamed_is : (g : Over) (c : goal.After-drop-freed-2 g) → c.if-renamed.renamed ≡ are_renamed c.args.opened.renamed c.in_ok-act_all.ensures.places.made
+renamed_is g c =
+    let makes = c.in_ok-act_all.ensures.places in
+    let next = makes.names.next ∙ ap (λ (n : ℕ). n + 2 * length makes.made) c.write_all.ensures.next in
+    elim c.if-renamed.branch [
+      | then-renamed w ↦ w.renamed-is ∙ w.if-renamed.true ∙ sym (renamed_then c.args.opened.renamed makes.made w.if-renamed.true)
+      | else-renamed w ↦
+          w.renamed-is ∙ renamed_so c.args.opened.renamed makes.made c.act_all.new.self.next c.args.opened.datasets.next w.if-renamed.false next
+    ]
+
+pub returns-in_err-append-clause-steps : goal.returns-in_err-append-clause-steps
+returns-in_err-append-clause-steps g c = steps_none _ _
 
 pub returns-in_err-write_all-clause-known : goal.returns-in_err-write_all-clause-known
 returns-in_err-write_all-clause-known g c =
-    passed_on _ _ _ c.from_residual.ensures.1
-    (λ stored planned birth root pool writes plans is lt opens from honest good.
-    let it = begun stored planned birth c.args.group root pool is writes c.args.opened (λ block bytes known. plans.kept block bytes known) lt opens from in
-    c.in_err-write_all.ensures.known stored planned root.birth is.objects is.own is.blocks (record is.datasets { group = c.args.group }) is.readings pool writes plans it.0 honest (omega (arith, lt)) it.1 it.2)
+    passed_on _ _ _ c.from_residual-in_err-write_all.ensures.1
+    (λ stored planned birth root pool writes plans is destroyed lt opens from honest good.
+    let after : PlainPool = all_destroyed destroyed pool in
+    let it = begun stored planned birth c.args.group root pool is destroyed writes c.args.opened (λ block bytes known. plans.kept block bytes known) opens from in
+    c.in_err-write_all.ensures.known stored planned root.birth is.objects is.own is.blocks from.datasets is.readings after writes plans it.0 honest (omega (arith, lt)) it.1 it.2)
 
 pub returns-in_err-write_all-clause-refused : goal.returns-in_err-write_all-clause-refused
-returns-in_err-write_all-clause-refused g c = passed_on _ _ _ c.from_residual.ensures.1 (inr (inl c.in_err-write_all.ensures.refused))
+returns-in_err-write_all-clause-refused g c = passed_on _ _ _ c.from_residual-in_err-write_all.ensures.1 (inr (inl c.in_err-write_all.ensures.refused))
 
 pub returns-in_err-act_all-clause-steps : goal.returns-in_err-act_all-clause-steps
 returns-in_err-act_all-clause-steps g c = steps_on _ _ _ _ c.write_all.ensures.steps c.act_all.ensures.steps
@@ -34,11 +54,12 @@ returns-in_err-act_all-clause-steps g c = steps_on _ _ _ _ c.write_all.ensures.s
 pub returns-in_err-act_all-clause-known : goal.returns-in_err-act_all-clause-known
 returns-in_err-act_all-clause-known g c =
     passed_on _ _ _ c.from_residual-in_err-act_all.ensures.1
-    (λ stored planned birth root pool writes plans is lt opens from honest good.
-    let it = begun stored planned birth c.args.group root pool is writes c.args.opened (λ block bytes known. plans.kept block bytes known) lt opens from in
-    let placed = c.in_ok-write_all.ensures.value stored planned root.birth is.objects is.own is.blocks (record is.datasets { group = c.args.group }) is.readings pool writes plans it.0
+    (λ stored planned birth root pool writes plans is destroyed lt opens from honest good.
+    let after : PlainPool = all_destroyed destroyed pool in
+    let it = begun stored planned birth c.args.group root pool is destroyed writes c.args.opened (λ block bytes known. plans.kept block bytes known) opens from in
+    let placed = c.in_ok-write_all.ensures.value stored planned root.birth is.objects is.own is.blocks from.datasets is.readings after writes plans it.0
     (true_before c.args.store.now c.write_all.new.store c.act_all.new.store c.act_all.ensures.steps.reads honest) (omega (arith, lt)) it.1 it.2 in
-    c.in_err-act_all.ensures.known stored placed.0 is.objects is.own is.blocks placed.3 placed.4 (fold written pool writes) good placed.1
+    c.in_err-act_all.ensures.known stored placed.0 is.objects is.own is.blocks placed.3 placed.4 (fold written after writes) good placed.1
     (objects_still stored c.args.opened.datasets.changes c.write_all.new.self.changes is.objects is.own is.blocks c.write_all.ensures.one_set it.0)
     (true_after c.args.store.now c.write_all.new.store c.act_all.new.store c.write_all.ensures.steps.reads honest) placed.5)
 
@@ -59,28 +80,33 @@ returns-clause-value g c =
     let mid : GroupDatasets = c.write_all.new.self in
     let new : GroupDatasets = c.act_all.new.self in
     let group = c.args.group in
-    IfOk-weaker c.with_directory.result _ _ (λ all both stored planned birth root pool writes plans is lt opens from honest.
-    let it = begun stored planned birth group root pool is writes c.args.opened (λ block bytes known. plans.kept block bytes known) lt opens from in
-    let placed = c.in_ok-write_all.ensures.value stored planned root.birth is.objects is.own is.blocks (record is.datasets { group = group }) is.readings pool writes plans it.0
+    let freed : List Block = c.args.opened.freed.items in
+    IfOk-weaker c.with_directory.result _ _ (λ all both stored planned birth root pool writes plans is destroyed lt opens from honest.
+    let after : PlainPool = all_destroyed destroyed pool in
+    let it = begun stored planned birth group root pool is destroyed writes c.args.opened (λ block bytes known. plans.kept block bytes known) opens from in
+    let placed = c.in_ok-write_all.ensures.value stored planned root.birth is.objects is.own is.blocks from.datasets is.readings after writes plans it.0
     (true_before c.args.store.now c.write_all.new.store c.act_all.new.store c.act_all.ensures.steps.reads honest) (omega (arith, lt)) it.1 it.2 in
-    let made = c.in_ok-act_all.ensures.value stored placed.0 is.objects is.own is.blocks placed.3 placed.4 (fold written pool writes) placed.1
+    let made = c.in_ok-act_all.ensures.value stored placed.0 is.objects is.own is.blocks placed.3 placed.4 (fold written after writes) placed.1
     (objects_still stored old.changes mid.changes is.objects is.own is.blocks c.write_all.ensures.one_set it.0)
     (true_after c.args.store.now c.write_all.new.store c.act_all.new.store c.write_all.ensures.steps.reads honest) placed.5 in
-    let rows_are : mid.directory ≡ is.rows = c.write_all.ensures.directory ∙ from.directory in
+    let makes = c.in_ok-act_all.ensures.places in
+    let renamed : c.if-renamed.renamed ≡ are_renamed c.args.opened.renamed makes.made = renamed_is g c in
     let acted = made.3 in
-    let left = left_by made.0 group is.objects is.rows new acted.after acted.readings (fold (λ p a. pool_changed group p a.change) (fold written pool writes) c.args.actions.now) old.next
-    all.changes.items is.directory acted.spells
-    (idle_rows c.write_all.new.store c.act_all.new.store group mid new c.args.actions.now old.next is.rows c.write_all.ensures.next rows_are c.in_ok-act_all.ensures.places) both.0 in
-    let first = subst (λ (rows : List DirectoryRow). IsReachExchanged group planned placed.0 (reach_by (record is.datasets { group = group }) rows) (reach_by placed.3 rows) placed.6) from.directory placed.8 in
-    let second = subst (λ (rows : List DirectoryRow). IsReachExchanged group placed.0 made.0 (reach_by placed.3 rows) (reach_by acted.after new.directory) []) rows_are acted.exchanged in
-    let last = subst (λ (blocks : List Block). IsReachExchanged group placed.0 made.0 (reach_by placed.3 is.rows) blocks []) (sym left.2) second in (
+    let rows_are : c.args.opened.renamed ≡ false → mid.directory ≡ is.rows = λ none. c.write_all.ensures.directory ∙ from.same none in
+    let left = left_by made.0 group is.objects is.rows new acted.after acted.readings (fold (λ p a. pool_changed group p a.change) (fold written after writes) c.args.actions.now)
+    c.if-renamed.renamed all.changes.items is.directory acted.spells
+    (idle_rows c.write_all.new.store c.act_all.new.store group mid new c.args.actions.now c.args.opened.renamed c.if-renamed.renamed is.rows rows_are makes renamed) both.0 in
+    let second = subst (λ (rows : List DirectoryRow). IsReachExchanged group placed.0 made.0 (reach_by placed.3 rows) (reach_by acted.after new.directory) []) c.write_all.ensures.directory acted.exchanged in
+    let last = subst (λ (blocks : List Block). IsReachExchanged group placed.0 made.0 (reach_by placed.3 old.directory) blocks []) (sym left.2) second in
+    let reached : List Block = reach_by left.0.datasets left.0.rows in
+    let both_given = given_then group planned placed.0 made.0 (reach_by from.datasets old.directory) (reach_by placed.3 old.directory) reached placed.6 placed.2 made.2 placed.8 last in (
       made.0,
       made.1,
       λ block bytes known. made.2 block bytes (placed.2 block bytes known),
       left.0,
-      placed.6,
-      placed.7,
-      given_then group planned placed.0 made.0 (reach_by is.datasets is.rows) (reach_by placed.3 is.rows) (reach_by left.0.datasets left.0.rows) placed.6 placed.2 made.2 first last,
+      freed ++ placed.6,
+      placed.7 ∙ ap (λ (front : List Block). front ++ placed.6) c.in_ok-append.ensures.items ∙ append_assoc c.args.replaced.now.items freed placed.6,
+      gone_first group stored planned made.0 (reach_by is.datasets is.rows) (reach_by from.datasets old.directory) reached freed placed.6 from.exchanged both_given,
       left.1 ∙ sym both.1,
       adds_on planned placed.0 made.0 placed.9 acted.adds,
       left.3,
@@ -92,18 +118,24 @@ returns-clause-known g c =
     let mid : GroupDatasets = c.write_all.new.self in
     let new : GroupDatasets = c.act_all.new.self in
     let group = c.args.group in
-    IfErr-weaker c.with_directory.result _ _ (λ refusal why stored planned birth root pool writes plans is lt opens from honest good.
-    let it = begun stored planned birth group root pool is writes c.args.opened (λ block bytes known. plans.kept block bytes known) lt opens from in
-    let placed = c.in_ok-write_all.ensures.value stored planned root.birth is.objects is.own is.blocks (record is.datasets { group = group }) is.readings pool writes plans it.0
+    IfErr-weaker c.with_directory.result _ _ (λ refusal why stored planned birth root pool writes plans is destroyed lt opens from honest good.
+    let after : PlainPool = all_destroyed destroyed pool in
+    let it = begun stored planned birth group root pool is destroyed writes c.args.opened (λ block bytes known. plans.kept block bytes known) opens from in
+    let placed = c.in_ok-write_all.ensures.value stored planned root.birth is.objects is.own is.blocks from.datasets is.readings after writes plans it.0
     (true_before c.args.store.now c.write_all.new.store c.act_all.new.store c.act_all.ensures.steps.reads honest) (omega (arith, lt)) it.1 it.2 in
-    let made = c.in_ok-act_all.ensures.value stored placed.0 is.objects is.own is.blocks placed.3 placed.4 (fold written pool writes) placed.1
+    let made = c.in_ok-act_all.ensures.value stored placed.0 is.objects is.own is.blocks placed.3 placed.4 (fold written after writes) placed.1
     (objects_still stored old.changes mid.changes is.objects is.own is.blocks c.write_all.ensures.one_set it.0)
     (true_after c.args.store.now c.write_all.new.store c.act_all.new.store c.write_all.ensures.steps.reads honest) placed.5 in
     ⊎_elim (λ memory. inl (inl memory))
     (λ mis.
-    absurd (not_misnumbered made.0 group is.objects new made.3.after made.3.readings (fold (λ p a. pool_changed group p a.change) (fold written pool writes) c.args.actions.now) made.3.spells
+    absurd (not_misnumbered made.0 group is.objects new made.3.after made.3.readings (fold (λ p a. pool_changed group p a.change) (fold written after writes) c.args.actions.now) made.3.spells
     mis.1))
     why) c.with_directory.ensures.refused
+
+pub returns-clause-behind : goal.returns-clause-behind
+returns-clause-behind g c =
+    let behind = c.in_ok-write_all.ensures.behind in
+    on_ok c.with_directory.result _ (behind.0, behind.1 ∙ ap (λ (front : List Block). front ++ behind.0) c.in_ok-append.ensures.items)
 
 pub returns-clause-places : goal.returns-clause-places
 returns-clause-places g c =
@@ -115,8 +147,7 @@ returns-clause-places g c =
     (λ all both.
     volumes_have c.args.store.now c.write_all.new.store c.act_all.new.store c.args.group c.args.opened c.args.actions.now mid new c.write_all.ensures.directory
     (c.write_all.ensures.next ∙ opens.next) c.in_ok-write_all.ensures.touched c.in_ok-write_all.ensures.places c.write_all.ensures.one_set c.act_all.ensures.one_set makes
-    all.changes.items all.next both.1 c.write_all.ensures.steps.shapes
-    (subst (λ (n : ℕ). HasDatasetChanges new n all.changes.items) opens.next both.0))
+    all.changes.items all.next c.if-renamed.renamed both.1 c.write_all.ensures.steps.shapes (renamed_is g c) both.0)
     (ok_both c.with_directory.result _ _ c.with_directory.ensures.changes c.with_directory.ensures.next_is)
 
 pub returns-clause-refused : goal.returns-clause-refused

@@ -18,8 +18,8 @@ use Rattle.dataset_snapshots.proofs.groups.mapped_changes.Goals as goal
 
 pub returns-in_err-made-clause-known : goal.returns-in_err-made-clause-known
 returns-in_err-made-clause-known g c =
-    passed_on _ _ _ c.from_residual.ensures.1 (λ stored planned birth root pool writes plans is born le opens from maps stands honest good.
-    c.in_err-made.ensures.known stored planned birth root pool writes plans is (omega (arith, born, le)) opens from honest good)
+    passed_on _ _ _ c.from_residual.ensures.1 (λ stored planned birth root pool writes plans is destroyed born le opens from maps stands honest good.
+    c.in_err-made.ensures.known stored planned birth root pool writes plans is destroyed (omega (arith, born, le)) opens from honest good)
 
 pub returns-in_err-made-clause-refused : goal.returns-in_err-made-clause-refused
 returns-in_err-made-clause-refused g c = passed_on _ _ _ c.from_residual.ensures.1 (inl c.in_err-made.ensures.refused)
@@ -44,6 +44,11 @@ returns-in_err-changes-clause-refused g c =
       why = why;
     }))
     c.in_err-changes.ensures.refused)
+
+pub returns-clause-behind : goal.returns-clause-behind
+returns-clause-behind g c =
+    let behind = c.in_ok-made.ensures.behind in
+    (behind.0, behind.1 ∙ ap (λ (front : List Block). (front ++ c.args.opened.freed.items) ++ behind.0) c.requires.none)
 
 pub returns-clause-places : goal.returns-clause-places
 returns-clause-places g c =
@@ -72,9 +77,9 @@ returns-in_err-changes-clause-known g c =
     let next = c.in_ok-made.made.next in
     let volumes = c.in_ok-made.ensures.places in
     let gone_is = c.deref.ensures.value in
-    passed_on _ _ _ c.from_residual-in_err-changes.ensures.1 (λ stored planned birth root pool writes plans is born le opens from maps stands honest good.
+    passed_on _ _ _ c.from_residual-in_err-changes.ensures.1 (λ stored planned birth root pool writes plans is destroyed born le opens from maps stands honest good.
     let before = true_before old mid new c.plan_maps.ensures.reads.reads honest in
-    let made = c.in_ok-made.ensures.value stored planned birth root pool writes plans is (omega (arith, born, le)) opens from before in
+    let made = c.in_ok-made.ensures.value stored planned birth root pool writes plans is destroyed (omega (arith, born, le)) opens from before in
     let Given : List Block → Type 0 =
     λ them. IsReachExchanged c.args.group planned made.0 (volume_blocks_of is) (reach_by made.3.datasets made.3.rows) them in
     let given : Given c.deref.result.now = subst Given (sym (gone_is ∙ (made.5 ∙ ap (λ (front : List Block). front ++ made.4) c.requires.none))) made.6 in
@@ -88,7 +93,7 @@ returns-in_err-changes-clause-known g c =
     (c.in_err-changes.ensures.known stored is.objects is.own is.blocks made.1.held are (true_after old mid new steps.reads honest) now others released.0 c.args.group released.1))
 
 pub returns-clause-value : goal.returns-clause-value
-returns-clause-value g c = λ stored planned birth root pool writes plans is born le opens from maps honest.
+returns-clause-value g c = λ stored planned birth root pool writes plans is destroyed born le opens from maps honest.
     let old = c.args.store.now in
     let mid = c.changes_of.new.store in
     let new = c.plan_maps.new.store in
@@ -98,7 +103,7 @@ returns-clause-value g c = λ stored planned birth root pool writes plans is bor
     let all = c.in_ok-changes.changes.items in
     let volumes = c.in_ok-made.ensures.places in
     let before = true_before old mid new c.plan_maps.ensures.reads.reads honest in
-    let made = c.in_ok-made.ensures.value stored planned birth root pool writes plans is (omega (arith, born, le)) opens from before in
+    let made = c.in_ok-made.ensures.value stored planned birth root pool writes plans is destroyed (omega (arith, born, le)) opens from before in
     let Given : List Block → Type 0 =
     λ them. IsReachExchanged c.args.group planned made.0 (volume_blocks_of is) (reach_by made.3.datasets made.3.rows) them in
     let now = maps_on is.objects old.spaces mid.spaces steps.shapes (have_filled old.spaces mid.spaces steps.filled) maps in

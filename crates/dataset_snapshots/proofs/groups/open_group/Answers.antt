@@ -1,145 +1,110 @@
-use Rattle.std.proofs.Common.{◌≡◌, ℕ, ◌↔◌, ◌<◌, List, [], All, Contains, sym, subst, ◌∙◌}
-use Rattle.std.specs.List.{AllZip}
-use Rattle.std.specs.List.Sorted.{IsStrictlyIncreasing}
+use Rattle.std.proofs.Common.{◌≡◌, ◌<◌, ◌≤◌, ◌++◌, List, [], ap, subst, ◌∙◌, arith}
+use Rattle.block_pointer.specs.declared.block.Block.{Block}
 use Rattle.block_store.proofs.Steps.{reads_on}
-use Rattle.block_store.specs.Spaces.{VdevSpace}
-use Rattle.dataset_changes.specs.States.{set_of}
 use Rattle.dataset_groups.specs.declared.datasets.GroupDatasets.{GroupDatasets}
-use Rattle.dataset_groups.specs.Names.{NamesPool}
-use Rattle.dataset_groups.specs.Writing.{numbers_of}
-use Rattle.dnode.specs.declared.object_set.ObjectSet.{ObjectSet}
 use Rattle.dnode_tree.proofs.FurtherReads.{true_before, true_after}
 use Rattle.dnode_tree.proofs.Refusing.{passed_on}
 use Rattle.meta_objset.specs.declared.directory.DirectoryRow.{DirectoryRow}
-use Rattle.object_table.proofs.Tables.{spaces_stay}
-use Rattle.objset.specs.Objects.{AreObjects}
 use Rattle.pool_model.specs.declared.item.Write.{Write}
-use Rattle.dataset_snapshots.specs.Opening.{IsWrittenOf}
-use Rattle.dataset_snapshots.specs.Pools.{SpellsDataset}
-use Rattle.dataset_snapshots.specs.Writing.{HasRow, IsReadFrom, IsWritten}
-use Rattle.dataset_snapshots.proofs.Chained.{volumes_of}
-use Rattle.dataset_snapshots.proofs.GroupDemands.{volume_unread}
-use Rattle.dataset_snapshots.proofs.GroupsBegun.{numbers_within, set_unread, written_are}
-use Rattle.dataset_snapshots.proofs.ChangedRows.{all_from}
+use Rattle.dataset_snapshots.specs.declared.groups.Begun.{Begun}
+use Rattle.dataset_snapshots.specs.Groups.{AreRowsLeft}
+use Rattle.dataset_snapshots.proofs.GroupDemands.{names_kept, renamed_by}
+use Rattle.dataset_snapshots.proofs.GroupsOpened.{exchanged_from, next_left, not_renamed, objects_begun, rows_left, set_begun, written_but, written_from}
 use Rattle.dataset_snapshots.proofs.groups.open_group.Goals as goal
 
-pub returns-in_err-set-clause-known : goal.returns-in_err-set-clause-known
-returns-in_err-set-clause-known g c =
-    passed_on _ _ _ c.from_residual-in_err-set.ensures.1 (λ stored pool held is same honest. c.in_err-set.ensures.known stored is.set held is.is_set is.kind honest)
+pub returns-in_err-begun-clause-known : goal.returns-in_err-begun-clause-known
+returns-in_err-begun-clause-known g c =
+    passed_on _ _ _ c.from_residual.ensures.1 (λ stored pool held is same may few honest. c.in_err-begun.ensures.known stored pool held is same honest)
 
-pub read_written-requires-clause-rows : goal.read_written-requires-clause-rows
-read_written-requires-clause-rows g c =
-    let rows : List DirectoryRow = c.in_ok-directory.directory in
-    subst (λ (rs : List DirectoryRow). All (λ object. (row : DirectoryRow) × HasRow rs object row) c.deref.result.now) (sym c.new-datasets.ensures.directory)
-    (subst (All (λ object. (row : DirectoryRow) × HasRow rows object row)) (sym c.deref.ensures.value)
-    (all_from (λ object. (row : DirectoryRow) × HasRow rows object row) c.in_ok-objects.objects.items
-    (λ object held.
-    let named = ((subst (λ (ws : List Write). (object : ℕ) → Contains c.in_ok-objects.objects.items object ↔ IsWritten rows ws object) c.writes.ensures c.in_ok-objects.ensures.objects) object).0 held in
-    let row = named.4.1 in
-    (row.0, (row.1, row.3)))))
+pub returns-in_err-renamed-clause-reads : goal.returns-in_err-renamed-clause-reads
+returns-in_err-renamed-clause-reads g c = reads_on _ _ _ _ c.in_ok-begun.ensures.reads c.destroy_all.ensures.reads
 
-pub returns-in_err-written-clause-reads : goal.returns-in_err-written-clause-reads
-returns-in_err-written-clause-reads g c = reads_on _ _ _ _ c.in_ok-set.ensures.reads c.in_err-written.ensures.reads
-
-pub returns-in_err-written-clause-known : goal.returns-in_err-written-clause-known
-returns-in_err-written-clause-known g c =
-    let first = c.in_ok-set.ensures.reads in
-    let second = c.in_err-written.ensures.reads in
-    passed_on _ _ _ c.from_residual-in_err-written.ensures.1
-    (λ stored pool held is same honest.
-    let birth = c.args.root.now.birth in
-    let set = c.in_ok-set.ensures.value stored is.set held is.is_set (true_before _ _ _ _ first second honest) in
-    c.in_err-written.ensures.known stored is.objects is.own is.blocks pool.volumes (first.keeps stored held)
-    (subst (λ (s : ObjectSet). AreObjects stored birth s is.objects is.own is.blocks) (sym (c.new-datasets.ensures.of_set.0 ∙ set)) is.are)
-    (subst (λ (rows : List DirectoryRow). AllZip (SpellsDataset stored birth is.objects) rows pool.volumes) (sym (c.new-datasets.ensures.directory ∙ (c.in_ok-directory.ensures ∙ same))) (volumes_of is))
-    (true_after _ _ _ _ first second honest))
-
-pub returns-in_err-written-clause-refused : goal.returns-in_err-written-clause-refused
-returns-in_err-written-clause-refused g c =
-    let before : GroupDatasets = c.new-datasets.result in
-    let set : ObjectSet = c.in_ok-set.set in
+pub returns-in_err-renamed-clause-known : goal.returns-in_err-renamed-clause-known
+returns-in_err-renamed-clause-known g c =
+    let first = c.in_ok-begun.ensures.reads in
+    let second = c.destroy_all.ensures.reads in
+    let begun : Begun = c.in_ok-begun.begun in
+    let group = c.args.group in
+    let root : Block = c.args.root.now in
     let writes : List Write = c.args.items.now.writes in
-    let objects : List ℕ = c.deref.result.now in
-    let birth = c.args.root.now.birth in
-    passed_on _ _ _ c.from_residual-in_err-written.ensures.1
-    (volume_unread c.args.store.now c.read_meta.new.store c.read_written.new.store c.args.birth c.args.root.now before.directory c.args.kept.now writes set objects _ c.in_ok-set.ensures.reads
-    c.in_ok-set.ensures.found (c.new-datasets.ensures.directory ∙ c.in_ok-directory.ensures)
-    (subst (λ (rows : List DirectoryRow). (object : ℕ) → Contains objects object ↔ IsWritten rows writes object) (sym c.new-datasets.ensures.directory)
-    (subst (λ (all : List ℕ). (object : ℕ) → Contains all object ↔ IsWritten c.in_ok-directory.directory writes object) (sym c.deref.ensures.value)
-    (subst (λ (ws : List Write). (object : ℕ) → Contains c.in_ok-objects.objects.items object ↔ IsWritten c.in_ok-directory.directory ws object) c.writes.ensures c.in_ok-objects.ensures.objects)))
-    (set_unread c.read_meta.new.store c.read_written.new.store (set_of before.changes) set birth writes before.directory objects _ c.new-datasets.ensures.of_set.0 c.in_err-written.ensures.refused))
+    passed_on _ _ _ c.from_residual-in_err-renamed.ensures.1
+    (λ stored pool held is same may few honest.
+    let from = c.in_ok-begun.ensures.value stored pool held is same (true_before _ _ _ _ first second honest) in
+    let early = c.in_ok-begun.ensures.early in
+    let le : root.birth ≤ group = omega (arith, early) in
+    c.in_err-renamed.ensures.known stored is.objects is.own is.blocks (record is.datasets { group = group }) is.readings pool (first.keeps stored held)
+    (objects_begun c.args.store.now.spaces _ root c.args.kept.now c.args.destroyed.now writes begun c.in_ok-begun.ensures.found stored group pool is from)
+    (true_after _ _ _ _ first second honest) (from.begins group le) may few)
+
+pub returns-in_err-renamed-clause-refused : goal.returns-in_err-renamed-clause-refused
+returns-in_err-renamed-clause-refused g c =
+    passed_on _ _ _ c.from_residual-in_err-renamed.ensures.1
+    (names_kept c.args.store.now c.begin_group.new.store c.destroy_all.new.store c.args.root.now c.args.kept.now c.args.group c.args.destroyed.now c.args.items.now.writes c.in_ok-begun.begun _
+    c.in_ok-begun.ensures.reads c.in_ok-begun.ensures.found c.in_err-renamed.ensures.refused)
 
 pub returns-clause-reads : goal.returns-clause-reads
-returns-clause-reads g c = reads_on _ _ _ _ c.in_ok-set.ensures.reads c.in_ok-written.ensures.reads
+returns-clause-reads g c = reads_on _ _ _ _ c.in_ok-begun.ensures.reads c.destroy_all.ensures.reads
 
 pub returns-clause-opened : goal.returns-clause-opened
 returns-clause-opened g c =
-    let objects : List ℕ = c.in_ok-objects.objects.items in
+    let begun : Begun = c.in_ok-begun.begun in
+    let new : GroupDatasets = c.destroy_all.new.self in
+    let is = c.in_ok-begun.ensures.begun in
+    let found = c.in_ok-begun.ensures.found in
+    let rows : List DirectoryRow = c.args.kept.now in
     let writes : List Write = c.args.items.now.writes in
-    let kept = c.in_ok-written.ensures.kept in
-    let set_is = c.new-datasets.ensures.of_set.0 in
-    let are : numbers_of c.in_ok-written.written.items ≡ objects = c.in_ok-written.ensures.numbers ∙ c.deref.ensures.value in
+    let left = subst (λ (list : List DirectoryRow). AreRowsLeft list c.args.destroyed.now new.directory) found.begins.directory
+    (rows_left begun.datasets new c.args.destroyed.now c.in_ok-renamed.ensures.which) in
     record {
-      set = c.in_ok-set.ensures.fits;
-      of_set = kept.one_set.0 ∙ set_is;
-      next = kept.next ∙ c.new-datasets.ensures.next;
-      once = subst IsStrictlyIncreasing (sym are) c.in_ok-objects.ensures.once;
-      within = subst (λ (s : ObjectSet). All (λ number. number < s.objects) (numbers_of c.in_ok-written.written.items)) set_is
-          (numbers_within c.read_meta.new.store.spaces (set_of c.new-datasets.result.changes) c.args.root.now.birth writes c.new-datasets.result.directory c.in_ok-written.written.items
-          c.in_ok-written.ensures.found);
-      each = c.in_ok-written.ensures.fits;
-      all = λ object named.
-          subst (λ (ns : List ℕ). Contains ns object) (sym are)
-          (((subst (λ (ws : List Write). (object : ℕ) → Contains objects object ↔ IsWritten c.in_ok-directory.directory ws object) c.writes.ensures c.in_ok-objects.ensures.objects) object).1
-          (subst (λ (rows : List DirectoryRow). IsWritten rows writes object) (kept.directory ∙ c.new-datasets.ensures.directory) named));
+      set = is.set;
+      of_set = c.destroy_all.ensures.one_set.0 ∙ set_begun c.args.store.now.spaces _ c.args.root.now rows c.args.destroyed.now writes begun found;
+      next = next_left begun.datasets new c.args.destroyed.now c.in_ok-renamed.ensures.which ∙ found.begins.next;
+      once = is.once;
+      within = is.within;
+      each = is.each;
+      all = λ object named. (found.which object).1 (written_but rows new.directory c.args.destroyed.now writes object left named);
     }
 
 pub returns-clause-value : goal.returns-clause-value
-returns-clause-value g c = λ stored pool held is same honest.
-    let first = c.in_ok-set.ensures.reads in
-    let second = c.in_ok-written.ensures.reads in
-    let kept = c.in_ok-written.ensures.kept in
-    let birth = c.args.root.now.birth in
+returns-clause-value g c = λ stored pool held is same may honest.
+    let first = c.in_ok-begun.ensures.reads in
+    let second = c.destroy_all.ensures.reads in
+    let begun : Begun = c.in_ok-begun.begun in
+    let new : GroupDatasets = c.destroy_all.new.self in
+    let group = c.args.group in
+    let root : Block = c.args.root.now in
+    let rows : List DirectoryRow = c.args.kept.now in
     let writes : List Write = c.args.items.now.writes in
-    let objects : List ℕ = c.in_ok-objects.objects.items in
-    let set = c.in_ok-set.ensures.value stored is.set held is.is_set (true_before _ _ _ _ first second honest) in
-    let by_rows = c.in_ok-directory.ensures ∙ same in
-    let are = subst (λ (s : ObjectSet). AreObjects stored birth s is.objects is.own is.blocks) (sym set) is.are in
-    let read = c.in_ok-written.ensures.value stored is.objects is.own is.blocks (first.keeps stored held)
-    (subst (λ (s : ObjectSet). AreObjects stored birth s is.objects is.own is.blocks) (sym c.new-datasets.ensures.of_set.0) are) (true_after _ _ _ _ first second honest) in
+    let found = c.in_ok-begun.ensures.found in
+    let which = c.in_ok-renamed.ensures.which in
+    let from = c.in_ok-begun.ensures.value stored pool held is same (true_before _ _ _ _ first second honest) in
+    let early = c.in_ok-begun.ensures.early in
+    let born = c.requires.born in
+    let le : root.birth ≤ group = omega (arith, early) in
+    let lt : root.birth < group = omega (arith, early, born) in
+    let done = c.in_ok-renamed.ensures.value stored is.objects is.own is.blocks (record is.datasets { group = group }) is.readings pool (first.keeps stored held)
+    (objects_begun c.args.store.now.spaces _ root rows c.args.destroyed.now writes begun found stored group pool is from) (true_after _ _ _ _ first second honest) (from.begins group le) may in
+    let freed_is = done.1 ∙ ap (λ (front : List Block). front ++ done.0) c.new-freed.ensures.items in
     record {
-      set = set;
-      born = kept.one_set.1 ∙ c.new-datasets.ensures.of_set.1;
-      directory = kept.directory ∙ (c.new-datasets.ensures.directory ∙ by_rows);
-      begins = λ group le.
-          read.1 stored group (record is.datasets { group = group }) is.readings pool
-          (c.new-datasets.ensures.value stored birth group is.objects is.own is.blocks is.datasets is.readings pool are is.chains le
-          (subst (λ (rows : List DirectoryRow). NamesPool is.datasets is.readings rows pool) (sym by_rows) is.names));
-      written = λ group lt.
-          written_are stored c.args.birth c.args.root.now pool is writes group lt c.in_ok-written.written.items objects (c.in_ok-written.ensures.numbers ∙ c.deref.ensures.value)
-          c.in_ok-objects.ensures.once
-          (subst (λ (rows : List DirectoryRow). (object : ℕ) → Contains objects object ↔ IsWritten rows writes object) by_rows
-          (subst (λ (ws : List Write). (object : ℕ) → Contains objects object ↔ IsWritten c.in_ok-directory.directory ws object) c.writes.ensures c.in_ok-objects.ensures.objects))
-          (subst (λ (rows : List DirectoryRow). All (IsReadFrom stored birth is.objects writes rows) c.in_ok-written.written.items) (c.new-datasets.ensures.directory ∙ by_rows) read.0);
+      set = from.set;
+      born = c.destroy_all.ensures.one_set.1 ∙ from.born;
+      same = λ none. not_renamed begun.datasets new c.args.destroyed.now c.in_ok-renamed.renamed which c.in_ok-renamed.ensures.renamed none ∙ from.directory;
+      datasets = done.2.after;
+      begins = done.2.spells;
+      exchanged = exchanged_from c.args.store.now.spaces _ root rows c.args.destroyed.now writes begun found stored group pool is from new which _ done.0 done.2 _ freed_is;
+      written = written_from c.args.store.now.spaces _ root rows c.args.destroyed.now writes begun found stored group pool is from new which _ done.0 done.2 lt;
     }
 
 pub returns-clause-found : goal.returns-clause-found
 returns-clause-found g c =
-    let kept = c.in_ok-written.ensures.kept in
-    let by_rows = c.in_ok-directory.ensures in
-    let birth = c.args.root.now.birth in
-    let writes : List Write = c.args.items.now.writes in
-    let are : numbers_of c.in_ok-written.written.items ≡ c.in_ok-objects.objects.items = c.in_ok-written.ensures.numbers ∙ c.deref.ensures.value in
+    let found = c.in_ok-begun.ensures.found in
     record {
-      meta = c.in_ok-set.ensures.found;
-      by_rows = kept.directory ∙ (c.new-datasets.ensures.directory ∙ by_rows);
+      meta = found.meta;
       is = returns-clause-opened g c;
-      which = subst (λ (rows : List DirectoryRow). (object : ℕ) → Contains (numbers_of c.in_ok-written.written.items) object ↔ IsWritten rows writes object) by_rows
-          (subst (λ (objects : List ℕ). (object : ℕ) → Contains objects object ↔ IsWritten c.in_ok-directory.directory writes object) (sym are)
-          (subst (λ (ws : List Write). (object : ℕ) → Contains c.in_ok-objects.objects.items object ↔ IsWritten c.in_ok-directory.directory ws object) c.writes.ensures
-          c.in_ok-objects.ensures.objects));
-      each = subst (λ (rows : List DirectoryRow). All (IsWrittenOf c.args.store.now.spaces c.in_ok-set.set birth writes rows) c.in_ok-written.written.items) (c.new-datasets.ensures.directory ∙ by_rows)
-          (subst (λ (set : ObjectSet). All (IsWrittenOf c.args.store.now.spaces set birth writes c.new-datasets.result.directory) c.in_ok-written.written.items) c.new-datasets.ensures.of_set.0
-          (subst (λ (spaces : List VdevSpace). All (IsWrittenOf spaces (set_of c.new-datasets.result.changes) birth writes c.new-datasets.result.directory) c.in_ok-written.written.items)
-          (spaces_stay c.args.store.now c.read_meta.new.store [] c.in_ok-set.ensures.reads) c.in_ok-written.ensures.found));
+      which = found.which;
+      each = found.each;
+      begun = c.in_ok-begun.begun.datasets;
+      begins = found.begins;
+      destroys = c.in_ok-renamed.ensures.which;
+      renamed = renamed_by c.in_ok-begun.begun.datasets.directory c.args.kept.now c.args.destroyed.now c.in_ok-renamed.renamed found.begins.directory c.in_ok-renamed.ensures.renamed;
     }

@@ -1,11 +1,11 @@
-use Rattle.std.proofs.Common.{◌≡◌, ◌<◌, List, ◌∷◌, Bool, IsTrue, All, inr, refl, ap, subst, sym, ◌∙◌, arith}
+use Rattle.std.proofs.Common.{◌≡◌, ◌<◌, List, ◌∷◌, Bool, true≢false, IsTrue, All, inr, refl, ap, subst, sym, ◌∙◌, arith}
 use Rattle.meta_objset.specs.declared.directory.DirectoryRow.{DirectoryRow}
 use Rattle.objset.specs.declared.changes.Change.{Change}
 use Rattle.objset.specs.declared.changes.ObjectChange.{ObjectChange}
 use Rattle.dataset_snapshots.specs.Demands.{WritesRows}
 use Rattle.dataset_snapshots.proofs.BelowNext.{some_behind}
 use Rattle.dataset_snapshots.proofs.groups.with_directory.Goals as goal
-use Rattle.dataset_snapshots.proofs.groups.with_directory.Goals.{then-next-first+in_ok-change+in_ok-put_first, else-next-first}
+use Rattle.dataset_snapshots.proofs.groups.with_directory.Goals.{then-renamed+in_ok-change+in_ok-put_first, else-renamed}
 
 pub returns-then-not-are_below-clause-refused : goal.returns-then-not-are_below-clause-refused
 returns-then-not-are_below-clause-refused c =
@@ -27,20 +27,20 @@ first_is rows changes all first is number writes =
 
 pub returns-clause-changes : goal.returns-clause-changes
 returns-clause-changes c =
-    elim c.if-next-first.branch [
-      | then-next-first+in_ok-change+in_ok-put_first w ↦
+    elim c.if-renamed.branch [
+      | then-renamed+in_ok-change+in_ok-put_first w ↦
           let directory = w.in_ok-change.ensures in (
             c.in_ok-changes.changes.items,
             c.in_ok-changes.ensures.are,
-            λ same. absurd (omega (arith, same, w.if-next-first.true)),
+            λ same. absurd (true≢false (sym w.if-renamed.true ∙ same)),
             λ other.
-                first_is c.args.datasets.directory c.in_ok-changes.changes.items c.if-next-first.changes.items w.in_ok-change.change (ap (λ made. made.items) w.changes-is ∙ w.in_ok-put_first.ensures)
+                first_is c.args.datasets.directory c.in_ok-changes.changes.items c.if-renamed.changes.items w.in_ok-change.change (ap (λ made. made.items) w.changes-is ∙ w.in_ok-put_first.ensures)
                 directory.number (λ object is. (directory.may object is, directory.made object is)),
           )
-      | else-next-first w ↦ (
+      | else-renamed w ↦ (
         c.in_ok-changes.changes.items,
         c.in_ok-changes.ensures.are,
         λ same. ap (λ made. made.items) w.changes-is,
-        λ other. absurd (other (omega (arith, w.if-next-first.false))),
+        λ other. absurd (true≢false (sym other ∙ w.if-renamed.false)),
       )
     ]

@@ -20,7 +20,7 @@ returns-in_ok-next-in-Some-clause-value g c = λ stored planned pool before plan
     let (is, maps, stands) = subst (λ (o : Option Block). BeginsWithMaps c.args.store.now.spaces stored (c.args.group - 1) o pool) c.in-Some.is begins in
     let one = roots_spell_one_pool stored (c.args.group - 1) (c.args.group - 1) c.in-Some.root pool pool led.0 is in
     let by = rows_led stored (c.args.group - 1) c.args.last.now pool _ _ is spells c.in-Some.is c.directory.ensures in
-    let there = c.in_ok-next-in-Some.ensures.value stored planned pool plans is by maps honest in (
+    let there = c.in_ok-next-in-Some.ensures.value stored planned pool plans is by maps tt honest in (
       there.0,
       there.1,
       there.2,
@@ -39,7 +39,7 @@ returns-in_err-next-in-Some-clause-known g c =
     (λ stored planned pool plans spells begins honest good.
     let (is, maps, stands) = subst (λ (o : Option Block). BeginsWithMaps c.args.store.now.spaces stored (c.args.group - 1) o pool) c.in-Some.is begins in
     let by = rows_led stored (c.args.group - 1) c.args.last.now pool _ _ is spells c.in-Some.is c.directory.ensures in
-    c.in_err-next-in-Some.ensures.known stored planned pool plans is by maps stands honest (good_changes_may_be_made c.args.items.now good))
+    c.in_err-next-in-Some.ensures.known stored planned pool plans is by maps stands honest tt (good_changes_may_be_made c.args.items.now good))
 
 pub returns-in_err-next-in-Some-clause-refused : goal.returns-in_err-next-in-Some-clause-refused
 returns-in_err-next-in-Some-clause-refused g c =
