@@ -15,9 +15,9 @@ use Rattle.meta_objset.specs.Names.{IsNamed}
 use Rattle.objset.specs.Objects.{Object}
 use Rattle.pool_model.specs.declared.volume.PlainVolume.{PlainVolume}
 use Rattle.pool_model.specs.Names.{same}
-use Rattle.pool_model.specs.Pools.{PlainPool, destroyed, has_clones, has_snapshots, volume_at, without}
+use Rattle.pool_model.specs.Pools.{MayBeDestroyed, PlainPool, destroyed, has_clones, has_snapshots, volume_at, without}
 use Rattle.dataset_groups.specs.Demands.{IsNameThere}
-use Rattle.dataset_groups.specs.Destroys.{AreDestroyed, DestroysNamed, DestroysOne, IsRowGone, KeepsNamed, MayBeDestroyed}
+use Rattle.dataset_groups.specs.Destroys.{AreDestroyed, DestroysNamed, DestroysOne, IsRowGone, KeepsNamed}
 use Rattle.dataset_groups.specs.Groups.{SpellsGroup}
 use Rattle.dataset_groups.specs.Names.{NamesPool, NamesTellChains, objects_of_rows, reach_by}
 use Rattle.dataset_groups.specs.declared.datasets.GroupDatasets.{GroupDatasets}

@@ -15,10 +15,10 @@ use Rattle.meta_objset.specs.declared.directory.DirectoryRow.{DirectoryRow}
 use Rattle.meta_objset.specs.Names.{IsNamed}
 use Rattle.objset.specs.Objects.{Object}
 use Rattle.pool_model.specs.Names.{same}
-use Rattle.pool_model.specs.Pools.{PlainPool, destroyed}
+use Rattle.pool_model.specs.Pools.{MayBeDestroyed, PlainPool, all_destroyed, destroyed}
 use Rattle.pool_model.proofs.Places.{is_same, same_is}
 use Rattle.dataset_groups.specs.Demands.{IsNameThere}
-use Rattle.dataset_groups.specs.Destroys.{AreDestroyed, AreDestroysRefused, DestroysAll, DestroysOne, HasAtMost, KeepsNamed, MayBeDestroyed, all_destroyed}
+use Rattle.dataset_groups.specs.Destroys.{AreDestroyed, AreDestroysRefused, DestroysAll, DestroysOne, HasAtMost, KeepsNamed}
 use Rattle.dataset_groups.specs.Groups.{SpellsGroup}
 use Rattle.dataset_groups.specs.Names.{reach_by}
 use Rattle.dataset_groups.specs.declared.datasets.GroupDatasets.{GroupDatasets}

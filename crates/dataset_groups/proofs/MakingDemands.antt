@@ -17,7 +17,7 @@ use Rattle.meta_objset.specs.Directory.{IsPlacedAmong, IsWith, LacksName}
 use Rattle.meta_objset.specs.Names.{IsNamed}
 use Rattle.pool_model.specs.declared.item.Action.{Action}
 use Rattle.pool_model.specs.declared.item.Change.{Change}
-use Rattle.pool_model.specs.declared.item.Change.TheVariants.{Clone, Create, Snapshot}
+use Rattle.pool_model.specs.declared.item.Change.TheVariants.{Clone, Create, Destroy, Snapshot}
 use Rattle.pool_model.specs.Names.{name_of}
 use Rattle.volume.specs.Demands.{empty_set}
 use Rattle.dataset_groups.specs.declared.datasets.GroupDatasets.{GroupDatasets}
@@ -134,11 +134,13 @@ module _ (first between : GroupDatasets) (made : List Action) (so_far : MakesNam
   volume_so_far (Create name size block_size) has = has
   volume_so_far (Snapshot volume part) has = there_so_far volume has
   volume_so_far (Clone snapshot name) has = there_so_far snapshot has
+  volume_so_far (Destroy name) has = has
 
   volume_now : (change : Change) → HasVolume first.directory made change → HasVolume between.directory [] change
   volume_now (Create name size block_size) has = has
   volume_now (Snapshot volume part) has = there_now volume has
   volume_now (Clone snapshot name) has = there_now snapshot has
+  volume_now (Destroy name) has = has
 
   making_so_far : (change : Change) → IsMaking between.directory [] change → IsMaking first.directory made change
   making_so_far change (lacks, has) = (λ there. lacks (there_now (name_of change) there), volume_so_far change has)
@@ -186,6 +188,7 @@ new_places_in old mid new group (Create name size block_size) same places =
     (has.0, (places.0, places.1, set_demands_in old.spaces mid.spaces same empty_set group places.0 has.0 has.1), has.2)
 new_places_in old mid new group (Snapshot volume part) same places = ([], refl, places)
 new_places_in old mid new group (Clone snapshot name) same places = ([], refl, places)
+new_places_in old mid new group (Destroy name) same places = ([], refl, places)
 
 pub makes_none : (store : Store) (group : ℕ) (making : GroupDatasets) → MakesAll store store group making making []
 makes_none store group making = record {
@@ -244,6 +247,7 @@ module _ (first between : GroupDatasets) (made : List Action) (so_far : MakesNam
   unmade_so_far : (mid new : Store) (group : ℕ) (change : Change) (refusal : Refusal) → IsUnmade mid new between.changes group between.directory between.next change refusal
       → IsUnmade mid new first.changes group first.directory first.next change refusal
   unmade_so_far mid new group (Create name size block_size) refusal why = why
+  unmade_so_far mid new group (Destroy name) refusal why = why
   unmade_so_far mid new group (Snapshot volume part) refusal why = record {
     head = why.head;
     is = object_so_far volume why.head why.is;

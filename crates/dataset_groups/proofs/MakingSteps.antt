@@ -5,12 +5,12 @@ use Rattle.std.proofs.lemmas.List.{take_more}
 use Rattle.pool_model.specs.declared.item.Action.{Action}
 use Rattle.pool_model.specs.Pools.{PlainPool, changed}
 use Rattle.volume_rules.proofs.NowMoves.{fold_push}
-use Rattle.volume_rules.specs.GoodChanges.{is_good_change}
+use Rattle.volume_rules.specs.GoodChanges.{is_good_making}
 use Rattle.dataset_groups.specs.NewVolumes.{AreGoodChanges}
 
 -- each of the actions is good where all are
-pub one_good : (actions : List Action) (i : ℕ) (action : Action) → i < length actions → action ≡ get_or actions i action → AreGoodChanges actions → is_good_change action.change ≡ true
-one_good actions i action low is good = subst (λ (a : Action). is_good_change a.change ≡ true) (sym is) (good i action low)
+pub one_good : (actions : List Action) (i : ℕ) (action : Action) → i < length actions → action ≡ get_or actions i action → AreGoodChanges actions → is_good_making action.change ≡ true
+one_good actions i action low is good = subst (λ (a : Action). is_good_making a.change ≡ true) (sym is) (good i action low)
 
 -- the pool after one action more
 pub pool_more : (group : ℕ) (pool : PlainPool) (actions : List Action) (i : ℕ) (action : Action) → i < length actions → action ≡ get_or actions i action

@@ -12,7 +12,7 @@ use Rattle.meta_objset.specs.declared.directory.DirectoryRow.{DirectoryRow}
 use Rattle.meta_objset.specs.declared.record.DatasetRecord.{DatasetRecord}
 use Rattle.pool_model.specs.declared.item.Action.{Action}
 use Rattle.pool_model.specs.declared.item.Change.{Change}
-use Rattle.pool_model.specs.declared.item.Change.TheVariants.{Clone, Create, Snapshot}
+use Rattle.pool_model.specs.declared.item.Change.TheVariants.{Clone, Create, Destroy, Snapshot}
 use Rattle.dataset_groups.specs.Touched.{IsBeforeTaken, IsClonedBy, IsHeadTaken, IsNewNumber, IsOriginTaken, IsTakenBy, TouchesChange, TouchesMade, TouchesNew}
 use Rattle.dataset_groups.proofs.ListParts.{any_append_left}
 
@@ -41,6 +41,7 @@ IsTouchedBy changes rows next change number = IsNewNumber next 1 number ⊎ (IsT
 
 by_change : (old new : DatasetChanges) (rows : List DirectoryRow) (next : ℕ) (change : Change) → TouchesChange old new rows next change
     → TouchesOnly old new (IsTouchedBy old rows next change) (IsNewNumber next 1)
+by_change old new rows next (Destroy name) touched = absurd touched
 by_change old new rows next (Create name size block_size) touched = record {
   records = λ number. elim (touched.records number) [
     | inl kept ↦ inl kept
@@ -95,10 +96,12 @@ module _ (next mid : ℕ) (made : List Action) (action : Action) (at : mid ≡ n
   taken_grows number (Create name size block_size) taken = taken
   taken_grows number (Snapshot volume part) (row, held, named, is) = (row, grows row held, named, is)
   taken_grows number (Clone snapshot name) taken = taken
+  taken_grows number (Destroy name) taken = taken
 
   cloned_grows : (number : ℕ) (change : Change) → IsClonedBy rows number change → IsClonedBy more_rows number change
   cloned_grows number (Create name size block_size) cloned = cloned
   cloned_grows number (Snapshot volume part) cloned = cloned
+  cloned_grows number (Destroy name) cloned = cloned
   cloned_grows number (Clone snapshot name) (row, held, named, is) = (row, grows row held, named, is)
 
   taken_sooner : (number : ℕ) → IsHeadTaken rows made number → IsHeadTaken more_rows all number

@@ -18,7 +18,7 @@ use Rattle.objset.specs.declared.changes.Change.{Change as ObjectsChange}
 use Rattle.objset.specs.declared.changes.Change.TheVariants.{Put}
 use Rattle.pool_model.specs.declared.item.Action.{Action}
 use Rattle.pool_model.specs.declared.item.Change.{Change}
-use Rattle.pool_model.specs.declared.item.Change.TheVariants.{Clone, Create, Snapshot}
+use Rattle.pool_model.specs.declared.item.Change.TheVariants.{Clone, Create, Destroy, Snapshot}
 use Rattle.pool_model.specs.Names.{name_of}
 use Rattle.volume.specs.Demands.{empty_set, HasPlacesFor, HasSetDemands, IsCreation, IsPlacingRefused, IsPlanRefused}
 use Rattle.volume.specs.Reading.{IsVolumeFound}
@@ -26,7 +26,7 @@ use Rattle.dataset_groups.specs.declared.datasets.GroupDatasets.{GroupDatasets}
 use Rattle.dataset_groups.specs.declared.writing.WrittenHead.{WrittenHead}
 use Rattle.dataset_groups.specs.NewVolumes.{numbers_end}
 use Rattle.dataset_groups.specs.Touched.{TouchesMade}
-use Rattle.volume_rules.specs.GoodChanges.{is_good_change}
+use Rattle.volume_rules.specs.GoodChanges.{is_good_making}
 
 -- each of these things asks some, and these are all of them, one after the other
 abbrev pub AreAsked : {X : Type 0} → (X → List Demand → Type 0) → List X → List Demand → Type 0
@@ -99,11 +99,13 @@ IsNameMade actions name = Any (λ action. name_of action.change ≡ name) action
 abbrev pub IsThereAlready : List DirectoryRow → List Action → List ℕ → Type 0
 IsThereAlready rows made name = IsNameThere rows name ⊎ IsNameMade made name
 
--- what the change needs is there: the volume that a snapshot is of, or the snapshot that a clone is of
+-- what the change needs to make something is there: the volume that a snapshot is of, or the snapshot that a clone is of; a destroy makes
+-- nothing
 abbrev pub HasVolume : List DirectoryRow → List Action → Change → Type 0
 HasVolume rows made (Create name size block_size) = Unit {0}
 HasVolume rows made (Snapshot volume part) = IsThereAlready rows made volume
 HasVolume rows made (Clone snapshot name) = IsThereAlready rows made snapshot
+HasVolume rows made (Destroy name) = ⊥
 
 -- behind actions that made a volume, a snapshot or a clone each, the change makes one: its name isn't there, and what it needs is
 abbrev pub IsMaking : List DirectoryRow → List Action → Change → Type 0
@@ -123,12 +125,13 @@ HasNewDemands spaces group block_size demands =
     (creation : ObjectsChange) × IsCreation block_size creation
     × HasSetDemands spaces empty_set group creation demands
 
--- a change asks these; a snapshot and a clone ask nothing
+-- a change asks these; only a new volume asks for something
 abbrev pub HasChangeDemands : List VdevSpace → ℕ → Change → List Demand → Type 0
 HasChangeDemands spaces group (Create name size block_size) demands =
     HasNewDemands spaces group block_size demands
 HasChangeDemands spaces group (Snapshot volume part) demands = demands ≡ []
 HasChangeDemands spaces group (Clone snapshot name) demands = demands ≡ []
+HasChangeDemands spaces group (Destroy name) demands = demands ≡ []
 
 abbrev pub HasActionDemands : List VdevSpace → ℕ → Action → List Demand → Type 0
 HasActionDemands spaces group action demands = HasChangeDemands spaces group action.change demands
@@ -144,6 +147,7 @@ abbrev pub HasChangePlaces : Store → Store → ℕ → Change → Type 0
 HasChangePlaces old new group (Create name size block_size) = HasNewPlaces old new group block_size
 HasChangePlaces old new group (Snapshot volume part) = new.spaces ≡ old.spaces
 HasChangePlaces old new group (Clone snapshot name) = new.spaces ≡ old.spaces
+HasChangePlaces old new group (Destroy name) = new.spaces ≡ old.spaces
 
 -- or it was not planned
 abbrev pub IsNewRefused : Store → Store → ℕ → ℕ → Refusal → Type 0
@@ -226,14 +230,15 @@ IsUnmade old new changes group rows next (Snapshot volume part) refusal =
     IsUntaken old new changes rows volume next refusal
 IsUnmade old new changes group rows next (Clone snapshot name) refusal =
     IsUncloned old new changes rows snapshot next refusal
+IsUnmade old new changes group rows next (Destroy name) refusal = ⊥
 
--- why the change is not done, behind those that made a volume, a snapshot or a clone each: its names or sizes are not good, or where it makes
--- something, no two numbers are left, or what it makes was not made
+-- why the change is not done, behind those that made a volume, a snapshot or a clone each: it is a destroy, or its names or sizes are not good,
+-- or where it makes something, no two numbers are left, or what it makes was not made
 abbrev pub IsMakingRefused :
     Store → Store → DatasetChanges → ℕ → List DirectoryRow → List Action → ℕ → Change → Refusal → Type 0
 IsMakingRefused old new changes group rows made next change refusal =
     (refusal ≡ NoMemory)
-    ⊎ (((refusal ≡ BadConfig) × (is_good_change change ≡ false))
+    ⊎ (((refusal ≡ BadConfig) × (is_good_making change ≡ false))
     ⊎ (IsMaking rows made change
     × (((refusal ≡ NoSpace) × (numbers_end < next + 2 * length made + 2))
     ⊎ IsUnmade old new changes group rows next change refusal)))

@@ -1,5 +1,5 @@
 -- Datasets that a group destroys, by their names.
-use Rattle.std.specs.Prelude.{ℕ, ◌≡◌, ◌↔◌, ◌⊎◌, ◌≤◌, false, List, [], ◌∷◌, ◌++◌, fold, length, Contains, Option}
+use Rattle.std.specs.Prelude.{ℕ, ◌≡◌, ◌↔◌, ◌⊎◌, ◌≤◌, List, [], ◌∷◌, ◌++◌, length, Contains, Option}
 use Rattle.block_pointer.specs.declared.block.Block.{Block}
 use Rattle.block_store.specs.Blocks.{Contents}
 use Rattle.block_store.specs.Steps.{OnlyReadsBlocks}
@@ -15,23 +15,12 @@ use Rattle.dead_list.specs.Operations.{IsWritable}
 use Rattle.meta_objset.specs.declared.directory.DirectoryRow.{DirectoryRow}
 use Rattle.meta_objset.specs.Names.{IsNamed}
 use Rattle.objset.specs.Objects.{Object}
-use Rattle.pool_model.specs.Pools.{PlainPool, destroyed, has_clones, has_snapshots}
+use Rattle.pool_model.specs.Pools.{PlainPool}
 use Rattle.dataset_groups.specs.Demands.{IsNameThere}
 use Rattle.dataset_groups.specs.Groups.{SpellsGroup}
 use Rattle.dataset_groups.specs.Leaving.{IsReachExchanged}
 use Rattle.dataset_groups.specs.Names.{reach_by}
 use Rattle.dataset_groups.specs.declared.datasets.GroupDatasets.{GroupDatasets}
-
--- the pool once the volumes and snapshots of these names are destroyed, in order
-abbrev pub all_destroyed : List (List ℕ) → PlainPool → PlainPool
-all_destroyed names pool = fold (λ p name. destroyed name p) pool names
-
--- each of these names may be destroyed once those before it are: it has no snapshots and no clones
-abbrev pub MayBeDestroyed : List (List ℕ) → PlainPool → Type 0
-MayBeDestroyed [] pool = Unit {0}
-MayBeDestroyed (name ∷ names) pool =
-    (has_snapshots name pool ≡ false) × (has_clones name pool ≡ false)
-    × MayBeDestroyed names (destroyed name pool)
 
 -- What rows name is what it was, but for what is before it and which blocks are dead behind that; a head may be written to still.
 pub record KeepsNamed (pool after : Pool) (rows : List DirectoryRow) : Type 0 where

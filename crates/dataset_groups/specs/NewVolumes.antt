@@ -5,7 +5,7 @@ use Rattle.meta_objset.specs.declared.record.DatasetKind.TheVariants as datasets
 use Rattle.meta_objset.specs.declared.record.DatasetRecord.{DatasetRecord}
 use Rattle.meta_objset.specs.Names.{IsNamed}
 use Rattle.pool_model.specs.declared.item.Action.{Action}
-use Rattle.volume_rules.specs.GoodChanges.{is_good_change}
+use Rattle.volume_rules.specs.GoodChanges.{is_good_making}
 use Rattle.dataset_groups.specs.declared.new_volume.NewVolume.{NewVolume}
 
 -- object numbers are below this one
@@ -31,6 +31,6 @@ new_record new group dead_list object_set = record {
   object_set = object_set;
 }
 
--- each of them makes a volume or a clone that may be made, or takes a snapshot that may be taken
+-- each of these actions makes something, which may be made so
 abbrev pub AreGoodChanges : List Action → Type 0
-AreGoodChanges actions = All (λ action. is_good_change action.change ≡ true) actions
+AreGoodChanges actions = All (λ action. is_good_making action.change ≡ true) actions

@@ -9,7 +9,7 @@ use Rattle.meta_objset.specs.declared.directory.DirectoryRow.{DirectoryRow}
 use Rattle.meta_objset.specs.declared.record.DatasetRecord.{DatasetRecord}
 use Rattle.pool_model.specs.declared.item.Action.{Action}
 use Rattle.pool_model.specs.declared.item.Change.{Change}
-use Rattle.pool_model.specs.declared.item.Change.TheVariants.{Clone, Create, Snapshot}
+use Rattle.pool_model.specs.declared.item.Change.TheVariants.{Clone, Create, Destroy, Snapshot}
 use Rattle.dataset_groups.specs.Writing.{IsListOf}
 
 -- one of the two numbers that each of so many datasets takes, from that on
@@ -26,6 +26,7 @@ IsTakenBy rows number (Create name size block_size) = ⊥
 IsTakenBy rows number (Snapshot volume part) =
     (row : DirectoryRow) × Contains rows row × IsNamed row.name volume × (row.object ≡ number)
 IsTakenBy rows number (Clone snapshot name) = ⊥
+IsTakenBy rows number (Destroy name) = ⊥
 
 -- by this change a clone is made of the snapshot that a row names, with this object
 abbrev pub IsClonedBy : List DirectoryRow → ℕ → Change → Type 0
@@ -33,6 +34,7 @@ IsClonedBy rows number (Create name size block_size) = ⊥
 IsClonedBy rows number (Snapshot volume part) = ⊥
 IsClonedBy rows number (Clone snapshot name) =
     (row : DirectoryRow) × Contains rows row × IsNamed row.name snapshot × (row.object ≡ number)
+IsClonedBy rows number (Destroy name) = ⊥
 
 -- a volume is made, with the two next numbers
 abbrev pub TouchesNew : DatasetChanges → DatasetChanges → ℕ → Type 0
@@ -50,11 +52,12 @@ TouchesCloned old new rows next snapshot =
     (row : DirectoryRow) × Contains rows row × IsNamed row.name snapshot
     × IsCloneTouched old new row.object next (next + 1)
 
--- by one change
+-- by one change; a destroy is none of those that are done here
 abbrev pub TouchesChange : DatasetChanges → DatasetChanges → List DirectoryRow → ℕ → Change → Type 0
 TouchesChange old new rows next (Create name size block_size) = TouchesNew old new next
 TouchesChange old new rows next (Snapshot volume part) = TouchesTaken old new rows next volume
 TouchesChange old new rows next (Clone snapshot name) = TouchesCloned old new rows next snapshot
+TouchesChange old new rows next (Destroy name) = ⊥
 
 abbrev pub IsHeadTaken : List DirectoryRow → List Action → ℕ → Type 0
 IsHeadTaken rows made number = Any (λ action. IsTakenBy rows number action.change) made

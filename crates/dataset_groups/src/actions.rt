@@ -10,7 +10,7 @@ ghost use Rattle.dead_list.specs.Datasets.{Pool};
 ghost use Rattle.dnode_tree.specs.Writes.{IsForRoom};
 ghost use Rattle.objset.specs.Objects.{Object, AreObjects};
 ghost use Rattle.pool_model.specs.Pools.{PlainPool, changed};
-ghost use Rattle.volume_rules.specs.GoodChanges.{is_good_change};
+ghost use Rattle.volume_rules.specs.GoodChanges.{is_good_making};
 ghost use Rattle.dataset_groups.specs.Actions.{AreActed};
 ghost use Rattle.dataset_groups.specs.Demands.{IsActionRefused, IsMakingRefused, MakesAll, MakesOne};
 ghost use Rattle.dataset_groups.specs.Groups.{SpellsGroup};
@@ -29,9 +29,10 @@ pub(crate) const NUMBERS_END: u64 = 1 << 40;
 impl GroupDatasets {
     /// Does these actions, in order: makes volumes, takes snapshots of what volumes are by then, and makes clones of snapshots. A name that is
     /// there already is passed over, and so is a snapshot of a volume, or a clone of a snapshot, that isn't there. Each volume, snapshot and
-    /// clone takes two objects, for records and dead lists. `BadConfig` where a name or a size is none that a volume or a snapshot can have;
-    /// `NoSpace` also where no numbers are left for objects, or a snapshot's clones can't be counted any more; `BadPointer` where a snapshot's
-    /// volume has no record of a volume, or a clone's snapshot none of a snapshot.
+    /// clone takes two objects, for records and dead lists. `BadConfig` where a name or a size is none that a volume or a snapshot can have,
+    /// and for a destroy: a group destroys before its writes, by `destroy_all`; `NoSpace` also where no numbers are left for objects, or a
+    /// snapshot's clones can't be counted any more; `BadPointer` where a snapshot's volume has no record of a volume, or a clone's snapshot
+    /// none of a snapshot.
     pub fn act_all<D: Disk + Drop>(
         &mut self,
         store: &mut BlockStore<D>,
@@ -82,7 +83,7 @@ impl GroupDatasets {
         Ok(())
     }
 
-    /// Does one action: makes a volume, takes a snapshot, or makes a clone.
+    /// Does one action: makes a volume, takes a snapshot, or makes a clone; a destroy is refused.
     fn act_one<D: Disk + Drop>(
         &mut self,
         store: &mut BlockStore<D>,
@@ -106,11 +107,11 @@ impl GroupDatasets {
             → AreActed group objects planned later self.old self.new pool
             (changed group plain change.now))) }
         ensures bad { IfErr result (λ refusal. refusal ≡ Refusal.BadConfig
-            → is_good_change change.now ≡ false) }
+            → is_good_making change.now ≡ false) }
         ensures known { IfErr result (λ refusal. (stored planned : Contents)
             (objects : ℕ → Option Object) (own : List Block) (blocks : ℕ → List Block)
             (pool : Pool) (readings : ℕ → Reading) (plain : PlainPool)
-            → is_good_change change.now ≡ true → Plans store.old stored planned
+            → is_good_making change.now ≡ true → Plans store.old stored planned
             → AreObjects stored (birth_of self.old.changes) (set_of self.old.changes) objects own blocks
             → AnswersAreTrue store.old store.new
             → SpellsGroup planned group objects self.old pool readings plain
@@ -133,6 +134,7 @@ impl GroupDatasets {
             Change::Clone { snapshot, name } => {
                 self.clone_one(store, alloc, group, snapshot, name)
             }
+            Change::Destroy { .. } => Err(Refusal::BadConfig),
         }
     }
 }

@@ -18,7 +18,7 @@ ghost use Rattle.meta_objset.specs.Names.{IsName, IsNamed};
 ghost use Rattle.objset.specs.Objects.{Object, AreObjects};
 ghost use Rattle.pool_model.specs.declared.item.Change.TheVariants.{Clone};
 ghost use Rattle.pool_model.specs.Pools.{PlainPool, changed};
-ghost use Rattle.volume_rules.specs.GoodChanges.{is_good_change};
+ghost use Rattle.volume_rules.specs.GoodChanges.{is_good_making};
 ghost use Rattle.dataset_groups.specs.Actions.{AreActed};
 ghost use Rattle.dataset_groups.specs.Adding.{IsCloned};
 ghost use Rattle.dataset_groups.specs.Demands.{IsMakingRefused, MakesOne};
@@ -65,11 +65,11 @@ impl GroupDatasets {
             → AreActed group objects known known self.old self.new pool
             (changed group plain (Clone snapshot.now name.now))) }
         ensures bad { IfErr result (λ refusal. refusal ≡ Refusal.BadConfig
-            → is_good_change (Clone snapshot.now name.now) ≡ false) }
+            → is_good_making (Clone snapshot.now name.now) ≡ false) }
         ensures known { IfErr result (λ refusal. (stored known : Contents)
             (objects : ℕ → Option Object) (own : List Block) (blocks : ℕ → List Block)
             (pool : Pool) (readings : ℕ → Reading) (plain : PlainPool)
-            → is_good_change (Clone snapshot.now name.now) ≡ true → Holds store.old stored
+            → is_good_making (Clone snapshot.now name.now) ≡ true → Holds store.old stored
             → AreObjects stored (birth_of self.old.changes) (set_of self.old.changes) objects own blocks
             → AnswersAreTrue store.old store.new
             → SpellsGroup known group objects self.old pool readings plain
@@ -142,10 +142,10 @@ impl GroupDatasets {
 fn name_of_clone(alloc: Global, snapshot: &Name, name: &Name) -> Result<[u8; 56], Refusal>
     ensures named { IfOk result (λ padded. IsNamed padded name.now) }
     ensures good { IfOk result (λ padded.
-        is_good_change (Clone snapshot.now name.now) ≡ true) }
+        is_good_making (Clone snapshot.now name.now) ≡ true) }
     ensures refused { IfErr result (λ refusal. (refusal ≡ Refusal.NoMemory)
         ⊎ ((refusal ≡ Refusal.BadConfig)
-        × (is_good_change (Clone snapshot.now name.now) ≡ false))) }
+        × (is_good_making (Clone snapshot.now name.now) ≡ false))) }
 {
     let volume = snapshot.volume_part(alloc)?;
     if !snapshot.is_of_snapshot() || !is_good_name(&volume) || !is_good_name(name) {

@@ -10,9 +10,9 @@ ghost use Rattle.dataset_changes.specs.States.{AreOfOneSet, birth_of, set_of};
 ghost use Rattle.dead_list.specs.Datasets.{Pool};
 ghost use Rattle.meta_objset.specs.Directory.{IsDirectory, IsWithout};
 ghost use Rattle.objset.specs.Objects.{Object, AreObjects};
-ghost use Rattle.pool_model.specs.Pools.{PlainPool, destroyed};
+ghost use Rattle.pool_model.specs.Pools.{MayBeDestroyed, PlainPool, all_destroyed, destroyed};
 ghost use Rattle.dataset_groups.specs.Demands.{IsNameThere};
-ghost use Rattle.dataset_groups.specs.Destroys.{AreDestroyed, AreDestroysRefused, DestroysAll, DestroysOne, HasAtMost, MayBeDestroyed, all_destroyed};
+ghost use Rattle.dataset_groups.specs.Destroys.{AreDestroyed, AreDestroysRefused, DestroysAll, DestroysOne, HasAtMost};
 ghost use Rattle.dataset_groups.specs.Groups.{SpellsGroup};
 
 use crate::datasets::GroupDatasets;

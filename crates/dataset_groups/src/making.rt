@@ -14,7 +14,7 @@ ghost use Rattle.meta_objset.specs.Record.{FitsRecord};
 ghost use Rattle.objset.specs.Objects.{Object};
 ghost use Rattle.pool_model.specs.declared.item.Change.TheVariants.{Create};
 ghost use Rattle.pool_model.specs.Pools.{PlainPool, changed};
-ghost use Rattle.volume_rules.specs.GoodChanges.{is_good_change};
+ghost use Rattle.volume_rules.specs.GoodChanges.{is_good_making};
 ghost use Rattle.dataset_groups.specs.Actions.{AreActed};
 ghost use Rattle.dataset_groups.specs.Adding.{IsAdded};
 ghost use Rattle.dataset_groups.specs.Demands.{IsMakingRefused, MakesOne};
@@ -59,9 +59,9 @@ impl GroupDatasets {
             → AreActed group objects planned later self.old self.new pool
             (changed group plain (Create name.now size block_size)))) }
         ensures bad { IfErr result (λ refusal. refusal ≡ Refusal.BadConfig
-            → is_good_change (Create name.now size block_size) ≡ false) }
+            → is_good_making (Create name.now size block_size) ≡ false) }
         ensures known { IfErr result (λ refusal.
-            is_good_change (Create name.now size block_size) ≡ true
+            is_good_making (Create name.now size block_size) ≡ true
             → (stored planned : Contents) → Plans store.old stored planned
             → AnswersAreTrue store.old store.new
             → IsForRoom refusal ⊎ (refusal ≡ Refusal.DiskFault)) }

@@ -7,7 +7,7 @@ ghost use Rattle.block_store.specs.Steps.{OnlyReadsAndPlans, AnswersAreTrue};
 ghost use Rattle.dnode_tree.specs.Writes.{IsForRoom};
 ghost use Rattle.meta_objset.specs.Names.{IsName};
 ghost use Rattle.meta_objset.specs.Record.{FitsRecord};
-ghost use Rattle.volume_rules.specs.GoodChanges.{is_good_change, is_good_size};
+ghost use Rattle.volume_rules.specs.GoodChanges.{is_good_making, is_good_size};
 ghost use Rattle.volume.specs.Placing.{LacksRoom};
 ghost use Rattle.volume.specs.Volume.{IsVolume};
 ghost use Rattle.volume.specs.Walking.{blocks_of_volume};
@@ -44,9 +44,9 @@ impl NewVolume {
         ensures is { IfOk result (IsNewVolume name.now size block_size) }
         ensures named { IfOk result (λ new. IsName new.name) }
         ensures good { IfOk result (λ new.
-            is_good_change (Create name.now size block_size) ≡ true) }
+            is_good_making (Create name.now size block_size) ≡ true) }
         ensures refused { IfErr result (λ refusal. (refusal ≡ Refusal.BadConfig)
-            × (is_good_change (Create name.now size block_size) ≡ false)) }
+            × (is_good_making (Create name.now size block_size) ≡ false)) }
     {
         if !is_good_name(name) || !is_good_shape(size, block_size) {
             return Err(Refusal::BadConfig);

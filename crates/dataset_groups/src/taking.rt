@@ -20,7 +20,7 @@ ghost use Rattle.objset.specs.Objects.{Object, AreObjects};
 ghost use Rattle.pool_model.specs.declared.item.Change.TheVariants.{Snapshot};
 ghost use Rattle.pool_model.specs.Names.{snapshot_name};
 ghost use Rattle.pool_model.specs.Pools.{PlainPool, changed};
-ghost use Rattle.volume_rules.specs.GoodChanges.{is_good_change};
+ghost use Rattle.volume_rules.specs.GoodChanges.{is_good_making};
 ghost use Rattle.dataset_groups.specs.Actions.{AreActed};
 ghost use Rattle.dataset_groups.specs.Adding.{IsTaken};
 ghost use Rattle.dataset_groups.specs.Demands.{IsMakingRefused, IsNameThere, MakesOne};
@@ -67,11 +67,11 @@ impl GroupDatasets {
             → AreActed group objects known known self.old self.new pool
             (changed group plain (Snapshot volume.now part.now))) }
         ensures bad { IfErr result (λ refusal. refusal ≡ Refusal.BadConfig
-            → is_good_change (Snapshot volume.now part.now) ≡ false) }
+            → is_good_making (Snapshot volume.now part.now) ≡ false) }
         ensures known { IfErr result (λ refusal. (stored known : Contents)
             (objects : ℕ → Option Object) (own : List Block) (blocks : ℕ → List Block)
             (pool : Pool) (readings : ℕ → Reading) (plain : PlainPool)
-            → is_good_change (Snapshot volume.now part.now) ≡ true → Holds store.old stored
+            → is_good_making (Snapshot volume.now part.now) ≡ true → Holds store.old stored
             → AreObjects stored (birth_of self.old.changes) (set_of self.old.changes) objects own blocks
             → AnswersAreTrue store.old store.new
             → SpellsGroup known group objects self.old pool readings plain
@@ -156,10 +156,10 @@ impl GroupDatasets {
 fn row_name(alloc: Global, volume: &Name, part: &Name) -> Result<[u8; 56], Refusal>
     ensures named { IfOk result (λ name. IsNamed name (snapshot_name volume.now part.now)) }
     ensures good { IfOk result (λ name.
-        is_good_change (Snapshot volume.now part.now) ≡ true) }
+        is_good_making (Snapshot volume.now part.now) ≡ true) }
     ensures refused { IfErr result (λ refusal. (refusal ≡ Refusal.NoMemory)
         ⊎ ((refusal ≡ Refusal.BadConfig)
-        × (is_good_change (Snapshot volume.now part.now) ≡ false))) }
+        × (is_good_making (Snapshot volume.now part.now) ≡ false))) }
 {
     if !is_good_name(volume) || !is_good_name(part) {
         return Err(Refusal::BadConfig);

@@ -10,7 +10,7 @@ use Rattle.std.proofs.lemmas.List.Quantifiers.{all_pairs_push}
 use Rattle.std.proofs.lemmas.Option.{none-some, same_Some}
 use Rattle.meta_objset.specs.declared.record.DatasetRecord.{DatasetRecord}
 use Rattle.dataset_snapshots.specs.declared.chaining.RowRecord.{RowRecord}
-use Rattle.dataset_snapshots.specs.Chaining.{HasRecordAt, IsIndexOf, RecordIndex}
+use Rattle.dataset_snapshots.specs.Chaining.{AreChained, HasRecordAt, IsIndexIfChained, IsIndexOf, RecordIndex}
 
 -- no two have one object
 abbrev pub Apart : RowRecord → RowRecord → Type 0
@@ -105,3 +105,12 @@ module _ (records : List RowRecord) (index : RecordIndex) (is : IsIndexOf record
 
   pub none_there : (P : DatasetRecord → Type 0) → get nat_eq index object ≡ None → ¬ ((r : DatasetRecord) × HasRecordAt records object r × P r)
   none_there P none (r, held, p) = none-some r (sym none ∙ (is.has object r).1 held)
+
+-- ---- the index of records that fit one another
+
+pub index_there : (records : List RowRecord) (found : Option RecordIndex) (index : RecordIndex) → IsIndexIfChained records found → found ≡ Some index → AreChained records × IsIndexOf records index
+index_there records found index has is = subst (IsIndexIfChained records) is has
+
+pub no_index : (records : List RowRecord) (found : Option RecordIndex) → IsIndexIfChained records found → ((index : RecordIndex) → ¬ (found ≡ Some index)) → ¬ AreChained records
+no_index records None has none = has
+no_index records (Some index) has none = absurd (none index refl)

@@ -9,7 +9,7 @@ use Rattle.block_store.specs.Blocks.{Contents}
 use Rattle.dataset_chains.specs.Chains.{HasCloneCount, IsRecordFor, Reading, kind_of}
 use Rattle.dataset_chains.specs.Standing.{HasChains}
 use Rattle.dataset_groups.proofs.ListParts.{all_from, first_or_later, is_first, is_later, nothing_in}
-use Rattle.dataset_groups.specs.Names.{NamesPool, objects_of_rows}
+use Rattle.dataset_groups.specs.Names.{BranchesOff, NamesPool, objects_of_rows}
 use Rattle.dead_list.specs.Datasets.{Dataset, Free, Pool, nothing}
 use Rattle.dead_list.specs.Datasets.{Snapshot as ASnapshot}
 use Rattle.meta_objset.proofs.Edits.{pairs_head, pairs_tail}
@@ -23,6 +23,7 @@ use Rattle.objset.specs.Objects.{Object}
 use Rattle.pool_model.specs.Pools.{PlainPool}
 use Rattle.raidz_io.proofs.Pigeons.{AreDistinct, distinct_fit}
 use Rattle.dataset_snapshots.specs.declared.chaining.RowRecord.{RowRecord}
+use Rattle.dataset_snapshots.specs.Clones.{RowBranchesOff}
 use Rattle.dataset_snapshots.specs.Chaining.{AreChained, HasRecordAt, IsBehindOne, IsChained, IsFollowed, clones_among}
 use Rattle.dataset_snapshots.proofs.ChainIndexes.{Apart, object_of}
 
@@ -145,6 +146,38 @@ module _ (stored : Contents) (birth : ℕ) (objects : ℕ → Option Object) (po
           let before = there n some in
           inr (before.r, subst (λ m. HasRecordAt records m before.r) (it one held).is.previous before.at, is_snapshot before.r.kind (sym linked.0 ∙ before.is.kind))
     ]
+
+    -- a row that branches off another by its record does so in the pool
+    pub branches_by : (row before : DirectoryRow) → RowBranchesOff records row before → BranchesOff pool row.object × ((pool.datasets row.object).before ≡ before.object)
+    branches_by row before off =
+        let is = (it (record { object = row.object; «record» = off.r }) off.has).is in
+        let of = (it (record { object = before.object; «record» = off.s }) off.there).is in
+        let behind : (pool.datasets row.object).before ≡ before.object = is.previous ∙ off.previous in
+        let snapshot : off.s.kind ≡ kinds.Snapshot = elim (chains.sound.linked row.object) [
+          | inl none ↦ absurd (off.some (sym is.previous ∙ none))
+          | inr linked ↦ is_snapshot off.s.kind (sym linked.0 ∙ ap (λ n. (pool.datasets n).kind) behind ∙ of.kind)
+        ] in
+        ((λ none. off.some (sym is.previous ∙ none), λ same. off.other (sym (of.next snapshot) ∙ ap pool.next (sym behind) ∙ same)), behind)
+
+    -- and the other way round
+    pub branches_too : (row before : DirectoryRow) → BranchesOff pool row.object → (pool.datasets row.object).before ≡ before.object → RowBranchesOff records row before
+    branches_too row before off behind =
+        let first = there row.object (some_with row.object before.object behind (λ none. off.0 (behind ∙ none))) in
+        let kind : (pool.datasets before.object).kind ≡ ASnapshot = elim (chains.sound.linked row.object) [
+          | inl none ↦ absurd (off.0 none)
+          | inr linked ↦ sym (ap (λ n. (pool.datasets n).kind) behind) ∙ linked.0
+        ] in
+        let second = there before.object (λ none. let wrong : ASnapshot ≡ Free = sym kind ∙ ap (λ (d : Dataset). d.kind) none in cc) in
+        let snapshot : second.r.kind ≡ kinds.Snapshot = is_snapshot second.r.kind (sym kind ∙ second.is.kind) in
+        record {
+          r = first.r;
+          has = first.at;
+          some = λ none. off.0 (first.is.previous ∙ none);
+          previous = sym first.is.previous ∙ behind;
+          s = second.r;
+          there = second.at;
+          other = λ same. off.1 (ap pool.next behind ∙ (second.is.next snapshot ∙ same));
+        }
 
     module _ (one : RowRecord) (held : Contains records one) (snapshot : one.record.kind ≡ kinds.Snapshot) where
       next_is : pool.next one.object ≡ one.record.next

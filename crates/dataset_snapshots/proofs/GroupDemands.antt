@@ -138,10 +138,10 @@ module _ (old first second new : Store) (root : Block) (rows : List DirectoryRow
         why = inr (record { mid = second; before = steps; gone = gone; all = changes; volumes = volumes; why = why });
       }))
 
-  pub group_has : (gone of_written of_meta replaced : List Block) (all : List ObjectChange) → OnlyReadsAndPlans first second []
+  pub group_has : (gone of_meta replaced : List Block) (all : List ObjectChange) → OnlyReadsAndPlans first second []
       → HasMappedPlaces first second root.birth group opened items.actions gone all → HasRootPlaces second new opened.set group all
-      → gone ≡ opened.freed.items ++ of_written → replaced ≡ root ∷ gone ++ of_meta → HasGroupPlaces old new root rows group destroyed items replaced
-  group_has gone of_written of_meta replaced all steps mapped (of_root, root_asks, root_has) gone_is given_back =
+      → replaced ≡ root ∷ gone ++ of_meta → HasGroupPlaces old new root rows group destroyed items replaced
+  group_has gone of_meta replaced all steps mapped (of_root, root_asks, root_has) given_back =
       let volumes = mapped.volumes in
       let same : first.spaces ≡ old.spaces = ap (λ (s : Store). s.spaces) reads.rest in
       let now : second.spaces ≡ mapped.mid.spaces = ap (λ (s : Store). s.spaces) mapped.reads.rest in
@@ -173,8 +173,6 @@ module _ (old first second new : Store) (root : Block) (rows : List DirectoryRow
         opened = opened;
         found = found;
         gone = gone;
-        of_written = of_written;
-        gone_is = gone_is;
         of_meta = of_meta;
         given_back = given_back;
         demands = demands;
@@ -182,8 +180,8 @@ module _ (old first second new : Store) (root : Block) (rows : List DirectoryRow
         places = subst (λ (spaces : List VdevSpace). HavePlaces spaces demands new.spaces) same have;
       }
 
-pub group_unread : (old new : Store) (root : Block) (rows : List DirectoryRow) (group : ℕ) (destroyed : List (List ℕ)) (items : Entry) (writes : List Write) (refusal : Refusal) → writes ≡ items.writes
-    → (refusal ≡ NoMemory) ⊎ IsGroupUnread old new root rows group destroyed writes refusal → IsGroupRefused old new root rows group destroyed items refusal
-group_unread old new root rows group destroyed items writes refusal same (inl memory) = inl memory
-group_unread old new root rows group destroyed items writes refusal same (inr why) =
-    inr (inl (subst (λ (ws : List Write). IsGroupUnread old new root rows group destroyed ws refusal) same why))
+pub group_unread : (old new : Store) (root : Block) (rows : List DirectoryRow) (group : ℕ) (destroyed : List (List ℕ)) (items : Entry) (names : List (List ℕ)) (refusal : Refusal) → names ≡ destroyed
+    → (refusal ≡ NoMemory) ⊎ IsGroupUnread old new root rows group names items.writes refusal → IsGroupRefused old new root rows group destroyed items refusal
+group_unread old new root rows group destroyed items names refusal same (inl memory) = inl memory
+group_unread old new root rows group destroyed items names refusal same (inr why) =
+    inr (inl (subst (λ (gone : List (List ℕ)). IsGroupUnread old new root rows group gone items.writes refusal) same why))

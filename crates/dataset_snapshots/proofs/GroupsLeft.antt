@@ -1,5 +1,5 @@
 -- What a group makes of the records, the dead lists and the directory, as changes of objects.
-use Rattle.std.proofs.Common.{◌≡◌, ◌≢◌, ◌⊎◌, Bool, true, false, inl, inr, ℕ, ◌<◌, ◌≤◌, List, ◌∷◌, Option, Some, None, All, refl, sym, ap, subst, ◌∙◌, arith}
+use Rattle.std.proofs.Common.{◌≡◌, ◌≢◌, ◌⊎◌, Bool, true, false, inl, inr, ℕ, ◌≤◌, List, ◌∷◌, Option, Some, None, All, refl, sym, ap, subst, ◌∙◌, arith}
 use Rattle.std.proofs.lemmas.Bool.{cases_eq}
 use Rattle.std.proofs.lemmas.List.Elements.{All-cons, All-contains, All-weaker}
 use Rattle.block_pointer.specs.declared.block.Block.{Block}
@@ -16,7 +16,6 @@ use Rattle.dataset_changes.specs.declared.states.ListState.TheVariants as lists
 use Rattle.dataset_changes.specs.declared.states.RecordState.{RecordState}
 use Rattle.dataset_changes.specs.declared.states.RecordState.TheVariants as records
 use Rattle.dataset_groups.specs.declared.datasets.GroupDatasets.{GroupDatasets}
-use Rattle.dataset_groups.specs.Destroys.{all_destroyed}
 use Rattle.dataset_groups.specs.Groups.{SpellsGroup}
 use Rattle.dataset_groups.specs.Names.{reach_by}
 use Rattle.dataset_groups.specs.Writing.{AreWritten}
@@ -30,7 +29,7 @@ use Rattle.objset.specs.declared.changes.ObjectChange.{ObjectChange}
 use Rattle.objset.specs.Changes.{MayChange, after_change, changed}
 use Rattle.objset.specs.Objects.{AreObjects, Object}
 use Rattle.pool_model.specs.declared.item.Write.{Write}
-use Rattle.pool_model.specs.Pools.{PlainPool}
+use Rattle.pool_model.specs.Pools.{PlainPool, all_destroyed}
 use Rattle.dataset_snapshots.specs.declared.groups.Opened.{Opened}
 use Rattle.dataset_snapshots.specs.Demands.{HasDatasetChanges, WritesRows}
 use Rattle.dataset_snapshots.specs.Groups.{AreOfDatasets, IsOfDatasets, IsOpened, IsOpenedFrom, SpellsAfter}

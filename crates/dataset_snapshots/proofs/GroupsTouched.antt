@@ -19,7 +19,7 @@ use Rattle.meta_objset.specs.declared.directory.DirectoryRow.{DirectoryRow}
 use Rattle.objset.specs.declared.changes.ObjectChange.{ObjectChange}
 use Rattle.pool_model.specs.declared.item.Action.{Action}
 use Rattle.pool_model.specs.declared.item.Change.{Change}
-use Rattle.pool_model.specs.declared.item.Change.TheVariants.{Clone, Create, Snapshot}
+use Rattle.pool_model.specs.declared.item.Change.TheVariants.{Clone, Create, Destroy, Snapshot}
 use Rattle.volume.specs.Demands.{empty_set}
 use Rattle.dataset_snapshots.specs.declared.groups.Opened.{Opened}
 use Rattle.dataset_snapshots.specs.Demands.{AreDirectoryChanges, are_renamed, AreGroupChanges, AreGroupDatasets, AreMisnumbered, AreVolumesRefused, HasDatasetChanges, HasVolumePlaces}
@@ -88,6 +88,7 @@ change_asks : (old mid : List VdevSpace) → shapes_of mid ≡ shapes_of old →
 change_asks old mid same group (Create name size block_size) demands has = (has.0, has.1, set_demands_in old mid same empty_set group has.0 demands has.2)
 change_asks old mid same group (Snapshot volume part) demands none = none
 change_asks old mid same group (Clone snapshot name) demands none = none
+change_asks old mid same group (Destroy name) demands none = none
 
 -- the volumes that are written to were placed, and then the actions are done
 module _ (old mid new : Store) (group : ℕ) (opened : Opened) (actions : List Action) (first last : GroupDatasets) (rows_are : first.directory ≡ opened.datasets.directory)

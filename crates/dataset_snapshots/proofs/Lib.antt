@@ -6,6 +6,7 @@ pub mod ChainCounts
 pub mod ChainIndexes
 pub mod ChainWalks
 pub mod ChangedRows
+pub mod CloneRows
 pub mod Copied
 pub mod Datasets
 pub mod Exchanges
@@ -45,6 +46,7 @@ pub mod Readings
 pub mod Rows
 pub mod Standing
 pub mod Staying
+pub mod ToldOrigins
 pub mod WalkedRows
 pub mod WrittenObjects
 pub mod YoungerRefusals

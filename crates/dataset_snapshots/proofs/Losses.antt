@@ -23,7 +23,7 @@ use Rattle.objset.specs.declared.changes.ObjectChange.{ObjectChange}
 use Rattle.pool_maps.specs.Refused.{AreFirstRefused, IsPlanRefused as AreMapsUnplanned, no_set}
 use Rattle.pool_model.specs.declared.item.Action.{Action}
 use Rattle.pool_model.specs.declared.item.Change.{Change}
-use Rattle.pool_model.specs.declared.item.Change.TheVariants.{Clone, Create, Snapshot}
+use Rattle.pool_model.specs.declared.item.Change.TheVariants.{Clone, Create, Destroy, Snapshot}
 use Rattle.pool_model.specs.declared.item.Write.{Write}
 use Rattle.volume.proofs.Losses.{plan_lost, read_lost}
 use Rattle.volume.specs.Demands.{empty_set}
@@ -86,6 +86,7 @@ unmade_lost : (old new : Store) (changes : DatasetChanges) (group : ℕ) (rows :
     → IsUnmade old new changes group rows next change refusal → refusal ≡ DiskFault → IsBlockLost old new []
 unmade_lost old new changes group rows next (Create name size block_size) refusal (creation, made, why) is = plan_lost old new empty_set group group creation refusal why is
 unmade_lost old new changes group rows next (Snapshot volume part) refusal untaken is = chain_lost old new untaken.far untaken.last untaken.head _ refusal untaken.why is
+unmade_lost old new changes group rows next (Destroy name) refusal why is = absurd why
 unmade_lost old new changes group rows next (Clone snapshot name) refusal uncloned is = elim uncloned.why [
   | inl (full, most) ↦ absurd (cc)
   | inr why ↦ chain_lost old new uncloned.far uncloned.last uncloned.origin _ refusal why is

@@ -1,10 +1,15 @@
 -- The names of rows, known one after the other.
-use Rattle.std.proofs.Common.{◌≡◌, ◌≢◌, ℕ, zero, suc, ◌+◌, ◌<◌, List, [], ◌∷◌, ◌++◌, length, map, take, get_or, Bool, true, false, Option, Some, None, AllPairs, inl, inr, refl, sym, ap, ◌∙◌, subst, arith}
+use Rattle.std.proofs.Common.{◌≡◌, ◌≢◌, ℕ, zero, suc, ◌+◌, ◌<◌, ◌≤◌, List, [], ◌∷◌, ◌++◌, length, map, take, get_or, Bool, true, false, true≢false, Option, Some, None, AllPairs, Contains, inl, inr, refl, sym, ap, ◌∙◌, subst, arith}
 use Rattle.std.specs.Prelude.{cond, min, replicate, All}
-use Rattle.std.specs.List.{AllZip}
+use Rattle.std.specs.Cmp.Lexicographic.{slice_cmp}
+use Rattle.std.specs.declared.cmp.Ordering.{Ordering}
+use Rattle.std.specs.declared.cmp.Ordering.TheVariants.{Less, Equal, Greater}
+use Rattle.std.specs.List.{AllByRecursion, AllZip}
+use Rattle.std.specs.List.Sorted.{IsStrictlySortedBy}
+use Rattle.std.specs.Ordering.{nat_cmp, is_lt}
 use Rattle.std.specs.Option.{option_map}
-use Rattle.std.proofs.lemmas.List.{get_or-take, get_or_default, length-replicate, length-take, take_more}
-use Rattle.std.proofs.lemmas.List.Elements.{All-head, All-tail}
+use Rattle.std.proofs.lemmas.List.{get_or-take, get_or_default, length-replicate, length-take, take_all, take_more}
+use Rattle.std.proofs.lemmas.List.Elements.{All-contains, All-head, All-push, All-tail, Contains-push}
 use Rattle.std.proofs.lemmas.List.Folds.{find-append}
 use Rattle.std.proofs.lemmas.Slice.Zip.{all_zipped_more}
 use Rattle.block_store.specs.Blocks.{Contents}
@@ -13,6 +18,7 @@ use Rattle.block_store.specs.declared.refusal.Refusal.TheVariants.{NoSpace}
 use Rattle.block_store.specs.Spaces.{VdevSpace}
 use Rattle.block_store.specs.Steps.{OnlyReadsBlocks}
 use Rattle.block_store.specs.Store.{Store}
+use Rattle.dataset_groups.proofs.NamingOrder.{before_named}
 use Rattle.dataset_groups.specs.Names.{objects_of_rows}
 use Rattle.dnode.specs.declared.object_set.ObjectSet.{ObjectSet}
 use Rattle.dnode_tree.specs.ReadRefusals.{IsForRead}
@@ -27,18 +33,21 @@ use Rattle.objset.specs.Objects.{Object}
 use Rattle.pool_model.proofs.Places.{same_is, volume_more}
 use Rattle.pool_model.specs.declared.volume.PlainVolume.{PlainVolume}
 use Rattle.pool_model.specs.Names.{same}
-use Rattle.pool_model.specs.Pools.{PlainPool, volume_at, with_volume}
+use Rattle.pool_model.specs.Pools.{AreAscending, PlainPool, volume_at, with_volume}
 use Rattle.volume_rules.specs.declared.index.NameIndex.{NameIndex}
+use Rattle.volume_rules.specs.declared.index.NewName.{NewName}
 use Rattle.volume_rules.specs.declared.shape.VolumeShape.{VolumeShape}
-use Rattle.volume_rules.specs.Index.{Knows}
-use Rattle.volume_rules.specs.Shapes.{shape_of}
+use Rattle.volume_rules.specs.Index.{IsNameOf, Knows}
+use Rattle.volume_rules.specs.Shapes.{entry_of, shape_of}
 use Rattle.dataset_snapshots.specs.declared.chaining.RowRecord.{RowRecord}
+use Rattle.dataset_snapshots.specs.Clones.{HasToldOrigin, TellsOrigin}
 use Rattle.dataset_snapshots.specs.Contents.{AreVolumesNamed, IsRowRecord, IsShapeIn, IsVolumeNamed}
 use Rattle.dataset_snapshots.specs.Pools.{IsRecordOf, SpellsDataset}
 use Rattle.dataset_snapshots.proofs.Chained.{one_kind}
 use Rattle.dataset_snapshots.proofs.ChainIndexes.{object_of}
 use Rattle.dataset_snapshots.proofs.Pushing.{all_more}
 use Rattle.dataset_snapshots.proofs.Rows.{at, padded_same}
+use Rattle.dataset_snapshots.proofs.ToldOrigins.{HasNoOrigin, still_named, told_all}
 
 abbrev Before : DirectoryRow → DirectoryRow → Type 0
 Before row later = IsBefore row.name later.name
@@ -81,22 +90,78 @@ module _ (stored : Contents) (birth : ℕ) (objects : ℕ → Option Object) whe
 
 -- ---- what is known
 
+is_less : (o : Ordering) → is_lt o ≡ true → o ≡ Less
+is_less Less e = refl
+is_less Equal e = absurd (true≢false (sym e))
+is_less Greater e = absurd (true≢false (sym e))
+
+-- volumes ascend as the rows do that name them
+above_name : {R : DirectoryRow → PlainVolume → Type 0} (named : (row : DirectoryRow) (volume : PlainVolume) → R row volume → IsNamed row.name volume.name) (first : DirectoryRow) (volume : PlainVolume)
+    (rows : List DirectoryRow) (volumes : List PlainVolume) → IsNamed first.name volume.name → All (Before first) rows → AllZip R rows volumes
+    → AllByRecursion (λ name. slice_cmp nat_cmp volume.name name ≡ Less) (map (λ (v : PlainVolume). v.name) volumes)
+above_name named first volume [] [] is before all = tt
+above_name named first volume [] (next ∷ volumes) is before all = absurd all
+above_name named first volume (row ∷ rows) [] is before all = absurd all
+above_name named first volume (row ∷ rows) (next ∷ volumes) is before all = (
+  is_less (slice_cmp nat_cmp volume.name next.name) (before_named first.name volume.name row.name next.name is (named row next all.0) (All-head (Before first) row rows before)),
+  above_name named first volume rows volumes is (All-tail (Before first) row rows before) all.1,
+)
+
+ascending : {R : DirectoryRow → PlainVolume → Type 0} (named : (row : DirectoryRow) (volume : PlainVolume) → R row volume → IsNamed row.name volume.name) (rows : List DirectoryRow)
+    (volumes : List PlainVolume) → AllPairs Before rows → AllZip R rows volumes → AreAscending volumes
+unfolding IsStrictlySortedBy
+ascending named [] [] order all = tt
+ascending named [] (volume ∷ volumes) order all = absurd all
+ascending named (row ∷ rows) [] order all = absurd all
+ascending named (row ∷ rows) (volume ∷ volumes) order all = (
+  above_name named row volume rows volumes (named row volume all.0) (pairs_head Before row rows order) all.1,
+  ascending named rows volumes (pairs_tail Before row rows order) all.1,
+)
+
+pairs_taken : (rows : List DirectoryRow) (n : ℕ) → AllPairs Before rows → AllPairs Before (take n rows)
+pairs_taken rows n order i j d less low =
+    let len : length (take n rows) ≡ min n (length rows) = length-take n rows in
+    subst (λ (row : DirectoryRow). Before row (get_or (take n rows) j d)) (sym (get_or-take n rows i d (omega (arith, less, low, len))))
+    (subst (λ (row : DirectoryRow). Before (get_or rows i d) row) (sym (get_or-take n rows j d (omega (arith, low, len)))) (order i j d less (omega (arith, low, len))))
+
+zip_taken : {X Y : Type 0} (R : X → Y → Type 0) (n : ℕ) (xs : List X) (ys : List Y) → AllZip R xs ys → AllZip R (take n xs) (take n ys)
+zip_taken R zero xs ys all = tt
+zip_taken R (suc n) [] [] all = tt
+zip_taken R (suc n) [] (y ∷ ys) all = absurd all
+zip_taken R (suc n) (x ∷ xs) [] all = absurd all
+zip_taken R (suc n) (x ∷ xs) (y ∷ ys) all = (all.0, zip_taken R n xs ys all.1)
+
 -- an index that knows volumes and one with a new name knows them in this order
-knows_more : (names : NameIndex) (volumes : List PlainVolume) (volume : PlainVolume) → Knows names (with_volume volume (record { volumes = volumes })) → Knows names (record { volumes = volumes ++ volume ∷ [] })
-knows_more names volumes volume known =
+knows_more : (names : NameIndex) (volumes : List PlainVolume) (volume : PlainVolume) → AreAscending (volumes ++ volume ∷ []) → Knows names (with_volume volume (record { volumes = volumes }))
+    → Knows names (record { volumes = volumes ++ volume ∷ [] })
+knows_more names volumes volume up known =
     let pool : PlainPool = record { volumes = volumes } in
     record {
-      shapes = λ name.
+      entries = λ name.
           let found : volume_at name (with_volume volume pool) ≡ at name (volumes ++ volume ∷ []) =
           volume_more pool volume name ∙ sym (find-append (λ (v : PlainVolume). same v.name name) volumes (volume ∷ [])) in
-          known.shapes name ∙ ap (option_map shape_of) found;
+          known.entries name ∙ ap (option_map entry_of) found;
+      ascending = up;
     }
 
-pub knows_next : (names : NameIndex) (volumes : List PlainVolume) (k : ℕ) (volume : PlainVolume) → take (suc k) volumes ≡ take k volumes ++ volume ∷ []
+pub knows_next : (stored : Contents) (birth : ℕ) (objects : ℕ → Option Object) (rows : List DirectoryRow) (names : NameIndex) (volumes : List PlainVolume) (k : ℕ) (volume : PlainVolume)
+    → AllPairs Before rows → AllZip (SpellsDataset stored birth objects) rows volumes → take (suc k) volumes ≡ take k volumes ++ volume ∷ []
     → Knows names (with_volume volume (record { volumes = take k volumes })) → Knows names (record { volumes = take (k + 1) volumes })
-knows_next names volumes k volume more known =
+knows_next stored birth objects rows names volumes k volume order all more known =
     let one_more : k + 1 ≡ suc k = omega arith in
-    subst (λ (vs : List PlainVolume). Knows names (record { volumes = vs })) (sym (ap (λ n. take n volumes) one_more ∙ more)) (knows_more names (take k volumes) volume known)
+    let up : AreAscending (take (suc k) volumes) =
+    ascending (λ (row : DirectoryRow) (v : PlainVolume) (is : SpellsDataset stored birth objects row v). is.name) (take (suc k) rows) (take (suc k) volumes) (pairs_taken rows (suc k) order)
+    (zip_taken (SpellsDataset stored birth objects) (suc k) rows volumes all) in
+    subst (λ (vs : List PlainVolume). Knows names (record { volumes = vs })) (sym (ap (λ n. take n volumes) one_more ∙ more))
+    (knows_more names (take k volumes) volume (subst AreAscending more up) known)
+
+-- a volume of this shape and of no origin has this entry
+pub named_so : (new : NewName) (volume : PlainVolume) (shape : VolumeShape) → volume.name ≡ new.name → new.entry.shape ≡ shape → new.entry.origin ≡ None → shape_of volume ≡ shape
+    → volume.origin ≡ None → IsNameOf new volume
+named_so new volume shape name shape_is none_is same none = record {
+  name = name;
+  entry = λ i. record { shape = (same ∙ sym shape_is) i; origin = (none ∙ sym none_is) i };
+}
 
 shapes_same : (shape other : VolumeShape) → shape.size ≡ other.size → shape.block_size ≡ other.block_size → shape.group ≡ other.group → shape.kind ≡ other.kind → shape ≡ other
 shapes_same shape other size block_size group kind = λ i. record { size = size i; block_size = block_size i; group = group i; kind = kind i }
@@ -120,6 +185,11 @@ before_row rows k row other order low is i d within =
     (subst (λ (r : DirectoryRow). Before r (get_or rows k d)) (sym (get_or-take k rows i d small)) (order i k d small low))
 
 module _ (spaces : List VdevSpace) (set : ObjectSet) (birth : ℕ) where
+  -- the index knows volumes of the rows, which have no origins
+  abbrev pub AreBareNamed : List DirectoryRow → NameIndex → Type 0
+  AreBareNamed rows names =
+      (volumes : List PlainVolume) × AllZip (IsVolumeNamed spaces set birth) rows volumes × All HasNoOrigin volumes × Knows names (record { volumes = volumes })
+
   no_name : (rows : List DirectoryRow) (volumes : List PlainVolume) (row : DirectoryRow) (name : List ℕ) → AllZip (IsVolumeNamed spaces set birth) rows volumes → All (λ first. Before first row) rows
       → IsNamed row.name name → at name volumes ≡ None
   no_name [] [] row name all before named = refl
@@ -132,10 +202,11 @@ module _ (spaces : List VdevSpace) (set : ObjectSet) (birth : ℕ) where
 
   -- one row more
   named_more : (rows : List DirectoryRow) (k : ℕ) (row other : DirectoryRow) (names after : NameIndex) (r : DatasetRecord) (shape : VolumeShape) → AllPairs Before rows → k < length rows → row ≡ get_or rows k other
-      → IsName row.name → IsRecordFound spaces set birth row.object r → IsShapeIn r shape → AreVolumesNamed spaces set birth (take k rows) names
-      → ((pool : PlainPool) (volume : PlainVolume) → Knows names pool → IsNamed row.name volume.name → volume_at volume.name pool ≡ None → shape_of volume ≡ shape → Knows after (with_volume volume pool))
-      → AreVolumesNamed spaces set birth (take (k + 1) rows) after
-  named_more rows k row other names after r shape order low is named has found (before, all, known) added =
+      → IsName row.name → IsRecordFound spaces set birth row.object r → IsShapeIn r shape → AreBareNamed (take k rows) names
+      → ((pool : PlainPool) (volume : PlainVolume) → Knows names pool → IsNamed row.name volume.name → volume_at volume.name pool ≡ None → shape_of volume ≡ shape → volume.origin ≡ None
+      → Knows after (with_volume volume pool))
+      → AreBareNamed (take (k + 1) rows) after
+  named_more rows k row other names after r shape order low is named has found (before, all, none_of, known) added =
       let none : ℕ = 0 in
       let volume : PlainVolume = record { name = named.0; bytes = replicate r.size none; block_size = r.block_size; group = r.created; kind = shape.kind; origin = None } in
       let size : length volume.bytes ≡ r.size = length-replicate r.size none in
@@ -144,19 +215,25 @@ module _ (spaces : List VdevSpace) (set : ObjectSet) (birth : ℕ) where
       let new : at volume.name before ≡ None = no_name (take k rows) before row volume.name all (before_row rows k row other order low is) named.1 in
       let same_shape : shape_of volume ≡ shape =
       shapes_same (shape_of volume) shape (size ∙ sym found.size) (sym found.block_size) (sym found.created) refl in
-      let taken : take k rows ++ row ∷ [] ≡ take (k + 1) rows = ap (λ (r : DirectoryRow). take k rows ++ r ∷ []) is ∙ sym (take_more rows k other low) in (
+      let taken : take k rows ++ row ∷ [] ≡ take (k + 1) rows = ap (λ (r : DirectoryRow). take k rows ++ r ∷ []) is ∙ sym (take_more rows k other low) in
+      let now_all : AllZip (IsVolumeNamed spaces set birth) (take (k + 1) rows) (before ++ volume ∷ []) =
+      subst (λ (rs : List DirectoryRow). AllZip (IsVolumeNamed spaces set birth) rs (before ++ volume ∷ [])) taken
+      (all_zipped_more (IsVolumeNamed spaces set birth) (take k rows) before row volume all is_named) in
+      let up : AreAscending (before ++ volume ∷ []) =
+      ascending (λ (row : DirectoryRow) (v : PlainVolume) (is : IsVolumeNamed spaces set birth row v). is.name) (take (k + 1) rows) (before ++ volume ∷ []) (pairs_taken rows (k + 1) order) now_all in (
         before ++ volume ∷ [],
-        subst (λ (rs : List DirectoryRow). AllZip (IsVolumeNamed spaces set birth) rs (before ++ volume ∷ [])) taken
-            (all_zipped_more (IsVolumeNamed spaces set birth) (take k rows) before row volume all is_named),
-        knows_more after before volume (added (record { volumes = before }) volume known named.1 new same_shape),
+        now_all,
+        All-push HasNoOrigin before volume none_of refl,
+        knows_more after before volume up (added (record { volumes = before }) volume known named.1 new same_shape refl),
       )
 
 -- behind reads
 pub named_next : (old mid : Store) (missing : List ℕ) (set : ObjectSet) (birth : ℕ) (rows : List DirectoryRow) (k : ℕ) (row other : DirectoryRow) (names after : NameIndex) (r : DatasetRecord) (shape : VolumeShape)
     → OnlyReadsBlocks old mid missing → AllPairs Before rows → k < length rows → IsRecordFound mid.spaces set birth row.object r → IsShapeIn r shape → row ≡ get_or rows k other → IsName row.name
-    → AreVolumesNamed old.spaces set birth (take k rows) names
-    → ((pool : PlainPool) (volume : PlainVolume) → Knows names pool → IsNamed row.name volume.name → volume_at volume.name pool ≡ None → shape_of volume ≡ shape → Knows after (with_volume volume pool))
-    → AreVolumesNamed old.spaces set birth (take (k + 1) rows) after
+    → AreBareNamed old.spaces set birth (take k rows) names
+    → ((pool : PlainPool) (volume : PlainVolume) → Knows names pool → IsNamed row.name volume.name → volume_at volume.name pool ≡ None → shape_of volume ≡ shape → volume.origin ≡ None
+    → Knows after (with_volume volume pool))
+    → AreBareNamed old.spaces set birth (take (k + 1) rows) after
 named_next old mid missing set birth rows k row other names after r shape reads order low has found is named before added =
     named_more old.spaces set birth rows k row other names after r shape order low is named
     (subst (λ (spaces : List VdevSpace). IsRecordFound spaces set birth row.object r) (spaces_stay old mid missing reads) has) found before added
@@ -175,6 +252,35 @@ records_next old mid missing set birth rows k row other records now r reads low 
     subst (λ (them : List RowRecord). AllZip (IsRowRecord old.spaces set birth) (take (k + 1) rows) them) (sym now_is)
     (subst (λ (rs : List DirectoryRow). AllZip (IsRowRecord old.spaces set birth) rs (records ++ one ∷ [])) taken
     (all_zipped_more (IsRowRecord old.spaces set birth) (take k rows) records row one before here))
+
+-- at the end these are those of all rows
+pub all_read : (spaces : List VdevSpace) (set : ObjectSet) (birth : ℕ) (rows : List DirectoryRow) (k : ℕ) (records : List RowRecord) → length rows ≤ k
+    → AllZip (IsRowRecord spaces set birth) (take k rows) records → AllZip (IsRowRecord spaces set birth) rows records
+all_read spaces set birth rows k records past = subst (λ (them : List DirectoryRow). AllZip (IsRowRecord spaces set birth) them records) (take_all k rows past)
+
+contains_taken : (volumes : List PlainVolume) (n : ℕ) (volume : PlainVolume) → Contains (take n volumes) volume → Contains volumes volume
+contains_taken volumes n volume (k, low, is) =
+    let len : length (take n volumes) ≡ min n (length volumes) = length-take n volumes in
+    (k, omega (arith, low, len), sym (get_or-take n volumes k volume (omega (arith, low, len))) ∙ is)
+
+-- the next volume has no origin where none has
+pub none_next : (volumes : List PlainVolume) (k : ℕ) (volume : PlainVolume) → take (suc k) volumes ≡ take k volumes ++ volume ∷ [] → All HasNoOrigin volumes → volume.origin ≡ None
+none_next volumes k volume more none =
+    All-contains HasNoOrigin volumes volume none
+    (contains_taken volumes (suc k) volume (subst (λ (vs : List PlainVolume). Contains vs volume) (sym more) (Contains-push (take k volumes) volume)))
+
+-- with the origins that are told they are the volumes of the rows
+pub all_named : (spaces : List VdevSpace) (set : ObjectSet) (birth : ℕ) (rows : List DirectoryRow) (records : List RowRecord) (bare : List PlainVolume) (names : NameIndex)
+    → AllZip (IsRowRecord spaces set birth) rows records → AllZip (IsVolumeNamed spaces set birth) rows bare
+    → (volumes : List PlainVolume) × AllZip (HasToldOrigin (TellsOrigin rows records)) bare volumes × Knows names (record { volumes = volumes }) → AreVolumesNamed spaces set birth rows names
+all_named spaces set birth rows records bare names read named (volumes, told, known) = (
+  records,
+  read,
+  volumes,
+  still_named spaces set birth (TellsOrigin rows records) rows bare volumes named told,
+  told_all (TellsOrigin rows records) bare volumes told,
+  known,
+)
 
 -- their objects are those of the rows
 pub objects_read : (spaces : List VdevSpace) (set : ObjectSet) (birth : ℕ) (rows : List DirectoryRow) (records : List RowRecord) → AllZip (IsRowRecord spaces set birth) rows records

@@ -59,6 +59,11 @@ abbrev pub IsIndexIfOnce : List RowRecord → Option RecordIndex → Type 0
 IsIndexIfOnce records None = ¬ AllPairs (λ one later. one.object ≢ later.object) records
 IsIndexIfOnce records (Some index) = IsIndexOf records index
 
+-- there is none where the records don't fit one another
+abbrev pub IsIndexIfChained : List RowRecord → Option RecordIndex → Type 0
+IsIndexIfChained records None = ¬ AreChained records
+IsIndexIfChained records (Some index) = AreChained records × IsIndexOf records index
+
 -- how many have this before them
 abbrev pub behind_among : List RowRecord → ℕ → ℕ
 behind_among records object = length (filter (λ one. one.record.previous == object) records)

@@ -1,5 +1,5 @@
 -- What an open keeps of a pool's root.
-use Rattle.std.specs.Prelude.{ℕ, ◌≡◌, ◌⊎◌, ◌∷◌, ◌++◌, List}
+use Rattle.std.specs.Prelude.{ℕ, ◌≡◌, ◌⊎◌, ◌∷◌, ◌++◌, List, All}
 use Rattle.std.specs.List.{AllZip}
 use Rattle.block_pointer.specs.declared.block.Block.{Block}
 use Rattle.block_store.specs.Blocks.{Contents}
@@ -25,6 +25,7 @@ use Rattle.dataset_snapshots.specs.declared.chaining.RowRecord.{RowRecord}
 use Rattle.dataset_snapshots.specs.declared.contents.RootContents.{RootContents}
 use Rattle.dataset_snapshots.specs.Chaining.{AreChained}
 use Rattle.dataset_snapshots.specs.Finding.{AreRowsFound, IsDirectoryRefused, IsMetaFound, IsMetaRefused}
+use Rattle.dataset_snapshots.specs.Clones.{IsToldOrigin, TellsOrigin}
 use Rattle.dataset_snapshots.specs.Pools.{IsRecordKind, IsRecordOf, SpellsPool}
 use Rattle.dataset_snapshots.specs.Reach.{meta_blocks_of, IsMetaWalked, IsMetaWalkRefused}
 
@@ -55,18 +56,20 @@ pub record IsVolumeNamed (spaces : List VdevSpace) (set : ObjectSet) (birth : �
   pub has : IsRecordFound spaces set birth row.object r
   pub is : IsRecordOf r volume
 
--- the index knows the volumes of the rows
-abbrev pub AreVolumesNamed :
-    List VdevSpace → ObjectSet → ℕ → List DirectoryRow → NameIndex → Type 0
-AreVolumesNamed spaces set birth rows names =
-    (volumes : List PlainVolume) × AllZip (IsVolumeNamed spaces set birth) rows volumes
-    × Knows names (record { volumes = volumes })
-
 -- the record of the row's object was read
 pub record IsRowRecord (spaces : List VdevSpace) (set : ObjectSet) (birth : ℕ) (row : DirectoryRow)
     (one : RowRecord) : Type 0 where
   pub object : one.object ≡ row.object
   pub has : IsRecordFound spaces set birth row.object one.record
+
+-- the index knows the volumes of the rows, each with an origin that the records tell of its name: with none where they tell none
+abbrev pub AreVolumesNamed :
+    List VdevSpace → ObjectSet → ℕ → List DirectoryRow → NameIndex → Type 0
+AreVolumesNamed spaces set birth rows names =
+    (records : List RowRecord) × AllZip (IsRowRecord spaces set birth) rows records
+    × (volumes : List PlainVolume) × AllZip (IsVolumeNamed spaces set birth) rows volumes
+    × All (λ volume. IsToldOrigin (TellsOrigin rows records volume.name) volume.origin) volumes
+    × Knows names (record { volumes = volumes })
 
 -- the records of all rows were read, and fit one another
 abbrev pub AreChainsFound : List VdevSpace → ObjectSet → ℕ → List DirectoryRow → Type 0

@@ -3,7 +3,7 @@ use Rattle.meta_objset.specs.Found.{AreMapsFound}
 use Rattle.meta_objset.specs.declared.space_maps.MetaslabMap.{MetaslabMap}
 use Rattle.pool_maps.specs.Plans.{AreSparing, OthersStay}
 use Rattle.pool_maps.specs.Refused.{IsPlanRefused as AreMapsUnplanned}
-use Rattle.std.specs.Prelude.{ℕ, ◌≡◌, ◌≢◌, ◌⊎◌, ◌+◌, ◌*◌, ◌≤◌, ◌-◌, Bool, true, false, List, [], ◌∷◌, ◌++◌, length, Any, Some}
+use Rattle.std.specs.Prelude.{ℕ, ◌≡◌, ◌⊎◌, ◌+◌, ◌*◌, ◌≤◌, ◌-◌, Bool, true, false, List, [], ◌∷◌, ◌++◌, length, Any, Some}
 use Rattle.block_pointer.specs.declared.block.Block.{Block}
 use Rattle.block_store.specs.declared.refusal.Refusal.{Refusal}
 use Rattle.block_store.specs.declared.refusal.Refusal.TheVariants.{NoMemory, NoSpace, BadPointer}
@@ -240,15 +240,12 @@ pub record HasGroupDemands (spaces : List VdevSpace) (born group : ℕ) (opened 
   pub is : demands ≡ of_written ++ of_made ++ of_root
 
 -- The root was read, and then places were taken for what the group asks, and for nothing else. Given
--- back are the root, then what its volumes give back, those first that are destroyed, and then what
--- the meta object set does.
+-- back are the root, then what its volumes give back, and then what the meta object set does.
 pub record HasGroupPlaces (old new : Store) (root : Block) (rows : List DirectoryRow) (group : ℕ)
     (destroyed : List (List ℕ)) (items : Entry) (replaced : List Block) : Type 0 where
   pub opened : Opened
   pub found : IsGroupFound old.spaces (group - 1) root rows destroyed items.writes opened
   pub gone : List Block
-  pub of_written : List Block
-  pub gone_is : gone ≡ opened.freed.items ++ of_written
   pub of_meta : List Block
   pub given_back : replaced ≡ root ∷ gone ++ of_meta
   pub demands : List Demand

@@ -7,7 +7,6 @@ use Rattle.dataset_chains.specs.Chains.{Reading}
 use Rattle.dataset_chains.specs.Standing.{HasChains}
 use Rattle.dataset_changes.specs.Over.{IsForList, IsForRecord}
 use Rattle.dataset_changes.specs.States.{birth_of, set_of}
-use Rattle.dataset_groups.specs.Destroys.{all_destroyed}
 use Rattle.dataset_groups.specs.Groups.{SpellsGroup, first_number}
 use Rattle.dataset_groups.specs.Leaving.{IsReachExchanged}
 use Rattle.dataset_groups.specs.Names.{NamesPool, reach_by}
@@ -25,7 +24,7 @@ use Rattle.objset.specs.declared.changes.ObjectChange.{ObjectChange}
 use Rattle.objset.specs.Changes.{MayChange, changed}
 use Rattle.objset.specs.Objects.{Object, AreObjects}
 use Rattle.pool_model.specs.declared.item.Write.{Write}
-use Rattle.pool_model.specs.Pools.{PlainPool}
+use Rattle.pool_model.specs.Pools.{PlainPool, all_destroyed}
 use Rattle.dataset_snapshots.specs.declared.groups.Begun.{Begun}
 use Rattle.dataset_snapshots.specs.declared.groups.Opened.{Opened}
 use Rattle.dataset_snapshots.specs.Pools.{SpellsPool}

@@ -1,5 +1,6 @@
 -- What follows from these definitions for those who have roots.
-use Rattle.std.specs.Prelude.{ℕ, ◌≡◌, ◌≤◌, ◌⊎◌, List, [], Some, slice_get, Contains}
+use Rattle.std.specs.Prelude.{ℕ, ◌≡◌, ◌≤◌, ◌⊎◌, true, List, [], Some, slice_get, Contains}
+use Rattle.std.specs.List.{AllByRecursion}
 use Rattle.block_pointer.specs.declared.block.Block.{Block}
 use Rattle.block_pointer.specs.declared.dva.Dva.{Dva}
 use Rattle.block_pointer.specs.Copies.{dvas}
@@ -14,7 +15,7 @@ use Rattle.dnode_tree.specs.ReadRefusals.{IsForRead}
 use Rattle.dnode_tree.specs.Rewriting.{AreDistinct}
 use Rattle.meta_objset.specs.declared.directory.DirectoryRow.{DirectoryRow}
 use Rattle.pool_model.specs.Pools.{Entry, PlainPool}
-use Rattle.volume_rules.specs.GoodChanges.{MakesGoodVolumes}
+use Rattle.volume_rules.specs.GoodChanges.{is_good_making}
 use Rattle.vdev_label.specs.Plain.{PlainVdev}
 use Rattle.dataset_snapshots.specs.Demands.{IsGroupRefused}
 use Rattle.dataset_snapshots.specs.Finding.{IsDirectoryRefused, IsMetaRefused, IsRefused, IsRefusedIn}
@@ -141,10 +142,11 @@ pub record ReadsNeedNoRoom : Type 0 where
       (before after : ℕ) (refusal : Refusal)
       → IsReachRefused old new missing birth root before after refusal → IsForRead refusal
 
--- What a pool accepts to be made can have its row and its volume.
+-- Where each action of a group makes something that may be made so, all of them may be made.
 abbrev pub GoodChangesMayBeMade : Type 0
 GoodChangesMayBeMade =
-    (entry : Entry) → MakesGoodVolumes entry → AreGoodChanges entry.actions
+    (entry : Entry) → AllByRecursion (λ a. is_good_making a.change ≡ true) entry.actions
+    → AreGoodChanges entry.actions
 
 -- Of the blocks that a stored root leads to no two copies share a sector, be they of one block or
 -- of two.

@@ -1,4 +1,5 @@
 pub mod Chaining
+pub mod Clones
 pub mod Contents
 pub mod Creating
 pub mod Demands

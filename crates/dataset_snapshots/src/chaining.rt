@@ -4,7 +4,7 @@ ghost use Rattle.std.specs.HashMap.{get};
 ghost use Rattle.std.specs.Map.{count_at};
 ghost use Rattle.meta_objset.specs.declared.record.DatasetKind.TheVariants as kinds;
 ghost use Rattle.dataset_snapshots.specs.Chaining.{AreChained, AreCountsOf, IsBehindOne, IsChained, IsFollowed};
-ghost use Rattle.dataset_snapshots.specs.Chaining.{IsIndexIfOnce, IsIndexOf};
+ghost use Rattle.dataset_snapshots.specs.Chaining.{IsIndexIfChained, IsIndexIfOnce, IsIndexOf};
 ghost use Rattle.dataset_snapshots.specs.declared.chaining.RowRecord.{RowRecord as ARowRecord};
 
 use meta_objset::{DatasetKind, DatasetRecord};
@@ -18,16 +18,22 @@ pub(crate) struct RowRecord {
     pub record: DatasetRecord,
 }
 
-/// Whether each object is there once, and each record fits the others: what is before it is a snapshot, or nothing; what comes next
-/// to a snapshot names that as what is before it; and a snapshot counts its clones, which are all others that do.
-pub(crate) fn are_chained(alloc: Global, records: &[RowRecord]) -> Result<bool, AllocError>
-    ensures { IfOk result (λ chained. IsTrue chained ↔ AreChained records.now) }
+/// The record of each object, where each is there once, and each record fits the others: what is before it is a snapshot, or nothing;
+/// what comes next to a snapshot names that as what is before it; and a snapshot counts its clones, which are all others that do.
+pub(crate) fn chained_index(
+    alloc: Global,
+    records: &[RowRecord],
+) -> Result<Option<HashMap<u64, DatasetRecord>>, AllocError>
+    ensures { IfOk result (IsIndexIfChained records.now) }
 {
     let Some(index) = index_of(alloc, records)? else {
-        return Ok(false);
+        return Ok(None);
     };
     let counts = count_behind(alloc, records)?;
-    Ok(all_chained(records, &index, &counts))
+    if !all_chained(records, &index, &counts) {
+        return Ok(None);
+    }
+    Ok(Some(index))
 }
 
 /// The record of each object; nothing where one is there twice.

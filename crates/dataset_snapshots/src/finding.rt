@@ -13,6 +13,7 @@ ghost use Rattle.meta_objset.specs.declared.directory.DirectoryRow.{DirectoryRow
 ghost use Rattle.meta_objset.specs.declared.record.DatasetRecord.{DatasetRecord};
 ghost use Rattle.meta_objset.specs.Datasets.{HasRecord};
 ghost use Rattle.meta_objset.specs.Found.{AreDirectoryRows, IsDirectoryFound, IsRecordFound, IsRecordRefused, IsRowsRefused};
+ghost use Rattle.meta_objset.specs.Names.{IsName, IsNamed};
 ghost use Rattle.meta_objset.specs.Reading.{HasDirectory, directory_kind};
 ghost use Rattle.meta_objset.specs.Record.{IsRecord};
 ghost use Rattle.objset.specs.Objects.{Object, AreObjects};
@@ -26,10 +27,12 @@ use block_pointer::Block;
 use block_store::{BlockStore, Refusal};
 use dnode::{ObjectSet, ObjectSetKind};
 use dnode_slots::read_set;
-use meta_objset::{DatasetRecord, Directory, padded, read_directory, read_record};
+use meta_objset::{
+    DatasetRecord, Directory, DirectoryRow, padded, read_directory, read_record, unpadded,
+};
 use model_disk::Disk;
 use pool_model::Name;
-use std::alloc::Global;
+use std::alloc::{AllocError, Global};
 use volume::VolumeSet;
 
 /// A dataset under a root.
@@ -267,4 +270,12 @@ fn volume_of(dataset: &DatasetRecord) -> VolumeSet
     ensures block { block_of result ≡ (dataset.now).object_set }
 {
     VolumeSet::new(dataset.size, dataset.block_size, dataset.object_set)
+}
+
+/// The name of a row.
+pub(crate) fn name_in(alloc: Global, row: &DirectoryRow) -> Result<Name, AllocError>
+    requires { IsName row.now.name }
+    ensures { IfOk result (IsNamed row.now.name) }
+{
+    Ok(Name::new(Vec::from_slice(alloc, unpadded(&row.name))?))
 }

@@ -1,5 +1,5 @@
 //! The first root of a pool.
-ghost use Rattle.std.specs.Prelude.{◌≡◌, ◌⊎◌, ◌++◌, ◌*◌, ◌^◌, ◌<◌, ◌≤◌, ℕ, List, [], None, All, AllPairs, length, fold, IfOk, IfErr, OnOk};
+ghost use Rattle.std.specs.Prelude.{◌≡◌, ◌⊎◌, ◌++◌, ◌*◌, ◌^◌, ◌<◌, ◌≤◌, ℕ, [], None, All, AllPairs, length, fold, IfOk, IfErr, OnOk};
 ghost use Rattle.block_pointer.specs.declared.block.Block.{Block};
 ghost use Rattle.block_pointer.specs.Block.{FitsBlock};
 ghost use Rattle.block_pointer.specs.Copies.{dvas};
@@ -14,6 +14,7 @@ ghost use Rattle.pool_model.specs.Pools.{applied, changed, no_volumes};
 ghost use Rattle.pool_maps.specs.Reached.{UseNothing};
 ghost use Rattle.vdev_label.specs.Config.{FitsConfig, config_bytes};
 ghost use Rattle.vdev_label.specs.Plain.{config_view};
+ghost use Rattle.volume_rules.specs.Parting.{with_made};
 ghost use Rattle.dataset_snapshots.specs.Creating.{HasFirstTables};
 ghost use Rattle.dataset_chains.specs.Chains.{Reading};
 ghost use Rattle.dataset_groups.specs.Groups.{SpellsGroup};
@@ -40,6 +41,7 @@ use pool_model::Action;
 use std::alloc::{AllocError, Global};
 use txg_pipeline::Pending;
 use vdev_label::Config;
+use volume_rules::PartedActions;
 
 /// The first root of a pool.
 #[derive(Debug, Drop)]
@@ -49,10 +51,11 @@ pub struct FirstRoot {
     pub directory: Directory,
 }
 
-/// Plans the first root of a pool, which had no volumes so far, after the items of the transaction group `group`: the volumes that it
-/// makes, with the snapshots that it takes of them and their clones, and then the tables of the meta object set: the directory, the configuration, a
-/// table of stale spans with no rows, and the space maps. Writes do nothing where there are no volumes. `BadConfig` where a volume
-/// can't have its name or its sizes, or a snapshot its name; `NoSpace` also where no numbers are left for objects.
+/// Plans the first root of a pool, which had no volumes so far, after the transaction group `group`: the actions that
+/// `parted` has made are done, and then the tables of the meta object set are made: the directory, the configuration,
+/// a table of stale spans with no rows, and the space maps. The writes of `items`, and what `parted` destroys, come
+/// to nothing where there are no volumes. `BadConfig` where a volume can't have its name or its sizes, or a snapshot
+/// its name; `NoSpace` also where no numbers are left for objects.
 ///
 /// After an error blocks may be planned that no root has: begin another plan.
 pub fn first_group<D: Disk + Drop>(
@@ -60,6 +63,7 @@ pub fn first_group<D: Disk + Drop>(
     alloc: Global,
     config: &Config,
     group: u64,
+    parted: &PartedActions,
     items: &Pending,
 ) -> Result<FirstRoot, Refusal>
     requires fits { FitsConfig (config_view config.now) }
@@ -79,7 +83,8 @@ pub fn first_group<D: Disk + Drop>(
         → Plans store.old stored planned → UseNothing store.old.spaces filled
         → AnswersAreTrue store.old store.new
         → (later : Contents) × Plans store.new stored later × Extends planned later
-        × (is : SpellsPool later group first.root (applied group no_volumes items.now))
+        × (is : SpellsPool later group first.root
+        (applied group no_volumes (with_made items.now parted.now)))
         × HasFirstTables is.objects (config_view config.now)
         × IsReachExchanged group planned later [] (reach_of is) []
         × (first.directory ≡ is.rows)
@@ -88,16 +93,18 @@ pub fn first_group<D: Disk + Drop>(
     // Over disks that answer truly, and where all may be made, only room is wanting.
     ensures known { IfErr result (λ refusal. (stored planned : Contents)
         → Plans store.old stored planned → UseNothing store.old.spaces filled
-        → AnswersAreTrue store.old store.new → AreGoodChanges items.now.actions
+        → AnswersAreTrue store.old store.new → AreGoodChanges parted.now.made
         → IsForRoom refusal ⊎ (refusal ≡ Refusal.DiskFault)) }
 
     // What places are taken for, and on a refusal its cause.
     ensures places { OnOk result
-        (HasFirstPlaces store.old store.new group (config_view config.now) items.now) }
+        (HasFirstPlaces store.old store.new group (config_view config.now)
+        (with_made items.now parted.now)) }
     ensures refused { IfErr result
-        (IsFirstRefused store.old store.new group (config_view config.now) items.now) }
+        (IsFirstRefused store.old store.new group (config_view config.now)
+        (with_made items.now parted.now)) }
 {
-    let datasets = first_volumes(store, alloc, group, items.actions())?;
+    let datasets = first_volumes(store, alloc, group, parted.made())?;
     let Made {
         directory,
         changes,

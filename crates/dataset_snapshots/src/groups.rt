@@ -1,5 +1,5 @@
 //! The root of a pool after a group.
-ghost use Rattle.std.specs.Prelude.{IsTrue, ◌↔◌, ◌≡◌, ◌≢◌, ◌⊎◌, ◌≤◌, ◌<◌, ◌-◌, ◌*◌, ◌^◌, ◌++◌, ℕ, List, [], Option, Some, All, AllPairs, IfOk, IfErr, OnOk, ◌∷◌, fold, length};
+ghost use Rattle.std.specs.Prelude.{IsTrue, ◌↔◌, ◌≡◌, ◌⊎◌, ◌≤◌, ◌<◌, ◌-◌, ◌*◌, ◌^◌, ◌++◌, ℕ, List, [], Option, Some, All, AllPairs, IfOk, IfErr, OnOk, ◌∷◌, length};
 ghost use Rattle.block_pointer.specs.Block.{FitsBlock};
 ghost use Rattle.block_pointer.specs.Copies.{dvas};
 ghost use Rattle.block_pointer.specs.declared.block.Block.{Block};
@@ -13,7 +13,6 @@ ghost use Rattle.dnode.specs.ObjectSet.{FitsObjectSet};
 ghost use Rattle.dnode.specs.declared.object_set.ObjectSetKind.TheVariants as sets;
 ghost use Rattle.dnode_slots.specs.Sets.{asked_of_set};
 ghost use Rattle.dnode_tree.specs.Writes.{IsForRoom};
-ghost use Rattle.meta_objset.specs.declared.directory.DirectoryRow.{DirectoryRow};
 ghost use Rattle.meta_objset.specs.Reading.{HasDirectory, directory_kind};
 ghost use Rattle.object_table.specs.Tables.{IsOfKind};
 ghost use Rattle.objset.specs.Changes.{HasNoRoom, IsGoodChange, MayChange, after_change, changed};
@@ -22,12 +21,12 @@ ghost use Rattle.objset.specs.Within.{blocks_of_set};
 ghost use Rattle.pool_maps.specs.Maps.{AreMapsOf};
 ghost use Rattle.pool_maps.specs.Plans.{AreOrdered, MapAnew};
 ghost use Rattle.pool_model.specs.declared.item.Write.{Write};
-ghost use Rattle.pool_model.specs.Pools.{PlainPool, applied, written};
-ghost use Rattle.pool_model.specs.Pools.{changed as pool_changed};
+ghost use Rattle.pool_model.specs.Pools.{MayBeDestroyed, PlainPool, all_destroyed, applied, written};
 ghost use Rattle.vdev_label.specs.Plain.{PlainVdev};
+ghost use Rattle.volume_rules.specs.Parting.{with_made};
 ghost use Rattle.dataset_snapshots.specs.Creating.{HasFirstTables};
 ghost use Rattle.dataset_snapshots.specs.Demands.{AreMappedRefused, HasDatasetChanges, AreMisnumbered, AreVolumesRefused, HasGroupPlaces, HasMappedPlaces, HasRootPlaces, HasVolumePlaces, IsGroupRefused, IsRootRefused};
-ghost use Rattle.dataset_groups.specs.Destroys.{HasAtMost, MayBeDestroyed, all_destroyed};
+ghost use Rattle.dataset_groups.specs.Destroys.{HasAtMost};
 ghost use Rattle.dataset_groups.specs.Names.{reach_by};
 ghost use Rattle.dataset_groups.specs.NewVolumes.{AreGoodChanges, numbers_end};
 ghost use Rattle.dataset_snapshots.specs.Finding.{IsMetaRefused};
@@ -52,6 +51,7 @@ use pool_maps::plan_maps;
 use pool_model::{Action, Name};
 use std::alloc::{AllocError, Global};
 use txg_pipeline::Pending;
+use volume_rules::PartedActions;
 
 /// The root of a pool after a group.
 #[derive(Debug, Drop)]
@@ -101,23 +101,27 @@ const DIRECTORY: u64 = 1;
 /// A directory of so many names has 2^46 bytes.
 pub(crate) const MOST_NAMES: usize = 1 << 40;
 
-/// Plans the root of a pool after the transaction group `group`: without the volumes and snapshots that it destroys, in this order, and then with
-/// its items: its writes, and then its actions: volumes and clones that it makes, and snapshots that it takes of what volumes are by then. `root` is the root of the group before, and `directory` the one under it, which
-/// is kept in memory: none of its blocks is read. Each block that a write reaches is read, and then each of them is planned anew: so
-/// where one can't be read that is the answer, whether or not there is room. Of a volume without writes nothing is read but, where a
-/// snapshot is taken of it, its record and that of the snapshot before. All changes of the meta object set are planned at once; its own
-/// block is new in each group. Of a volume that is destroyed those blocks are read that were born after the snapshot before it, of a snapshot two
-/// dead lists. `BadConfig` where a volume can't have its name or its sizes, or a snapshot its name; `BadPointer` where a volume that is to be
-/// destroyed has snapshots, or a snapshot clones.
+/// Plans the root of a pool after the transaction group `group`. First the volumes and snapshots go that `parted`
+/// destroys, in order; then the writes of `items` are done, and then the actions that `parted` keeps: they make
+/// volumes and clones, and take snapshots of what volumes are by then. The actions of `items` are not looked at.
 ///
-/// After an error blocks may be planned that no root has: begin another plan.
+/// `root` is the root of the group before, and `directory` the one under it, which is kept in memory: none of its
+/// blocks is read. Each block that a write reaches is read, and then each of them is planned anew: so where one can't
+/// be read that is the answer, whether or not there is room. Of a volume without writes nothing is read but, where a
+/// snapshot is taken of it, its record and that of the snapshot before. Of a volume that is destroyed those blocks
+/// are read that were born after the snapshot before it, of a snapshot two dead lists. All changes of the meta object
+/// set are planned at once; its own block is new in each group.
+///
+/// `BadConfig` where a volume can't have its name or its sizes, or a snapshot its name; `BadPointer` where a volume
+/// that is to be destroyed has snapshots, or a snapshot clones. After an error blocks may be planned that no root
+/// has: begin another plan.
 pub fn after_group<D: Disk + Drop>(
     root: &Block,
     store: &mut BlockStore<D>,
     alloc: Global,
     group: u64,
     directory: &Directory,
-    destroyed: &[Name],
+    parted: &PartedActions,
     items: &Pending,
 ) -> Result<NextRoot, Refusal>
     requires born { 0 < group }
@@ -135,10 +139,11 @@ pub fn after_group<D: Disk + Drop>(
     ensures value { IfOk result (λ after. (stored planned : Contents) (pool : PlainPool)
         → Plans store.old stored planned → (is : SpellsPool stored (group - 1) root.now pool)
         → directory.now ≡ is.rows → HasMapsBy store.old.spaces filled is
-        → MayBeDestroyed destroyed.now pool → AnswersAreTrue store.old store.new
+        → MayBeDestroyed parted.now.destroyed pool → AnswersAreTrue store.old store.new
         → (later : Contents) × Plans store.new stored later × Extends planned later
         × (then : SpellsPool later group after.root
-        (applied group (all_destroyed destroyed.now pool) items.now))
+        (applied group (all_destroyed parted.now.destroyed pool)
+        (with_made items.now parted.now)))
         × ((vdevs : List PlainVdev) → HasFirstTables is.objects vdevs
         → HasFirstTables then.objects vdevs)
         × IsReachExchanged group planned later (reach_of is) (reach_of then)
@@ -151,31 +156,24 @@ pub fn after_group<D: Disk + Drop>(
         → Plans store.old stored planned → (is : SpellsPool stored (group - 1) root.now pool)
         → directory.now ≡ is.rows → HasMapsBy store.old.spaces filled is
         → StandsOnce store.old.spaces is → AnswersAreTrue store.old store.new
-        → MayBeDestroyed destroyed.now pool → AreGoodChanges items.now.actions
+        → MayBeDestroyed parted.now.destroyed pool → AreGoodChanges parted.now.made
         → IsForRoom refusal ⊎ (refusal ≡ Refusal.DiskFault)) }
 
     // Whatever the root and the directory are: what places are taken for and what is given back, and
     // on a refusal its cause.
     ensures places { IfOk result (λ after. HasGroupPlaces store.old store.new root.now directory.now
-        group destroyed.now items.now after.replaced.items) }
+        group parted.now.destroyed (with_made items.now parted.now) after.replaced.items) }
     ensures refused { IfErr result (IsGroupRefused store.old store.new root.now directory.now group
-        destroyed.now items.now) }
+        parted.now.destroyed (with_made items.now parted.now)) }
 {
     // There are few vdevs, and so no volume has too many blocks.
     let _vdevs = store.vdev_count();
+    let destroyed = parted.destroyed();
     let opened = open_group(root, store, alloc, group, directory, destroyed, items)?;
     let set = opened.set;
     let born = root.birth;
     let mut gone = Vec::new(alloc);
-    let made = mapped_changes(
-        opened,
-        store,
-        alloc,
-        born,
-        group,
-        items.actions(),
-        &mut gone,
-    )?;
+    let made = mapped_changes(opened, store, alloc, born, group, parted.made(), &mut gone)?;
     let mut replaced = only(root, alloc)?;
     replaced.extend_from_slice(&gone)?;
     let changes = &made.changes;
@@ -324,8 +322,6 @@ fn mapped_changes<D: Disk + Drop>(
         → AreMapsOf is.objects store.old.spaces filled → StandsOnce store.old.spaces is
         → AnswersAreTrue store.old store.new → AreGoodChanges actions.now
         → IsForRoom refusal ⊎ (refusal ≡ Refusal.DiskFault)) }
-    ensures behind { OnOk result ((of_written : List Block)
-        × (gone.new.items ≡ opened.freed.items ++ of_written)) }
     ensures places { IfOk result (λ made. HasMappedPlaces store.old store.new born group opened
         actions.now gone.new.items made.changes.items) }
     ensures refused { IfErr result
@@ -389,8 +385,6 @@ fn changes_of<D: Disk + Drop>(
         → IsOpenedFrom stored group birth root pool is destroyed writes opened
         → AnswersAreTrue store.old store.new → AreGoodChanges actions.now
         → IsForRoom refusal ⊎ (refusal ≡ Refusal.DiskFault)) }
-    ensures behind { OnOk result ((of_written : List Block)
-        × (replaced.new.items ≡ (replaced.old.items ++ opened.freed.items) ++ of_written)) }
     ensures places { IfOk result (λ made.
         HasVolumePlaces store.old store.new group opened actions.now made.changes.items
         made.next) }

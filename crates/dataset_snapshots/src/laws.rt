@@ -56,7 +56,7 @@ pub fn reads_need_no_room()
     ensures { ReadsNeedNoRoom }
 {}
 
-/// What a pool accepts to be made can have its row and its volume.
+/// Where each action of a group makes something that may be made so, all of them may be made.
 pub fn good_changes_may_be_made()
     ensures { GoodChangesMayBeMade }
 {}

@@ -2,6 +2,7 @@
 #![tactic(auto)]
 
 mod chaining;
+mod clones;
 mod contents;
 mod finding;
 mod first_root;

@@ -23,20 +23,21 @@ ghost use Rattle.dataset_snapshots.specs.Contents.{AreChainsFound, AreNamesFound
 ghost use Rattle.dataset_snapshots.specs.Contents.{IsRowUnnamed, IsShapeIn};
 ghost use Rattle.dataset_snapshots.specs.Pools.{IsRecordKind, SpellsDataset, SpellsPool};
 
-use crate::chaining::{RowRecord, are_chained};
-use crate::finding::{read_dataset, read_meta};
+use crate::chaining::{RowRecord, chained_index};
+use crate::clones::set_origins;
+use crate::finding::{name_in, read_dataset, read_meta};
 use block_pointer::Block;
 use block_store::{BlockStore, Refusal};
 use dnode::ObjectSet;
-use meta_objset::{DatasetKind, DatasetRecord, Directory, DirectoryRow, unpadded};
+use meta_objset::{DatasetKind, DatasetRecord, Directory, DirectoryRow};
 use model_disk::Disk;
-use pool_model::{Name, VolumeKind};
+use pool_model::VolumeKind;
 use std::alloc::{AllocError, Global};
-use volume_rules::{NameIndex, VolumeShape};
+use volume_rules::{NameIndex, NewName, VolumeEntry, VolumeShape};
 
-/// The names of the pool whose root has this directory, and at each the shape of its volume. It reads the root and the record of
-/// each dataset. `BadPointer` where the block is no root of a pool, the object of a name no record of a dataset, or where the records
-/// don't fit one another in chains.
+/// The names of the pool whose root has this directory, at each the shape of its volume, and of a clone its snapshot. It reads the root
+/// and the record of each dataset. `BadPointer` where the block is no root of a pool, the object of a name no record of a dataset, or
+/// where the records don't fit one another in chains.
 pub(crate) fn names_by<D: Disk + Drop>(
     root: &Block,
     store: &mut BlockStore<D>,
@@ -61,7 +62,8 @@ pub(crate) fn names_by<D: Disk + Drop>(
     names_of(&set, directory.rows(), store, alloc, root.birth, missing)
 }
 
-/// The names of rows, and at each the shape of its volume. `BadPointer` where the records don't fit one another in chains.
+/// The names of rows, at each the shape of its volume, and of a clone its snapshot. `BadPointer` where the records don't fit one another
+/// in chains.
 fn names_of<D: Disk + Drop>(
     set: &ObjectSet,
     rows: &[DirectoryRow],
@@ -75,8 +77,11 @@ fn names_of<D: Disk + Drop>(
     ensures reads { OnlyReadsBlocks store.old store.new missing.now }
     ensures value { IfOk result (λ names. (stored : Contents) (objects : ℕ → Option Object)
         (own : List Block) (blocks : ℕ → List Block) (volumes : List PlainVolume)
+        (pool : Pool) (readings : ℕ → Reading)
         → Holds store.old stored → AreObjects stored birth set.now objects own blocks
         → AllZip (SpellsDataset stored birth objects) rows.now volumes
+        → HasChains stored birth objects pool readings
+        → NamesPool pool readings rows.now (record { volumes = volumes })
         → AnswersAreTrue store.old store.new → Knows names (record { volumes = volumes })) }
     ensures found { IfOk result (AreVolumesNamed store.old.spaces set.now birth rows.now) }
     ensures chains { OnOk result (AreChainsFound store.old.spaces set.now birth rows.now) }
@@ -102,9 +107,10 @@ fn names_of<D: Disk + Drop>(
         let object = row.object;
         add_record(&mut records, RowRecord { object, record })?;
     }
-    if !are_chained(alloc, &records)? {
+    let Some(index) = chained_index(alloc, &records)? else {
         return Err(Refusal::BadPointer);
-    }
+    };
+    set_origins(alloc, &mut names, rows, &index)?;
     Ok(names)
 }
 
@@ -130,7 +136,7 @@ fn kind_of(kind: DatasetKind) -> VolumeKind
     }
 }
 
-/// Adds the name of a row, and the shape of its volume.
+/// Adds the name of a row, and the shape of its volume, which has no origin so far.
 fn add_name(
     alloc: Global,
     names: &mut NameIndex,
@@ -140,11 +146,16 @@ fn add_name(
     requires { IsName row.now.name }
     ensures { OnOk result ((pool : PlainPool) (volume : PlainVolume) → Knows names.old pool
         → IsNamed row.now.name volume.name → volume_at volume.name pool ≡ None
-        → shape_of volume ≡ shape → Knows names.new (with_volume volume pool)) }
+        → shape_of volume ≡ shape → volume.origin ≡ None
+        → Knows names.new (with_volume volume pool)) }
 {
-    let name = Name::new(Vec::from_slice(alloc, unpadded(&row.name))?);
+    let name = name_in(alloc, row)?;
+    let entry = VolumeEntry {
+        shape,
+        origin: None,
+    };
     names.reserve()?;
-    names.add(name, shape);
+    names.add(NewName { name, entry });
     Ok(())
 }
 

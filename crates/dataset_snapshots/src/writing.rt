@@ -18,15 +18,15 @@ ghost use Rattle.pool_model.specs.Pools.{is_snapshot};
 ghost use Rattle.volume_rules.specs.Overlay.{after_writes};
 ghost use Rattle.volume.specs.Volume.{Spells, block_size_of};
 ghost use Rattle.volume.specs.Writing.{AreBlocksOf, IsArrayWith};
-ghost use Rattle.dataset_snapshots.specs.Opening.{AreBlocksFound, AreBlocksRefused, IsOneUnread, IsWrittenFound, IsWrittenOf, IsWrittenRefused};
+ghost use Rattle.dataset_snapshots.specs.Opening.{AreBlocksFound, AreBlocksRefused, IsOneUnread, IsWrittenOf, IsWrittenRefused};
 ghost use Rattle.dataset_snapshots.specs.Pools.{SpellsDataset};
-ghost use Rattle.dataset_snapshots.specs.Writing.{HasRow, IsReadFor, IsReadFrom, IsWrittenBut};
+ghost use Rattle.dataset_snapshots.specs.Writing.{HasRow, IsReadFrom, IsWrittenBut};
 ghost use Rattle.dataset_snapshots.specs.Writing.{KeepsDatasets, KeepsGroup};
 
-use crate::finding::number_in;
+use crate::finding::{name_in, number_in};
 use block_store::{BlockStore, Refusal};
 use dataset_groups::{GroupDatasets, WrittenHead};
-use meta_objset::{Directory, DirectoryRow, unpadded};
+use meta_objset::{Directory, DirectoryRow};
 use model_disk::Disk;
 use pool_model::{Name, Write};
 use std::alloc::{AllocError, Global};
@@ -202,7 +202,7 @@ fn changed_blocks<D: Disk + Drop>(
     ensures refused { IfErr result (λ refusal. (refusal ≡ Refusal.NoMemory)
         ⊎ AreBlocksRefused store.old store.new volume.now birth items.now.writes row.now refusal) }
 {
-    let name = Name::new(Vec::from_slice(alloc, unpadded(&row.name))?);
+    let name = name_in(alloc, row)?;
     let changes = GroupWrites { name: &name, items };
     volume.changed_blocks(store, alloc, birth, &changes)
 }

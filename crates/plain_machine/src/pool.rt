@@ -1,17 +1,18 @@
 //! The plain volumes of a group, and what the items of a group make of them.
-ghost use Rattle.std.specs.Prelude.{◌≡◌, ◌≤◌, fold, length, map, IfOk, OnOk};
+ghost use Rattle.std.specs.Prelude.{◌≡◌, ◌≤◌, filter, fold, length, map, not, IfOk, OnOk};
 ghost use Rattle.std.specs.List.{position_or_len};
 ghost use Rattle.std.specs.Option.{option_copied};
-ghost use Rattle.pool_model.specs.Names.{is_before};
+ghost use Rattle.pool_model.specs.Names.{is_before, same};
 ghost use Rattle.pool_model.specs.declared.item.Change.TheVariants.{Clone, Snapshot};
-ghost use Rattle.pool_model.specs.Pools.{no_volumes, with_volume, applied, changed, volume_after, volume_at, written};
+ghost use Rattle.pool_model.specs.Pools.{no_volumes, with_volume, applied, changed, destroyed, has_clones, has_snapshots, is_clone_of, is_snapshot_of, volume_after, volume_at, written};
+ghost use Rattle.volume_rules.specs.Index.{dependents_of};
 ghost use Rattle.volume_rules.specs.Shapes.{shape_at};
 
 use pool_model::{Action, Bytes, Change, Name, PlainVolume, VolumeKind, Write};
 use std::alloc::{AllocError, Global};
 use std::marker::Model;
 use txg_pipeline::Pending;
-use volume_rules::VolumeShape;
+use volume_rules::{Dependents, VolumeShape, is_part_of_volume};
 
 /// The volumes of one group, in the order of their names.
 #[derive(Debug, Drop)]
@@ -59,6 +60,36 @@ impl Pool {
     {
         let volume = self.find(name)?;
         Some(VolumeShape::of(volume))
+    }
+
+    /// What hinders a change, if it is a destroy.
+    pub fn dependents(&self, change: &Change) -> Dependents
+        ensures { result ≡ dependents_of change.now self.now }
+    {
+        match change {
+            Change::Destroy { name } => Dependents {
+                snapshots: self.has_snapshots(name),
+                clones: self.has_clones(name),
+            },
+            _ => Dependents {
+                snapshots: false,
+                clones: false,
+            },
+        }
+    }
+
+    fn has_snapshots(&self, name: &Name) -> bool
+        ensures { result ≡ has_snapshots name.now self.now }
+    {
+        self.volumes
+            .iter()
+            .any(|volume| is_snapshot_of(volume, name))
+    }
+
+    fn has_clones(&self, name: &Name) -> bool
+        ensures { result ≡ has_clones name.now self.now }
+    {
+        self.volumes.iter().any(|volume| is_clone_of(volume, name))
     }
 
     /// Lets a group take effect: all its writes, and then all its actions. At an `Err` some of it has.
@@ -121,6 +152,19 @@ impl Pool {
             }),
             Change::Snapshot { volume, part } => self.take(alloc, group, volume, part),
             Change::Clone { snapshot, name } => self.clone_snapshot(alloc, group, snapshot, name),
+            Change::Destroy { name } => {
+                self.destroy(name);
+                Ok(())
+            }
+        }
+    }
+
+    // What has snapshots or clones stays.
+    fn destroy(&mut self, name: &Name)
+        ensures { self.new ≡ destroyed name.now self.old }
+    {
+        if !self.has_snapshots(name) && !self.has_clones(name) {
+            drop_named(&mut self.volumes, name);
         }
     }
 
@@ -203,6 +247,28 @@ impl Pool {
             .position(|volume| name.is_before(&volume.name))
             .unwrap_or(self.volumes.len())
     }
+}
+
+fn is_snapshot_of(volume: &PlainVolume, name: &Name) -> bool
+    ensures { result ≡ is_snapshot_of name.now volume.now }
+{
+    volume.kind.is_snapshot() && is_part_of_volume(name, volume.name.as_slice())
+}
+
+fn is_clone_of(volume: &PlainVolume, name: &Name) -> bool
+    ensures { result ≡ is_clone_of name.now volume.now }
+{
+    match &volume.origin {
+        Some(origin) => origin.is(name),
+        None => false,
+    }
+}
+
+fn drop_named(volumes: &mut Vec<PlainVolume>, name: &Name)
+    ensures { volumes.new.items
+        ≡ filter (λ v. not (same v.name name.now)) volumes.old.items }
+{
+    volumes.retain(|volume| !volume.name.is(name));
 }
 
 fn copy_of(alloc: Global, volume: &PlainVolume) -> Result<PlainVolume, AllocError>

@@ -1,17 +1,20 @@
 -- Directories that are kept, where other blocks are known.
-use Rattle.std.proofs.Common.{◌≡◌, ℕ, List, [], Option, Some, None, sym, ◌∙◌, subst, arith}
+use Rattle.std.proofs.Common.{◌≡◌, ℕ, List, Option, Some, None, sym, ◌∙◌, subst, arith}
 use Rattle.block_pointer.specs.declared.block.Block.{Block}
 use Rattle.block_store.specs.Blocks.{Contents, Extends}
 use Rattle.block_store.specs.declared.refusal.Refusal.{Refusal as StoreRefusal}
 use Rattle.block_store.specs.Store.{Store}
 use Rattle.dataset_snapshots.proofs.Readings.{roots_spell_one_pool}
 use Rattle.dataset_snapshots.proofs.Standing.{roots_stand}
-use Rattle.dataset_snapshots.specs.Demands.{IsGroupRefused}
 use Rattle.dataset_snapshots.specs.Laws.{KeepsEach}
 use Rattle.dataset_snapshots.specs.Pools.{SpellsPool}
 use Rattle.dataset_snapshots.specs.Reach.{reach_of}
 use Rattle.meta_objset.specs.declared.directory.DirectoryRow.{DirectoryRow}
 use Rattle.pool_model.specs.Pools.{Entry, PlainPool}
+use Rattle.volume_rules.specs.Parting.{Parted, parted_of, with_made}
+use Rattle.dataset_snapshots.specs.FirstGroup.{IsFirstRefused}
+use Rattle.block_store.specs.Places.{shapes_of}
+use Rattle.pool_commit.specs.Configs.{configs_from}
 use Rattle.pool_commit.specs.declared.kept.KeptGroup.{KeptGroup}
 use Rattle.pool_commit.specs.Backs.{LeadsTo, SpellsGroup}
 use Rattle.pool_commit.specs.Directories.{SpellsBy}
@@ -52,13 +55,9 @@ rows_led stored group kept pool root rows is spells same by =
 
 -- ---- why the next group is refused, by the directory that is kept
 
-pub next_refused : (old new : Store) (kept : KeptGroup) (group : ℕ) (items : Entry) (refusal : StoreRefusal) (root : Block) (rows : List DirectoryRow) → kept.root ≡ Some root
-    → rows ≡ kept.directory.value → IsGroupRefused old new root rows group [] items refusal → IsNextRefused old new kept.root kept.directory.value group items refusal
-next_refused old new kept group items refusal root rows is same why =
-    subst (λ (o : Option Block). IsNextRefused old new o kept.directory.value group items refusal) (sym is)
-    (subst (λ (list : List DirectoryRow). IsGroupRefused old new root list group [] items refusal) same why)
-
-pub first_refused : (old new : Store) (kept : KeptGroup) (group : ℕ) (items : Entry) (refusal : StoreRefusal) → kept.root ≡ None → IsNextRefused old new None [] group items refusal
+pub first_refused : (old new : Store) (kept : KeptGroup) (group : ℕ) (items : Entry) (parted : Parted) (refusal : StoreRefusal) → parted ≡ parted_of items.actions → kept.root ≡ None
+    → IsFirstRefused old new group (configs_from 100 (shapes_of old.spaces)) (with_made items parted) refusal
     → IsNextRefused old new kept.root kept.directory.value group items refusal
-first_refused old new kept group items refusal is why =
-    subst (λ (o : Option Block). IsNextRefused old new o kept.directory.value group items refusal) (sym is) why
+first_refused old new kept group items parted refusal is none why =
+    subst (λ (o : Option Block). IsNextRefused old new o kept.directory.value group items refusal) (sym none)
+    (subst (λ (p : Parted). IsFirstRefused old new group (configs_from 100 (shapes_of old.spaces)) (with_made items p) refusal) is why)

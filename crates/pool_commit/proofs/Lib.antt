@@ -2,6 +2,7 @@ pub mod Accounted
 pub mod Accounting
 pub mod Backing
 pub mod Directories
+pub mod Parted
 pub mod Disks
 pub mod Keeping
 pub mod Labels

@@ -29,6 +29,7 @@ use Rattle.dataset_destroys.proofs.Losses.{losses_of_destroys}
 use Rattle.dataset_snapshots.proofs.Losses.{losses_by_rows, losses_of_first_groups, losses_of_groups}
 use Rattle.dataset_snapshots.proofs.ReadRefusals.{reads_need_no_room}
 use Rattle.dataset_snapshots.specs.Ranges.{IsRangeRefusedIn}
+use Rattle.volume_rules.specs.Parting.{destroyed_by, made_by}
 use Rattle.pool_commit.specs.declared.kept.KeptGroup.{KeptGroup}
 use Rattle.pool_commit.specs.declared.refusal.Refusal.{Refusal}
 use Rattle.pool_commit.specs.declared.refusal.Refusal.TheVariants.{DiskFault, NoMemory}
@@ -177,8 +178,8 @@ lost_under v old new group kept name offset len missing refusal backs is_kept re
 
 next_lost : (old new : Store) (last : Option Block) (rows : List DirectoryRow) (group : ℕ) (items : Entry) (refusal : StoreRefusal)
     → IsNextRefused old new last rows group items refusal → refusal ≡ store.DiskFault → IsBlockLost old new []
-next_lost old new (Some root) rows group items refusal why is = losses_of_groups losses_of_destroys old new root rows group [] items refusal why is
-next_lost old new None rows group items refusal why is = losses_of_first_groups old new group (configs_from 100 (shapes_of old.spaces)) items refusal why is
+next_lost old new (Some root) rows group items refusal why is = losses_of_groups losses_of_destroys old new root rows group (destroyed_by items) (made_by items) refusal why is
+next_lost old new None rows group items refusal why is = losses_of_first_groups old new group (configs_from 100 (shapes_of old.spaces)) (made_by items) refusal why is
 
 pub lost_for_plan : (v : View) (old new : State) (items : Entry) (refusal : Refusal) (is : IsUnreadForPlan old new items refusal)
     → Backs (record old { store = is.refused.begun; planned = None }) v → OnlyReads is.refused.begun.disks new.store.disks

@@ -1,5 +1,5 @@
 -- Room for the blocks of a group that is to be planned.
-use Rattle.std.specs.Prelude.{ℕ, suc, ◌≡◌, ◌<◌, ◌^◌, List, [], Option, Some, None}
+use Rattle.std.specs.Prelude.{ℕ, suc, ◌≡◌, ◌<◌, ◌^◌, List, Option, Some, None}
 use Rattle.block_pointer.specs.declared.block.Block.{Block}
 use Rattle.block_store.specs.declared.refusal.Refusal.{Refusal as StoreRefusal}
 use Rattle.block_store.specs.declared.refusal.Refusal.TheVariants as store
@@ -10,6 +10,7 @@ use Rattle.dataset_snapshots.specs.Demands.{IsGroupRefused}
 use Rattle.dataset_snapshots.specs.FirstGroup.{IsFirstRefused}
 use Rattle.meta_objset.specs.declared.directory.DirectoryRow.{DirectoryRow}
 use Rattle.pool_model.specs.Pools.{Entry}
+use Rattle.volume_rules.specs.Parting.{destroyed_by, made_by}
 use Rattle.pool_commit.specs.Configs.{configs_from}
 use Rattle.pool_commit.specs.State.{State}
 
@@ -21,13 +22,14 @@ pub record IsBegun (group : ℕ) (old begun : Store) : Type 0 where
   pub settled : AreSettledIn group old.spaces begun.spaces
   pub free : HaveMarks begun.spaces filled begun.spaces planned
 
--- why the root after a group is not planned: behind the last one by the directory that is kept, or as the first of a pool of these vdevs
+-- why the root after a group, its actions parted, is not planned: behind the last one by the directory that is kept, or as the first of a
+-- pool of these vdevs
 abbrev pub IsNextRefused :
     Store → Store → Option Block → List DirectoryRow → ℕ → Entry → StoreRefusal → Type 0
 IsNextRefused old new (Some root) rows group items refusal =
-    IsGroupRefused old new root rows group [] items refusal
+    IsGroupRefused old new root rows group (destroyed_by items) (made_by items) refusal
 IsNextRefused old new None rows group items refusal =
-    IsFirstRefused old new group (configs_from 100 (shapes_of old.spaces)) items refusal
+    IsFirstRefused old new group (configs_from 100 (shapes_of old.spaces)) (made_by items) refusal
 
 -- from where a plan was begun, the root after the items was refused
 pub record IsPlanRefused (old : State) (new : Store) (items : Entry) (refusal : StoreRefusal) : Type 0 where

@@ -1,5 +1,5 @@
 //! The plan of a group.
-ghost use Rattle.std.specs.Prelude.{◌≡◌, ◌⊎◌, ◌↔◌, ◌<◌, ◌-◌, ◌^◌, ℕ, suc, List, [], Some, None, Err, false, IsTrue, OnOk, OnErr, IfOk, IfErr};
+ghost use Rattle.std.specs.Prelude.{◌≡◌, ◌⊎◌, ◌↔◌, ◌<◌, ◌-◌, ◌^◌, suc, List, [], Some, None, Err, false, IsTrue, OnOk, OnErr, IfOk, IfErr};
 ghost use Rattle.block_pointer.specs.Block.{FitsBlock};
 ghost use Rattle.block_pointer.specs.declared.block.Block.{Block};
 ghost use Rattle.block_store.specs.Blocks.{Contents, Extends, AreDistinct, AreStored};
@@ -14,10 +14,16 @@ ghost use Rattle.pool_model.specs.Pools.{PlainPool, applied, no_volumes};
 ghost use Rattle.pool_model.specs.View.{View, DueCall, Unplanned, Due, is_planned};
 ghost use Rattle.pool_model.specs.Machine.{IsPlan};
 ghost use Rattle.uberblock_ring.specs.Uberblock.{IsRoot};
+ghost use Rattle.volume_rules.specs.Effects.{GroupTakesEffect};
 ghost use Rattle.volume_rules.specs.GoodChanges.{MakesGoodVolumes};
 ghost use Rattle.volume_rules.specs.Index.{Knows};
+ghost use Rattle.volume_rules.specs.Parting.{with_made};
 ghost use Rattle.block_store.specs.declared.refusal.Refusal.TheVariants as lost_blocks;
 ghost use Rattle.dataset_groups.specs.Leaving.{IsReachExchanged};
+ghost use Rattle.dataset_groups.specs.NewVolumes.{AreGoodChanges};
+ghost use Rattle.dataset_snapshots.specs.FirstGroup.{IsFirstRefused};
+ghost use Rattle.block_store.specs.Places.{shapes_of};
+ghost use Rattle.pool_commit.specs.Configs.{configs_from};
 ghost use Rattle.pool_commit.specs.Backs.{Backs, BeginsWithMaps, LeadsTo, LeavesMaps, SpellsGroup, SpellsRoot};
 ghost use Rattle.pool_commit.specs.Directories.{SpellsBy};
 ghost use Rattle.pool_commit.specs.Reading.{PoolAnswersTruly, IsReadFault};
@@ -40,14 +46,15 @@ use model_disk::Disk;
 use std::alloc::{AllocError, Global};
 use std::sync::Arc;
 use txg_pipeline::Pending;
-use volume_rules::{NameIndex, makes_good_volumes};
+use volume_rules::{NameIndex, PartedActions, makes_good_volumes, part};
 use words::LAST_COUNT;
 
-/// Plans the first root of a pool, of which nothing is in use so far.
+/// Plans the first root of a pool, of which nothing is in use so far, and of which nothing can be destroyed.
 fn first_root<D: Disk + Drop>(
     store: &mut BlockStore<D>,
     alloc: Global,
     group: u64,
+    parted: &PartedActions,
     items: &Pending,
 ) -> Result<FirstRoot, block_store::Refusal>
     requires born { 0 < group }
@@ -57,23 +64,24 @@ fn first_root<D: Disk + Drop>(
         → Plans store.old stored planned → UseNothing store.old.spaces filled
         → AnswersAreTrue store.old store.new
         → (later : Contents) × Plans store.new stored later × Extends planned later
-        × SpellsRoot later group (Some first.root) (applied group no_volumes items.now)
+        × SpellsRoot later group (Some first.root)
+        (applied group no_volumes (with_made items.now parted.now))
         × (reach : List Block) × LeadsTo later group (Some first.root)
-        (applied group no_volumes items.now) reach
+        (applied group no_volumes (with_made items.now parted.now)) reach
         × IsReachExchanged group planned later [] reach []
-        × SpellsBy later group (Some first.root) (applied group no_volumes items.now)
-        first.directory
+        × SpellsBy later group (Some first.root)
+        (applied group no_volumes (with_made items.now parted.now)) first.directory
         × LeavesMaps store.new.spaces [] later group first.root
-        (applied group no_volumes items.now)) }
+        (applied group no_volumes (with_made items.now parted.now))) }
     ensures known { IfErr result (λ refusal. (stored planned : Contents)
         → Plans store.old stored planned → UseNothing store.old.spaces filled
-        → AnswersAreTrue store.old store.new
-        → MakesGoodVolumes items.now → IsForRoom refusal ⊎ (refusal ≡ lost_blocks.DiskFault)) }
-    ensures refused { IfErr result
-        (IsNextRefused store.old store.new None [] group items.now) }
+        → AnswersAreTrue store.old store.new → AreGoodChanges parted.now.made
+        → IsForRoom refusal ⊎ (refusal ≡ lost_blocks.DiskFault)) }
+    ensures refused { IfErr result (IsFirstRefused store.old store.new group
+        (configs_from 100 (shapes_of store.old.spaces)) (with_made items.now parted.now)) }
 {
     let config = config_of(alloc, store)?;
-    first_group(store, alloc, &config, group, items)
+    first_group(store, alloc, &config, group, parted, items)
 }
 
 /// A root that is planned, the directory under it, and the blocks that the one before led to and this one doesn't.
@@ -85,7 +93,7 @@ struct PlannedRoot {
 }
 
 /// Plans the root of the transaction group `group` after its items, behind the last one, by the directory that is kept of it; or the
-/// first root of a pool.
+/// first root of a pool. What the group destroys of what was there before it goes first.
 fn root_after<D: Disk + Drop>(
     last: &KeptGroup,
     store: &mut BlockStore<D>,
@@ -101,7 +109,7 @@ fn root_after<D: Disk + Drop>(
         → Plans store.old stored planned → SpellsGroup stored (group - 1) last.now pool
         → LeadsTo stored (group - 1) last.now.root pool before
         → BeginsWithMaps store.old.spaces stored (group - 1) last.now.root pool
-        → AnswersAreTrue store.old store.new
+        → AnswersAreTrue store.old store.new → GroupTakesEffect group pool items.now
         → (later : Contents) × Plans store.new stored later × Extends planned later
         × SpellsRoot later group (Some next.root) (applied group pool items.now)
         × (reach : List Block) × LeadsTo later group (Some next.root)
@@ -115,13 +123,15 @@ fn root_after<D: Disk + Drop>(
         → Plans store.old stored planned → SpellsGroup stored (group - 1) last.now pool
         → BeginsWithMaps store.old.spaces stored (group - 1) last.now.root pool
         → AnswersAreTrue store.old store.new → MakesGoodVolumes items.now
+        → GroupTakesEffect group pool items.now
         → IsForRoom refusal ⊎ (refusal ≡ lost_blocks.DiskFault)) }
     ensures refused { IfErr result (IsNextRefused store.old store.new last.now.root
         last.now.directory.value group items.now) }
 {
+    let parted = part(alloc, items.actions())?;
     match &last.root {
         Some(root) => {
-            let next = after_group(root, store, alloc, group, last.directory(), &[], items)?;
+            let next = after_group(root, store, alloc, group, last.directory(), &parted, items)?;
             Ok(PlannedRoot {
                 root: next.root,
                 directory: next.directory,
@@ -129,7 +139,7 @@ fn root_after<D: Disk + Drop>(
             })
         }
         None => {
-            let first = first_root(store, alloc, group, items)?;
+            let first = first_root(store, alloc, group, &parted, items)?;
             Ok(PlannedRoot {
                 root: first.root,
                 directory: first.directory,
@@ -195,7 +205,7 @@ fn group_after<D: Disk + Drop>(
         → Plans store.old stored planned → SpellsGroup stored (group - 1) last.now pool
         → LeadsTo stored (group - 1) last.now.root pool before
         → BeginsWithMaps store.old.spaces stored (group - 1) last.now.root pool
-        → AnswersAreTrue store.old store.new
+        → AnswersAreTrue store.old store.new → GroupTakesEffect group pool items.now
         → (later : Contents) × Plans store.new stored later × Extends planned later
         × SpellsGroup later group next.after (applied group pool items.now)
         × (reach : List Block) × LeadsTo later group next.after.root
@@ -207,6 +217,7 @@ fn group_after<D: Disk + Drop>(
         → Plans store.old stored planned → SpellsGroup stored (group - 1) last.now pool
         → BeginsWithMaps store.old.spaces stored (group - 1) last.now.root pool
         → AnswersAreTrue store.old store.new → MakesGoodVolumes items.now
+        → GroupTakesEffect group pool items.now
         → IsForRoom refusal ⊎ (refusal ≡ lost_blocks.DiskFault)) }
     ensures refused { IfErr result (IsNextRefused store.old store.new last.now.root
         last.now.directory.value group items.now) }
@@ -276,6 +287,7 @@ impl<D: Disk + Drop> Commit<D> {
         ensures planned { OnOk result ((v : View) → Backs (state_of self.old) v
             → is_planned v.sync ≡ false → v.committed < 2 ^ 62
             → items.now ≡ v.ledger (suc v.committed)
+            → GroupTakesEffect (suc v.committed) (v.pools v.committed) items.now
             → PoolAnswersTruly (state_of self.old) (state_of self.new)
             → (calls : List DueCall) × IsPlan v calls
             × Backs (state_of self.new) (record v { sync = Due calls })) }
@@ -294,6 +306,7 @@ impl<D: Disk + Drop> Commit<D> {
         ensures refused { IfErr result (λ refusal. (v : View) → Backs (state_of self.old) v
             → is_planned v.sync ≡ false → v.committed < 2 ^ 62
             → items.now ≡ v.ledger (suc v.committed) → MakesGoodVolumes items.now
+            → GroupTakesEffect (suc v.committed) (v.pools v.committed) items.now
             → (refusal ≡ Refusal.NoMemory)
             ⊎ (IsLostForPlan v (state_of self.old) (state_of self.new) items.now refusal
             ⊎ (refusal ≡ Refusal.NoSpace))) }

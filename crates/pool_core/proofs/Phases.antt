@@ -14,12 +14,14 @@ use Rattle.pool_model.specs.declared.step.Step.TheVariants.{Plan, Device}
 use Rattle.pool_model.specs.declared.step.Reply.{Reply}
 use Rattle.pool_model.specs.declared.step.Reply.TheVariants.{Planned, Moved, Replan, Committed, Refused}
 use Rattle.pool_model.specs.View.{View, Vdev, Given, DueCall, is_away, nothing_given, Sync, Idle, Unplanned, Due, is_syncing, is_planned, is_quiesced, is_suspended, open_after}
-use Rattle.pool_model.specs.Pools.{Entry}
+use Rattle.pool_model.specs.Pools.{Entry, PlainPool}
 use Rattle.pool_model.specs.Flow.{flow_of, with_committed}
 use Rattle.pool_model.specs.Refusals.{greatest, first_cause, refusal_of}
 use Rattle.pool_model.specs.Machine.{StepOf, IsPlan, IsQuiet, FailsOn, GoesOn, Ends, IsUnreadable, taken, committed_next, without_plan, dropped}
 use Rattle.pool_model.proofs.Answering.{takes_due, syncs_without_plan}
 use Rattle.pool_model.proofs.Plans.{nothing_quiet}
+use Rattle.pool_model.proofs.Uptos.{upto_base}
+use Rattle.volume_rules.specs.Effects.{GroupTakesEffect, PendingTakeEffect}
 use Rattle.pool_intake.specs.declared.intake.Intake.{Intake}
 use Rattle.pool_intake.specs.Follows.{Follows}
 use Rattle.pool_intake.proofs.Stepping.{followed}
@@ -158,6 +160,12 @@ follows_on : (intake : Intake) (v : View) (sync : Sync) (out : ℕ → Bool) →
 follows_on intake v sync out f syncs is =
     followed intake v (record v { sync = sync; out = out }) f
     (λ i. record { committed = v.committed; syncing = (is ∙ sym syncs) i; waiting = v.waiting; holds = v.holds; next = v.next; ledger = v.ledger }) refl refl
+
+-- the changes of the group that is planned take effect
+pub next_effects : (v : View) (items : Entry) → items ≡ v.ledger (suc v.committed) → PendingTakeEffect v → GroupTakesEffect (suc v.committed) (v.pools v.committed) items
+next_effects v items is effects =
+    subst (GroupTakesEffect (suc v.committed) (v.pools v.committed)) (sym is)
+    (subst (λ (p : PlainPool). GroupTakesEffect (suc v.committed) p (v.ledger (suc v.committed))) (upto_base v.committed (v.pools v.committed) v.ledger) (effects v.committed (omega arith)))
 
 pub group_low : (intake : Intake) (v : View) → Follows intake v → v.committed < 2 ^ 62
 group_low intake v f = below v.committed (is_syncing v.sync) (is_some v.waiting) f.sound.flow.groups

@@ -31,12 +31,12 @@ use Rattle.txg_pipeline.specs.Carries.{Carries, empty_after, Does, IsUnchanged, 
 use Rattle.txg_pipeline.specs.Calls.{cause_of}
 use Rattle.txg_pipeline.proofs.Carrying.{kept_synced}
 use Rattle.volume_rules.specs.declared.index.NameIndex.{NameIndex}
-use Rattle.volume_rules.specs.Effects.{PendingTakeEffect}
+use Rattle.volume_rules.specs.Effects.{GroupTakesEffect, PendingTakeEffect}
 use Rattle.volume_rules.specs.GoodChanges.{is_good_change, MakesGoodVolumes}
 use Rattle.volume_rules.specs.Index.{Knows}
 use Rattle.volume_rules.specs.NowMoves.{IsMadeBy, is_action_taken}
 use Rattle.volume_rules.proofs.NowMoves.{knows_step, moves_now, now_taken, now_committed}
-use Rattle.volume_rules.proofs.Effects.{AllTakeEffect, GroupTakesEffect, effects_step}
+use Rattle.volume_rules.proofs.Effects.{AllTakeEffect, effects_step}
 use Rattle.volume_rules.proofs.GoodChanges.{not_refused}
 use Rattle.volume_rules.proofs.Overlays.{made_by_applied}
 use Rattle.volume_rules.proofs.Pending.{below_now, below_step}

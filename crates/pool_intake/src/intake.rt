@@ -88,7 +88,7 @@ impl Intake {
             return Reply::Refused(cause);
         }
         let group = self.pipeline.open_group();
-        let Ok(new) = self.index.made_by(alloc, group, &action.change) else {
+        let Ok(change) = self.index.change_by(alloc, group, &action.change) else {
             return Reply::Refused(Refusal::NoMemory);
         };
         let Ok(()) = self.index.reserve() else {
@@ -96,7 +96,7 @@ impl Intake {
         };
         match self.pipeline.accept(Item::Action(action)) {
             Ok(group) => {
-                self.index.add_new(new);
+                self.index.make(change);
                 Reply::Receipt(group)
             }
             Err(cause) => Reply::Refused(Refusal::from(cause)),

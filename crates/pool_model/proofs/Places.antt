@@ -1,6 +1,6 @@
 -- Volumes by name: what a pool has at a name, and that its volumes ascend.
 use Rattle.std.proofs.Common.{◌≡◌, ℕ, zero, suc, ◌+◌, Bool, true, false, true≢false, List, [], ◌∷◌, map, Option, Some, None, refl, sym, ap, ◌∙◌, subst, arith}
-use Rattle.std.specs.Prelude.{◌&&◌, cond, fold, find, is_some, not, insert, nat_le}
+use Rattle.std.specs.Prelude.{◌&&◌, ◌||◌, cond, filter, fold, find, is_some, not, insert, nat_le}
 use Rattle.std.specs.declared.cmp.Ordering.{Ordering}
 use Rattle.std.specs.declared.cmp.Ordering.TheVariants.{Less, Equal, Greater}
 use Rattle.std.specs.Cmp.Lexicographic.{slice_cmp}
@@ -13,11 +13,11 @@ use Rattle.std.proofs.lemmas.Map.Text.{is_eq-slice_cmp}
 use Rattle.std.proofs.lemmas.Slice.Eq.{bytes_eq-Decides}
 use Rattle.pool_model.specs.declared.item.Action.{Action}
 use Rattle.pool_model.specs.declared.item.Change.{Change}
-use Rattle.pool_model.specs.declared.item.Change.TheVariants.{Clone, Create, Snapshot}
+use Rattle.pool_model.specs.declared.item.Change.TheVariants.{Clone, Create, Destroy, Snapshot}
 use Rattle.pool_model.specs.declared.item.Write.{Write}
 use Rattle.pool_model.specs.declared.volume.PlainVolume.{PlainVolume}
 use Rattle.pool_model.specs.Names.{same, is_before, stored, snapshot_name}
-use Rattle.pool_model.specs.Pools.{PlainPool, Entry, Ledger, AreAscending, volume_at, volume_after, written, clone_of, created, is_snapshot, placed, snapshot_of, with_clone, with_snapshot, with_volume, changed, applied, upto}
+use Rattle.pool_model.specs.Pools.{PlainPool, Entry, Ledger, AreAscending, volume_at, volume_after, written, clone_of, created, destroyed, has_clones, has_snapshots, is_snapshot, placed, snapshot_of, with_clone, with_snapshot, with_volume, without, changed, applied, upto}
 
 -- ---- names
 
@@ -133,6 +133,42 @@ volume_written pool w name = along pool.volumes
         ∙ (ap (cond (same volume.name name) (Some (volume_after w volume))) (along volumes)
         ∙ elim (same volume.name name) as (λ b. cond b (Some (volume_after w volume)) (option_map (volume_after w) (found name volumes)) ≡ option_map (volume_after w) (cond b (Some volume) (found name volumes))) [ true ↦ refl | false ↦ refl ])
 
+-- ---- a volume less
+
+stays_there : (b c : Bool) (v : PlainVolume) (rest : Option PlainVolume) → (c ≡ true → b ≡ false) → cond c (Some v) (cond b None rest) ≡ cond b None (cond c (Some v) rest)
+stays_there b true v rest e = sym (ap (λ d. cond d None (Some v)) (e refl))
+stays_there b false v rest e = refl
+
+goes_there : (b c : Bool) (v : PlainVolume) (rest : Option PlainVolume) → (c ≡ true → b ≡ true) → cond b None rest ≡ cond b None (cond c (Some v) rest)
+goes_there true c v rest e = refl
+goes_there false true v rest e = absurd (true≢false (sym (e refl)))
+goes_there false false v rest e = refl
+
+none_there : (b : Bool) (o : Option PlainVolume) → o ≡ None → o ≡ cond b None o
+none_there true o e = e
+none_there false o e = refl
+
+-- what a pool without a volume has at a name
+pub volume_without : (pool : PlainPool) (gone name : List ℕ) → volume_at name (without gone pool) ≡ cond (same gone name) None (volume_at name pool)
+volume_without pool gone name = along pool.volumes
+  where
+    along : (volumes : List PlainVolume) → found name (filter (λ v. not (same v.name gone)) volumes) ≡ cond (same gone name) None (found name volumes)
+    along [] = none_there (same gone name) (found name []) refl
+    along (v ∷ volumes) = cases (along volumes) (same v.name gone) refl
+      where
+        other : (b : Bool) → same v.name gone ≡ false → same v.name name ≡ true → same gone name ≡ b → same gone name ≡ false
+        other true e f g = absurd (true≢false (sym (is_same v.name gone (same_is v.name name f ∙ sym (same_is gone name g))) ∙ e))
+        other false e f g = g
+
+        cases : found name (filter (λ w. not (same w.name gone)) volumes) ≡ cond (same gone name) None (found name volumes)
+            → (b : Bool) → same v.name gone ≡ b → found name (filter (λ w. not (same w.name gone)) (v ∷ volumes)) ≡ cond (same gone name) None (found name (v ∷ volumes))
+        cases rest true e =
+            ap (λ d. found name (cond (not d) (v ∷ filter (λ w. not (same w.name gone)) volumes) (filter (λ w. not (same w.name gone)) volumes))) e
+            ∙ (rest ∙ goes_there (same gone name) (same v.name name) v (found name volumes) (λ f. ap (λ n. same n name) (sym (same_is v.name gone e)) ∙ f))
+        cases rest false e =
+            ap (λ d. found name (cond (not d) (v ∷ filter (λ w. not (same w.name gone)) volumes) (filter (λ w. not (same w.name gone)) volumes))) e
+            ∙ (ap (cond (same v.name name) (Some v)) rest ∙ stays_there (same gone name) (same v.name name) v (found name volumes) (λ f. other (same gone name) e f refl))
+
 -- ---- volumes that ascend
 
 abbrev names_of : List PlainVolume → List (List ℕ)
@@ -177,7 +213,26 @@ ascending_writes : (pool : PlainPool) (writes : List Write) → AreAscending poo
 ascending_writes pool [] up = up
 ascending_writes pool (w ∷ writes) up = ascending_writes (written pool w) writes (ascending_written pool w up)
 
-ascending_changed : (group : ℕ) (pool : PlainPool) (change : Change) → AreAscending pool.volumes → AreAscending (changed group pool change).volumes
+-- those that are kept ascend
+all_kept : (P : List ℕ → Type 0) (test : PlainVolume → Bool) (volumes : List PlainVolume) → AllByRecursion P (names_of volumes) → AllByRecursion P (names_of (filter test volumes))
+all_kept P test [] all = tt
+all_kept P test (v ∷ volumes) all = elim (test v) as (λ b. AllByRecursion P (names_of (cond b (v ∷ filter test volumes) (filter test volumes)))) [ true ↦ (all.0, all_kept P test volumes all.1) | false ↦ all_kept P test volumes all.1 ]
+
+ascending_kept : (test : PlainVolume → Bool) (volumes : List PlainVolume) → AreAscending volumes → AreAscending (filter test volumes)
+unfolding IsStrictlySortedBy
+ascending_kept test [] up = tt
+ascending_kept test (v ∷ volumes) up = elim (test v) as (λ b. AreAscending (cond b (v ∷ filter test volumes) (filter test volumes))) [
+  | true ↦ (all_kept (λ n. name_cmp v.name n ≡ Less) test volumes up.0, ascending_kept test volumes up.1)
+  | false ↦ ascending_kept test volumes up.1
+]
+
+pub ascending_gone : (name : List ℕ) (pool : PlainPool) → AreAscending pool.volumes → AreAscending (destroyed name pool).volumes
+ascending_gone name pool up = elim (has_snapshots name pool || has_clones name pool) as (λ b. AreAscending (cond b pool (without name pool)).volumes) [
+  | true ↦ up
+  | false ↦ ascending_kept (λ v. not (same v.name name)) pool.volumes up
+]
+
+pub ascending_changed : (group : ℕ) (pool : PlainPool) (change : Change) → AreAscending pool.volumes → AreAscending (changed group pool change).volumes
 ascending_changed group pool (Create name size block_size) up = ascending_more pool (created group name size block_size) up
 ascending_changed group pool (Snapshot volume part) up = taken (volume_at volume pool)
   where
@@ -195,8 +250,9 @@ ascending_changed group pool (Clone snapshot name) up = cloned (volume_at snapsh
       | true ↦ ascending_more pool (clone_of group name it) up
       | false ↦ up
     ]
+ascending_changed group pool (Destroy name) up = ascending_gone name pool up
 
-ascending_actions : (group : ℕ) (pool : PlainPool) (actions : List Action) → AreAscending pool.volumes → AreAscending (fold (λ p a. changed group p a.change) pool actions).volumes
+pub ascending_actions : (group : ℕ) (pool : PlainPool) (actions : List Action) → AreAscending pool.volumes → AreAscending (fold (λ p a. changed group p a.change) pool actions).volumes
 ascending_actions group pool [] up = up
 ascending_actions group pool (a ∷ actions) up = ascending_actions group (changed group pool a.change) actions (ascending_changed group pool a.change up)
 

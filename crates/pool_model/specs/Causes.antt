@@ -1,7 +1,7 @@
 -- The numbers and names of refusals.
 use Rattle.std.specs.Prelude.{ℕ, List, codes}
 use Rattle.pool_model.specs.declared.refusal.Refusal.{Refusal}
-use Rattle.pool_model.specs.declared.refusal.Refusal.TheVariants.{NoMemory, DiskFault, NoSpace, Suspended, AlreadyHeld, NoHold, OutOfOrder, NoSuchName, NotYet, Exists, OutOfRange, Misaligned, NotNow, BadName, GroupGone, BadPointer, BadDigest, BadConfig, BadMap}
+use Rattle.pool_model.specs.declared.refusal.Refusal.TheVariants.{NoMemory, DiskFault, NoSpace, Suspended, AlreadyHeld, NoHold, OutOfOrder, NoSuchName, NotYet, Exists, OutOfRange, Misaligned, NotNow, HasClones, HasSnapshots, BadName, GroupGone, BadPointer, BadDigest, BadConfig, BadMap}
 
 abbrev pub number_of_cause : Refusal → ℕ
 number_of_cause NoMemory = 1
@@ -17,6 +17,8 @@ number_of_cause Exists = 10
 number_of_cause OutOfRange = 11
 number_of_cause Misaligned = 12
 number_of_cause NotNow = 13
+number_of_cause HasClones = 14
+number_of_cause HasSnapshots = 15
 number_of_cause BadName = 16
 number_of_cause GroupGone = 17
 number_of_cause BadPointer = 20
@@ -38,6 +40,8 @@ name_of_cause Exists = codes "Exists"
 name_of_cause OutOfRange = codes "OutOfRange"
 name_of_cause Misaligned = codes "Misaligned"
 name_of_cause NotNow = codes "NotNow"
+name_of_cause HasClones = codes "HasClones"
+name_of_cause HasSnapshots = codes "HasSnapshots"
 name_of_cause BadName = codes "BadName"
 name_of_cause GroupGone = codes "GroupGone"
 name_of_cause BadPointer = codes "BadPointer"

@@ -2,15 +2,15 @@
 use Rattle.std.specs.Prelude.{ℕ, ◌+◌, ◌%◌, ◌^◌, List, [], ◌∷◌, length, Bool, true, false, not, Option, Some, None, is_some, is_none, nat_le, nat_lt, ◌==◌, ◌&&◌, ◌||◌, if◌then◌else◌}
 use Rattle.pool_model.specs.declared.item.Action.{Action}
 use Rattle.pool_model.specs.declared.item.Change.{Change}
-use Rattle.pool_model.specs.declared.item.Change.TheVariants.{Clone, Create, Snapshot}
+use Rattle.pool_model.specs.declared.item.Change.TheVariants.{Clone, Create, Destroy, Snapshot}
 use Rattle.pool_model.specs.declared.item.Write.{Write}
 use Rattle.pool_model.specs.declared.step.Step.{Step}
 use Rattle.pool_model.specs.declared.step.Step.TheVariants.{Hold, Write as WriteStep, Act, Release, Close, Quiesce, Plan, Device, Read, ReadUnder}
 use Rattle.pool_model.specs.declared.refusal.Refusal.{Refusal}
-use Rattle.pool_model.specs.declared.refusal.Refusal.TheVariants.{Suspended, AlreadyHeld, NoHold, OutOfOrder, NoSuchName, NotYet, Misaligned, OutOfRange, NotNow, BadName, Exists, GroupGone}
+use Rattle.pool_model.specs.declared.refusal.Refusal.TheVariants.{Suspended, AlreadyHeld, NoHold, OutOfOrder, NoSuchName, NotYet, Misaligned, OutOfRange, NotNow, HasClones, HasSnapshots, BadName, Exists, GroupGone}
 use Rattle.pool_model.specs.declared.volume.PlainVolume.{PlainVolume}
-use Rattle.pool_model.specs.Names.{is_name, is_block_size, snapshot_name}
-use Rattle.pool_model.specs.Pools.{PlainPool, is_snapshot, volume_at}
+use Rattle.pool_model.specs.Names.{is_name, is_whole_name, is_block_size, snapshot_name}
+use Rattle.pool_model.specs.Pools.{PlainPool, has_clones, has_snapshots, is_snapshot, volume_at}
 use Rattle.pool_model.specs.View.{View, is_syncing, is_planned, is_quiescing, is_quiesced, is_suspended, waiting_group, open_group, is_kept, hold_group, is_held, now_of}
 
 -- the first cause whose test holds
@@ -61,6 +61,7 @@ abbrev pub change_refusal : Change → PlainPool → Option Refusal
 change_refusal (Create name size block_size) now = first_cause ((not (is_name name), BadName) ∷ (is_some (volume_at name now), Exists) ∷ (not (is_block_size block_size && (size % block_size == 0)), Misaligned) ∷ (not (nat_le block_size size && nat_le size (2 ^ 40)), OutOfRange) ∷ [])
 change_refusal (Snapshot volume part) now = first_cause ((not (is_name part), BadName) ∷ (not (is_volume (volume_at volume now)), NoSuchName) ∷ (is_some (volume_at (snapshot_name volume part) now), Exists) ∷ [])
 change_refusal (Clone snapshot name) now = first_cause ((not (is_name name), BadName) ∷ (not (is_snapshot_there (volume_at snapshot now)), NoSuchName) ∷ (is_some (volume_at name now), Exists) ∷ [])
+change_refusal (Destroy name) now = first_cause ((not (is_whole_name name), BadName) ∷ (is_none (volume_at name now), NoSuchName) ∷ (has_snapshots name now, HasSnapshots) ∷ (has_clones name now, HasClones) ∷ [])
 
 abbrev pub act_refusal : Action → ℕ → ℕ → PlainPool → Option ℕ → Option Refusal
 act_refusal a expected opened now None = Some NoHold

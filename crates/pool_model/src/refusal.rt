@@ -25,6 +25,10 @@ pub enum Refusal {
     OutOfRange,
     Misaligned,
     NotNow,
+    /// Clones of the snapshot are there.
+    HasClones,
+    /// Snapshots of the volume are there.
+    HasSnapshots,
     BadName,
     /// The group is not kept.
     GroupGone,
@@ -59,6 +63,8 @@ impl Refusal {
             Refusal::OutOfRange => 11,
             Refusal::Misaligned => 12,
             Refusal::NotNow => 13,
+            Refusal::HasClones => 14,
+            Refusal::HasSnapshots => 15,
             Refusal::BadName => 16,
             Refusal::GroupGone => 17,
             Refusal::BadPointer => 20,
@@ -86,6 +92,8 @@ impl Refusal {
             Refusal::OutOfRange => "OutOfRange",
             Refusal::Misaligned => "Misaligned",
             Refusal::NotNow => "NotNow",
+            Refusal::HasClones => "HasClones",
+            Refusal::HasSnapshots => "HasSnapshots",
             Refusal::BadName => "BadName",
             Refusal::GroupGone => "GroupGone",
             Refusal::BadPointer => "BadPointer",

@@ -11,7 +11,7 @@ use Rattle.pool_export.specs.Taken.{AreExported, ExportTakes}
 use Rattle.pool_export.specs.Writes.{IsExportWrite}
 use Rattle.pool_export.specs.declared.refusal.Refusal.{Refusal as LabelsRefusal}
 use Rattle.pool_model.specs.declared.refusal.Refusal.{Refusal}
-use Rattle.pool_model.specs.declared.refusal.Refusal.TheVariants.{NoMemory, DiskFault, NoSpace, Suspended, AlreadyHeld, NoHold, OutOfOrder, NoSuchName, NotYet, Exists, OutOfRange, Misaligned, NotNow, BadName, GroupGone, BadPointer, BadDigest, BadConfig, BadMap}
+use Rattle.pool_model.specs.declared.refusal.Refusal.TheVariants.{NoMemory, DiskFault, NoSpace, Suspended, AlreadyHeld, NoHold, OutOfOrder, NoSuchName, NotYet, Exists, OutOfRange, Misaligned, NotNow, HasClones, HasSnapshots, BadName, GroupGone, BadPointer, BadDigest, BadConfig, BadMap}
 use Rattle.pool_slots.specs.Slots.{AreSettled, InUse, MakesOn}
 use Rattle.uberblock_ring.specs.declared.uberblock.Uberblock.{Uberblock}
 use Rattle.pool_open.specs.Exporting.{IsExportBegun, IsGivenBack, IsPutAway, RefusesExport, of_export, outs_of}
@@ -86,6 +86,8 @@ refuses core Exists it = absurd it
 refuses core OutOfRange it = absurd it
 refuses core Misaligned it = absurd it
 refuses core NotNow it = it
+refuses core HasClones it = absurd it
+refuses core HasSnapshots it = absurd it
 refuses core BadName it = absurd it
 refuses core GroupGone it = absurd it
 refuses core BadPointer it = absurd it

@@ -7,7 +7,7 @@ use Rattle.pool_model.specs.declared.refusal.Refusal.{Refusal as Cause}
 use Rattle.schedule_lines.specs.declared.command.Line.{Line}
 use Rattle.schedule_lines.specs.declared.command.Line.TheVariants.{Skipped, Command as CommandLine}
 use Rattle.schedule_lines.specs.declared.command.Command.{Command}
-use Rattle.schedule_lines.specs.declared.command.Command.TheVariants.{Pool, Hold, Release, Write as WriteCommand, Create, Snapshot, Clone, Close, Quiesced, Plan, Device, Commit, Sync, Read, Under, Stop, Reopen}
+use Rattle.schedule_lines.specs.declared.command.Command.TheVariants.{Pool, Hold, Release, Write as WriteCommand, Create, Snapshot, Clone, Destroy, Close, Quiesced, Plan, Device, Commit, Sync, Read, Under, Stop, Reopen}
 use Rattle.schedule_lines.specs.declared.command.PoolLine.{PoolLine}
 use Rattle.schedule_lines.specs.Replies.{refusal_text}
 use Rattle.programs.specs.declared.refusal.Refusal.{Refusal}
@@ -70,6 +70,7 @@ not_first (WriteCommand line) other first = first
 not_first (Create line) other first = first
 not_first (Snapshot line) other first = first
 not_first (Clone line) other first = first
+not_first (Destroy line) other first = first
 not_first Close other first = first
 not_first Quiesced other first = first
 not_first Plan other first = first

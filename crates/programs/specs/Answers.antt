@@ -2,17 +2,18 @@
 use Rattle.std.specs.Prelude.{◌≡◌, ◌⊎◌, ℕ, ◌-◌, ◌^◌, ◌≤◌, List, [], ◌∷◌, length, replicate, Bool, true, false, Option, Some, None}
 use Rattle.pool_model.specs.declared.item.Write.{Write}
 use Rattle.pool_model.specs.declared.item.Action.{Action}
-use Rattle.pool_model.specs.declared.item.Change.TheVariants.{Clone as CloneChange, Create as CreateChange, Snapshot as SnapshotChange}
+use Rattle.pool_model.specs.declared.item.Change.TheVariants.{Clone as CloneChange, Create as CreateChange, Destroy as DestroyChange, Snapshot as SnapshotChange}
 use Rattle.pool_model.specs.declared.step.Step.{Step}
 use Rattle.pool_model.specs.declared.step.Step.TheVariants as step
 use Rattle.pool_model.specs.declared.step.Reply.{Reply}
 use Rattle.pool_model.specs.declared.step.Reply.TheVariants as reply
 use Rattle.schedule_lines.specs.declared.command.Command.{Command}
-use Rattle.schedule_lines.specs.declared.command.Command.TheVariants.{Pool, Hold, Release, Write as WriteCommand, Create, Snapshot, Clone, Close, Quiesced, Plan, Device, Commit, Sync, Read, Under, Stop, Reopen}
+use Rattle.schedule_lines.specs.declared.command.Command.TheVariants.{Pool, Hold, Release, Write as WriteCommand, Create, Snapshot, Clone, Destroy, Close, Quiesced, Plan, Device, Commit, Sync, Read, Under, Stop, Reopen}
 use Rattle.schedule_lines.specs.declared.command.WriteLine.{WriteLine}
 use Rattle.schedule_lines.specs.declared.command.CreateLine.{CreateLine}
 use Rattle.schedule_lines.specs.declared.command.SnapshotLine.{SnapshotLine}
 use Rattle.schedule_lines.specs.declared.command.CloneLine.{CloneLine}
+use Rattle.schedule_lines.specs.declared.command.DestroyLine.{DestroyLine}
 use Rattle.programs.specs.Lengths.{StandsFor}
 
 -- the write of n bytes that a line asks for
@@ -31,6 +32,10 @@ snapshot_by line = record { writer = line.writer; number = line.number; change =
 abbrev pub clone_by : CloneLine → Action
 clone_by line = record { writer = line.writer; number = line.number; change = CloneChange line.snapshot line.name }
 
+-- the destroy that a line asks for
+abbrev pub destroy_by : DestroyLine → Action
+destroy_by line = record { writer = line.writer; number = line.number; change = DestroyChange line.name }
+
 -- the first step of a command. A schedule tells no time.
 abbrev pub Begins : Command → Step → Type 0
 Begins (Pool line) s = ⊥
@@ -40,6 +45,7 @@ Begins (WriteCommand line) s = (n : ℕ) × StandsFor line.len n × (s ≡ step.
 Begins (Create line) s = s ≡ step.Act (action_of line)
 Begins (Snapshot line) s = s ≡ step.Act (snapshot_by line)
 Begins (Clone line) s = s ≡ step.Act (clone_by line)
+Begins (Destroy line) s = s ≡ step.Act (destroy_by line)
 Begins Close s = s ≡ step.Close
 Begins Quiesced s = s ≡ step.Quiesce
 Begins Plan s = s ≡ step.Plan 0

@@ -1,14 +1,14 @@
 //! What the commands of a schedule do to a pool.
 ghost use Rattle.std.specs.Prelude.{◌≡◌, ℕ, MatchOption, IfOk, OnErr};
 ghost use Rattle.pool_model.specs.declared.step.Step.TheVariants as step;
-ghost use Rattle.programs.specs.Answers.{Answers, Begins, IsNoStep, RunsOn, action_of, clone_by, next_of, runs_on, snapshot_by, write_of};
+ghost use Rattle.programs.specs.Answers.{Answers, Begins, IsNoStep, RunsOn, action_of, clone_by, destroy_by, next_of, runs_on, snapshot_by, write_of};
 ghost use Rattle.programs.specs.Lengths.{StandsFor};
 
 use crate::machine::StepMachine;
 use crate::written::written_len;
 use pool_model::{Action, Bytes, Change, Reply, Step, Write};
 use schedule_lines::{
-    CloneLine, Command, CreateLine, ReadLine, SnapshotLine, UnderLine, WriteLine,
+    CloneLine, Command, CreateLine, DestroyLine, ReadLine, SnapshotLine, UnderLine, WriteLine,
 };
 use std::alloc::{AllocError, Global};
 
@@ -69,6 +69,16 @@ fn clone_step(line: CloneLine) -> Step
     })
 }
 
+fn destroy_step(line: DestroyLine) -> Step
+    ensures { result ≡ step.Act (destroy_by line) }
+{
+    Step::Act(Action {
+        writer: line.writer,
+        number: line.number,
+        change: Change::Destroy { name: line.name },
+    })
+}
+
 fn read_step(line: ReadLine) -> Step
     ensures { result ≡ step.Read line.name line.offset line.len }
 {
@@ -102,6 +112,7 @@ pub(crate) fn first_step(alloc: Global, command: Command) -> Result<Option<Step>
         Command::Create(line) => create_step(line),
         Command::Snapshot(line) => snapshot_step(line),
         Command::Clone(line) => clone_step(line),
+        Command::Destroy(line) => destroy_step(line),
         Command::Close | Command::Sync => Step::Close,
         Command::Quiesced => Step::Quiesce,
         Command::Plan | Command::Commit => Step::Plan {

@@ -9,16 +9,17 @@ use Rattle.schedule_lines.specs.declared.command.WriteLine.{WriteLine}
 use Rattle.schedule_lines.specs.declared.command.CreateLine.{CreateLine}
 use Rattle.schedule_lines.specs.declared.command.SnapshotLine.{SnapshotLine}
 use Rattle.schedule_lines.specs.declared.command.CloneLine.{CloneLine}
+use Rattle.schedule_lines.specs.declared.command.DestroyLine.{DestroyLine}
 use Rattle.schedule_lines.specs.declared.command.ReadLine.{ReadLine}
 use Rattle.schedule_lines.specs.declared.command.UnderLine.{UnderLine}
 use Rattle.schedule_lines.specs.declared.command.ReopenLine.{ReopenLine}
 use Rattle.schedule_lines.specs.declared.command.StopPoint.{StopPoint}
 use Rattle.schedule_lines.specs.declared.command.StopPoint.TheVariants.{Blocks, Slots, Claim}
 use Rattle.schedule_lines.specs.declared.command.Command.{Command}
-use Rattle.schedule_lines.specs.declared.command.Command.TheVariants.{Pool, Write, Create, Snapshot, Clone, Read, Under, Stop, Reopen}
+use Rattle.schedule_lines.specs.declared.command.Command.TheVariants.{Pool, Write, Create, Snapshot, Clone, Destroy, Read, Under, Stop, Reopen}
 use Rattle.schedule_lines.specs.Hexadecimal.{byte_text}
 use Rattle.schedule_lines.specs.Grammar.{words_of_stop, words_of, StopFits, NumbersFit}
-use Rattle.schedule_lines.specs.Reading.{word_at, number_at, pool_at, write_at, create_at, snapshot_at, clone_at, read_at, under_at, of_read, point_at, stop_at, reopen_at}
+use Rattle.schedule_lines.specs.Reading.{word_at, number_at, pool_at, write_at, create_at, snapshot_at, clone_at, destroy_at, read_at, under_at, of_read, point_at, stop_at, reopen_at}
 use Rattle.schedule_lines.proofs.Fields.{bind_some, some, some_is, Words, IsFull, word_taken, Number, number_taken, number_then, number_read, Byte, byte_then, byte_read, NameWord, name_then, name_read}
 use Rattle.schedule_lines.proofs.Numbers.{Numbers, numbers_then, numbers_read}
 
@@ -173,6 +174,31 @@ clone_read clone fits full =
     let from_snapshot : Words = clone.snapshot ∷ from_name in
     let from_number : Words = decimal clone.number ∷ from_snapshot in
     rw (number_read (2 ^ 32) clone.writer from_number (omega arith) fits.0, number_read (2 ^ 64) clone.number from_snapshot (omega arith) fits.1, name_read clone.snapshot from_name full.1.1.1.0, name_read clone.name [] full.1.1.1.1.0) refl
+
+destroy_made : (words : Words) (a b : ℕ × Words) (c : List ℕ × Words) → Number words (2 ^ 32) a → Number a.1 (2 ^ 64) b → NameWord b.1 c
+    → Taken (codes "destroy" ∷ words) (Destroy (record { writer = a.0; number = b.0; name = c.0 })) c.1
+destroy_made words a b c is_writer is_number is_name =
+    record {
+      parts = onto _ _ _ (is_writer.word ∙ onto _ _ _ (is_number.word ∙ onto _ _ _ (is_name.word)));
+      fits = (is_writer.fits, is_number.fits);
+      full = (lit< tt, (is_writer.full, (is_number.full, (is_name.full, tt))));
+    }
+
+pub destroy_taken : (words : Words) (destroy : DestroyLine) (rest : Words) → destroy_at words ≡ Some (destroy, rest) → Taken (codes "destroy" ∷ words) (Destroy destroy) rest
+unfolding destroy_at
+destroy_taken words destroy rest e =
+    let a = number_then (2 ^ 32) words _ (destroy, rest) (omega arith) e in
+    let b = number_then (2 ^ 64) a.0.1 _ (destroy, rest) (omega arith) a.2 in
+    let c = name_then b.0.1 _ (destroy, rest) b.2 in
+    let same = some_is (record { writer = a.0.0; number = b.0.0; name = c.0.0 }, c.0.1) (destroy, rest) c.2 in
+    subst (λ (x : DestroyLine × Words). Taken (codes "destroy" ∷ words) (Destroy x.0) x.1) same (destroy_made words a.0 b.0 c.0 a.1 b.1 c.1)
+
+pub destroy_read : (destroy : DestroyLine) → NumbersFit (Destroy destroy) → AllByRecursion IsFull (words_of (Destroy destroy)) → destroy_at (drop 1 (words_of (Destroy destroy))) ≡ Some (destroy, [])
+unfolding destroy_at
+destroy_read destroy fits full =
+    let from_name : Words = destroy.name ∷ [] in
+    let from_number : Words = decimal destroy.number ∷ from_name in
+    rw (number_read (2 ^ 32) destroy.writer from_number (omega arith) fits.0, number_read (2 ^ 64) destroy.number from_name (omega arith) fits.1, name_read destroy.name [] full.1.1.1.0) refl
 
 read_made : (words : Words) (b c : ℕ × Words) (a : List ℕ × Words) → NameWord words a → Number a.1 (2 ^ 64) b → Number b.1 (2 ^ 64) c
     → Taken (codes "read" ∷ words) (Read (record { name = a.0; offset = b.0; len = c.0 })) c.1

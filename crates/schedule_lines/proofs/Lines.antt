@@ -10,7 +10,7 @@ use Rattle.std.proofs.lemmas.Slice.Eq.{bytes_eq-Decides}
 use Rattle.schedule_lines.specs.declared.command.Line.{Line}
 use Rattle.schedule_lines.specs.declared.command.Line.TheVariants.{Skipped, Command as CommandLine}
 use Rattle.schedule_lines.specs.declared.command.Command.{Command}
-use Rattle.schedule_lines.specs.declared.command.Command.TheVariants.{Pool, Hold, Release, Write, Create, Snapshot, Clone, Close, Quiesced, Plan, Device, Commit, Sync, Read, Under, Stop, Reopen}
+use Rattle.schedule_lines.specs.declared.command.Command.TheVariants.{Pool, Hold, Release, Write, Create, Snapshot, Clone, Destroy, Close, Quiesced, Plan, Device, Commit, Sync, Read, Under, Stop, Reopen}
 use Rattle.schedule_lines.specs.declared.command.StopPoint.TheVariants.{Blocks, Slots, Claim}
 use Rattle.schedule_lines.specs.declared.keyword.Keyword.{Keyword}
 use Rattle.schedule_lines.specs.declared.keyword.Keyword.TheVariants as keyword
@@ -18,9 +18,9 @@ use Rattle.schedule_lines.specs.declared.refusal.Refusal.{Refusal}
 use Rattle.schedule_lines.specs.declared.refusal.Refusal.TheVariants.{Fault, NoMemory}
 use Rattle.schedule_lines.specs.Grammar.{words_of, NumbersFit, IsWord, Spells}
 use Rattle.schedule_lines.specs.Keywords.{keyword_text, keywords, keyword_of}
-use Rattle.schedule_lines.specs.Reading.{Gives, word_at, end_at, number_at, pool_at, write_at, create_at, snapshot_at, clone_at, read_at, under_at, stop_at, reopen_at, of_read, command_at, whole_command, line_of}
+use Rattle.schedule_lines.specs.Reading.{Gives, word_at, end_at, number_at, pool_at, write_at, create_at, snapshot_at, clone_at, destroy_at, read_at, under_at, stop_at, reopen_at, of_read, command_at, whole_command, line_of}
 use Rattle.schedule_lines.proofs.Fields.{bind_some, some, some_is, Words, IsFull, word_taken, number_taken, number_read, Number}
-use Rattle.schedule_lines.proofs.Commands.{Taken, onto, pool_taken, pool_read, write_taken, write_read, create_taken, create_read, snapshot_taken, snapshot_read, clone_taken, clone_read, read_taken, read_read, under_taken, under_read, stop_taken, stop_read, reopen_taken, reopen_read, of_read_some, chosen}
+use Rattle.schedule_lines.proofs.Commands.{Taken, onto, pool_taken, pool_read, write_taken, write_read, create_taken, create_read, snapshot_taken, snapshot_read, clone_taken, clone_read, destroy_taken, destroy_read, read_taken, read_read, under_taken, under_read, stop_taken, stop_read, reopen_taken, reopen_read, of_read_some, chosen}
 use Rattle.schedule_lines.proofs.Splitting.{is_space, Spaceless, split_joined, parts_spaceless}
 
 -- ---- keywords
@@ -51,6 +51,7 @@ keyword_read keyword.Write = refl
 keyword_read keyword.Create = refl
 keyword_read keyword.Snapshot = refl
 keyword_read keyword.Clone = refl
+keyword_read keyword.Destroy = refl
 keyword_read keyword.Close = refl
 keyword_read keyword.Quiesced = refl
 keyword_read keyword.Plan = refl
@@ -71,6 +72,7 @@ keyword_for (Write write) = keyword.Write
 keyword_for (Create create) = keyword.Create
 keyword_for (Snapshot snapshot) = keyword.Snapshot
 keyword_for (Clone clone) = keyword.Clone
+keyword_for (Destroy destroy) = keyword.Destroy
 keyword_for Close = keyword.Close
 keyword_for Quiesced = keyword.Quiesced
 keyword_for Plan = keyword.Plan
@@ -90,6 +92,7 @@ words_begin (Write write) = refl
 words_begin (Create create) = refl
 words_begin (Snapshot snapshot) = refl
 words_begin (Clone clone) = refl
+words_begin (Destroy destroy) = refl
 words_begin Close = refl
 words_begin Quiesced = refl
 words_begin Plan = refl
@@ -136,6 +139,9 @@ command_taken keyword.Snapshot words x e =
 command_taken keyword.Clone words x e =
     let a = of_read_some Clone (clone_at words) x e in
     subst (λ (y : Command × Words). Taken (codes "clone" ∷ words) y.0 y.1) a.2 (clone_taken words a.0.0 a.0.1 a.1)
+command_taken keyword.Destroy words x e =
+    let a = of_read_some Destroy (destroy_at words) x e in
+    subst (λ (y : Command × Words). Taken (codes "destroy" ∷ words) y.0 y.1) a.2 (destroy_taken words a.0.0 a.0.1 a.1)
 command_taken keyword.Close words x e =
     subst (λ (y : Command × Words). Taken (codes "close" ∷ words) y.0 y.1) (some_is (Close, words) x e) (record { parts = refl; fits = tt; full = (lit< tt, tt) })
 command_taken keyword.Quiesced words x e =
@@ -170,6 +176,7 @@ command_read (Write write) fits full = ap (of_read Write) (write_read write fits
 command_read (Create create) fits full = ap (of_read Create) (create_read create fits full)
 command_read (Snapshot snapshot) fits full = ap (of_read Snapshot) (snapshot_read snapshot fits full)
 command_read (Clone clone) fits full = ap (of_read Clone) (clone_read clone fits full)
+command_read (Destroy destroy) fits full = ap (of_read Destroy) (destroy_read destroy fits full)
 command_read Close fits full = refl
 command_read Quiesced fits full = refl
 command_read Plan fits full = refl
@@ -245,6 +252,7 @@ command_line (Write write) = refl
 command_line (Create create) = refl
 command_line (Snapshot snapshot) = refl
 command_line (Clone clone) = refl
+command_line (Destroy destroy) = refl
 command_line Close = refl
 command_line Quiesced = refl
 command_line Plan = refl

@@ -5,7 +5,7 @@ use Rattle.std.specs.Fmt.{decimal}
 use Rattle.schedule_lines.specs.declared.command.Line.{Line}
 use Rattle.schedule_lines.specs.declared.command.Line.TheVariants.{Skipped, Command as CommandLine}
 use Rattle.schedule_lines.specs.declared.command.Command.{Command}
-use Rattle.schedule_lines.specs.declared.command.Command.TheVariants.{Pool, Hold, Release, Write, Create, Snapshot, Clone, Close, Quiesced, Plan, Device, Commit, Sync, Read, Under, Stop, Reopen}
+use Rattle.schedule_lines.specs.declared.command.Command.TheVariants.{Pool, Hold, Release, Write, Create, Snapshot, Clone, Destroy, Close, Quiesced, Plan, Device, Commit, Sync, Read, Under, Stop, Reopen}
 use Rattle.schedule_lines.specs.declared.command.StopPoint.{StopPoint}
 use Rattle.schedule_lines.specs.declared.command.StopPoint.TheVariants.{Blocks, Slots, Claim}
 use Rattle.schedule_lines.specs.Hexadecimal.{byte_text}
@@ -25,6 +25,7 @@ words_of (Write w) = codes "write" ∷ decimal w.writer ∷ decimal w.number ∷
 words_of (Create c) = codes "create" ∷ decimal c.writer ∷ decimal c.number ∷ c.volume ∷ decimal c.size ∷ decimal c.block_size ∷ []
 words_of (Snapshot s) = codes "snapshot" ∷ decimal s.writer ∷ decimal s.number ∷ s.volume ∷ s.part ∷ []
 words_of (Clone c) = codes "clone" ∷ decimal c.writer ∷ decimal c.number ∷ c.snapshot ∷ c.name ∷ []
+words_of (Destroy d) = codes "destroy" ∷ decimal d.writer ∷ decimal d.number ∷ d.name ∷ []
 words_of Close = codes "close" ∷ []
 words_of Quiesced = codes "quiesced" ∷ []
 words_of Plan = codes "plan" ∷ []
@@ -55,6 +56,7 @@ NumbersFit (Write w) = (w.writer < 2 ^ 32) × (w.number < 2 ^ 64) × (w.offset <
 NumbersFit (Create c) = (c.writer < 2 ^ 32) × (c.number < 2 ^ 64) × (c.size < 2 ^ 64) × (c.block_size < 2 ^ 64)
 NumbersFit (Snapshot s) = (s.writer < 2 ^ 32) × (s.number < 2 ^ 64)
 NumbersFit (Clone c) = (c.writer < 2 ^ 32) × (c.number < 2 ^ 64)
+NumbersFit (Destroy d) = (d.writer < 2 ^ 32) × (d.number < 2 ^ 64)
 NumbersFit Close = Unit {0}
 NumbersFit Quiesced = Unit {0}
 NumbersFit Plan = Unit {0}

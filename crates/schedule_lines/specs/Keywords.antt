@@ -2,7 +2,7 @@
 use Rattle.std.specs.Prelude.{List, [], ◌∷◌, ℕ, Option, codes, find}
 use Rattle.std.specs.Str.{bytes_eq}
 use Rattle.schedule_lines.specs.declared.keyword.Keyword.{Keyword}
-use Rattle.schedule_lines.specs.declared.keyword.Keyword.TheVariants.{Pool, Hold, Release, Write, Create, Snapshot, Clone, Close, Quiesced, Plan, Device, Commit, Sync, Read, Under, Stop, Reopen}
+use Rattle.schedule_lines.specs.declared.keyword.Keyword.TheVariants.{Pool, Hold, Release, Write, Create, Snapshot, Clone, Destroy, Close, Quiesced, Plan, Device, Commit, Sync, Read, Under, Stop, Reopen}
 
 abbrev pub keyword_text : Keyword → List ℕ
 keyword_text Pool = codes "pool"
@@ -12,6 +12,7 @@ keyword_text Write = codes "write"
 keyword_text Create = codes "create"
 keyword_text Snapshot = codes "snapshot"
 keyword_text Clone = codes "clone"
+keyword_text Destroy = codes "destroy"
 keyword_text Close = codes "close"
 keyword_text Quiesced = codes "quiesced"
 keyword_text Plan = codes "plan"
@@ -24,7 +25,7 @@ keyword_text Stop = codes "stop"
 keyword_text Reopen = codes "reopen"
 
 abbrev pub keywords : List Keyword
-keywords = Pool ∷ Hold ∷ Release ∷ Write ∷ Create ∷ Snapshot ∷ Clone ∷ Close ∷ Quiesced ∷ Plan ∷ Device ∷ Commit ∷ Sync ∷ Read ∷ Under ∷ Stop ∷ Reopen ∷ []
+keywords = Pool ∷ Hold ∷ Release ∷ Write ∷ Create ∷ Snapshot ∷ Clone ∷ Destroy ∷ Close ∷ Quiesced ∷ Plan ∷ Device ∷ Commit ∷ Sync ∷ Read ∷ Under ∷ Stop ∷ Reopen ∷ []
 
 unfoldable pub keyword_of : List ℕ → Option Keyword
 keyword_of word = find (λ keyword. bytes_eq (keyword_text keyword) word) keywords

@@ -9,7 +9,7 @@ use Rattle.schedule_lines.specs.declared.refusal.Refusal.TheVariants.{Fault, NoM
 use Rattle.schedule_lines.specs.declared.command.Line.{Line}
 use Rattle.schedule_lines.specs.declared.command.Line.TheVariants.{Skipped, Command as CommandLine}
 use Rattle.schedule_lines.specs.declared.command.Command.{Command}
-use Rattle.schedule_lines.specs.declared.command.Command.TheVariants.{Pool, Hold, Release, Write, Create, Snapshot, Clone, Close, Quiesced, Plan, Device, Commit, Sync, Read, Under, Stop, Reopen}
+use Rattle.schedule_lines.specs.declared.command.Command.TheVariants.{Pool, Hold, Release, Write, Create, Snapshot, Clone, Destroy, Close, Quiesced, Plan, Device, Commit, Sync, Read, Under, Stop, Reopen}
 use Rattle.schedule_lines.specs.declared.command.StopPoint.{StopPoint}
 use Rattle.schedule_lines.specs.declared.command.StopPoint.TheVariants.{Blocks, Slots, Claim}
 use Rattle.schedule_lines.specs.declared.command.PoolLine.{PoolLine}
@@ -17,6 +17,7 @@ use Rattle.schedule_lines.specs.declared.command.WriteLine.{WriteLine}
 use Rattle.schedule_lines.specs.declared.command.CreateLine.{CreateLine}
 use Rattle.schedule_lines.specs.declared.command.SnapshotLine.{SnapshotLine}
 use Rattle.schedule_lines.specs.declared.command.CloneLine.{CloneLine}
+use Rattle.schedule_lines.specs.declared.command.DestroyLine.{DestroyLine}
 use Rattle.schedule_lines.specs.declared.command.ReadLine.{ReadLine}
 use Rattle.schedule_lines.specs.declared.command.UnderLine.{UnderLine}
 use Rattle.schedule_lines.specs.declared.command.ReopenLine.{ReopenLine}
@@ -118,6 +119,13 @@ clone_at words = do
   name ← name_at snapshot.1
   Some (record { writer = writer.0; number = number.0; snapshot = snapshot.0; name = name.0 }, name.1)
 
+unfoldable pub destroy_at : Parse DestroyLine
+destroy_at words = do
+  writer ← number_at (2 ^ 32) words
+  number ← number_at (2 ^ 64) writer.1
+  name ← name_at number.1
+  Some (record { writer = writer.0; number = number.0; name = name.0 }, name.1)
+
 unfoldable pub read_at : Parse ReadLine
 read_at words = do
   name ← name_at words
@@ -176,6 +184,7 @@ command_at keyword.Write words = of_read Write (write_at words)
 command_at keyword.Create words = of_read Create (create_at words)
 command_at keyword.Snapshot words = of_read Snapshot (snapshot_at words)
 command_at keyword.Clone words = of_read Clone (clone_at words)
+command_at keyword.Destroy words = of_read Destroy (destroy_at words)
 command_at keyword.Close words = Some (Close, words)
 command_at keyword.Quiesced words = Some (Quiesced, words)
 command_at keyword.Plan words = Some (Plan, words)

@@ -20,6 +20,7 @@ pub enum Command {
     Create(CreateLine),
     Snapshot(SnapshotLine),
     Clone(CloneLine),
+    Destroy(DestroyLine),
     Close,
     Quiesced,
     Plan,
@@ -95,6 +96,16 @@ pub struct CloneLine {
     /// The snapshot's whole name.
     pub snapshot: Name,
     /// The clone's.
+    pub name: Name,
+}
+
+/// A volume or a snapshot that is destroyed, as a writer's item.
+#[derive(Debug, Drop)]
+pub struct DestroyLine {
+    pub writer: u32,
+    /// The item's number.
+    pub number: u64,
+    /// The volume's name, or the snapshot's whole name.
     pub name: Name,
 }
 

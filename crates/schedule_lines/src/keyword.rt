@@ -12,6 +12,7 @@ pub(crate) enum Keyword {
     Create,
     Snapshot,
     Clone,
+    Destroy,
     Close,
     Quiesced,
     Plan,
@@ -25,7 +26,7 @@ pub(crate) enum Keyword {
 }
 
 impl Keyword {
-    const ALL: [Keyword; 17] = [
+    const ALL: [Keyword; 18] = [
         Keyword::Pool,
         Keyword::Hold,
         Keyword::Release,
@@ -33,6 +34,7 @@ impl Keyword {
         Keyword::Create,
         Keyword::Snapshot,
         Keyword::Clone,
+        Keyword::Destroy,
         Keyword::Close,
         Keyword::Quiesced,
         Keyword::Plan,
@@ -56,6 +58,7 @@ impl Keyword {
             Keyword::Create => "create",
             Keyword::Snapshot => "snapshot",
             Keyword::Clone => "clone",
+            Keyword::Destroy => "destroy",
             Keyword::Close => "close",
             Keyword::Quiesced => "quiesced",
             Keyword::Plan => "plan",

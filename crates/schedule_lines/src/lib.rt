@@ -13,8 +13,8 @@ mod reply;
 mod words;
 
 pub use command::{
-    CloneLine, Command, CreateLine, Line, PoolLine, ReadLine, ReopenLine, SnapshotLine, StopPoint,
-    UnderLine, WriteLine,
+    CloneLine, Command, CreateLine, DestroyLine, Line, PoolLine, ReadLine, ReopenLine,
+    SnapshotLine, StopPoint, UnderLine, WriteLine,
 };
 pub use disk_numbers::DiskNumbers;
 pub use equal_bytes::{Run, runs, runs_text};

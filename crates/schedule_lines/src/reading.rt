@@ -2,11 +2,11 @@
 ghost use Rattle.std.specs.Prelude.{◌≡◌, ◌⊎◌, List, ℕ, IfOk, Ok, Err};
 ghost use Rattle.schedule_lines.specs.declared.command.Line.{Line};
 ghost use Rattle.schedule_lines.specs.Grammar.{Spells};
-ghost use Rattle.schedule_lines.specs.Reading.{Gives, pool_at, write_at, create_at, snapshot_at, clone_at, read_at, under_at, stop_at, numbers_at, reopen_at, command_at, line_of};
+ghost use Rattle.schedule_lines.specs.Reading.{Gives, pool_at, write_at, create_at, snapshot_at, clone_at, destroy_at, read_at, under_at, stop_at, numbers_at, reopen_at, command_at, line_of};
 
 use crate::command::{
-    CloneLine, Command, CreateLine, Line, PoolLine, ReadLine, ReopenLine, SnapshotLine, StopPoint,
-    UnderLine, WriteLine,
+    CloneLine, Command, CreateLine, DestroyLine, Line, PoolLine, ReadLine, ReopenLine,
+    SnapshotLine, StopPoint, UnderLine, WriteLine,
 };
 use crate::disk_numbers::DiskNumbers;
 use crate::keyword::Keyword;
@@ -74,6 +74,17 @@ fn clone(alloc: Global, words: &mut Words) -> Result<CloneLine, Refusal>
         writer: words.number32()?,
         number: words.number64()?,
         snapshot: words.name(alloc)?,
+        name: words.name(alloc)?,
+    })
+}
+
+#[tactic(auto, unfolding(crate::specs::Reading::destroy_at))]
+fn destroy(alloc: Global, words: &mut Words) -> Result<DestroyLine, Refusal>
+    ensures { Gives (λ destroy. (destroy, words.new)) result (destroy_at words.old) }
+{
+    Ok(DestroyLine {
+        writer: words.number32()?,
+        number: words.number64()?,
         name: words.name(alloc)?,
     })
 }
@@ -159,6 +170,7 @@ fn command(alloc: Global, keyword: Keyword, words: &mut Words) -> Result<Command
         Keyword::Create => Command::Create(create(alloc, words)?),
         Keyword::Snapshot => Command::Snapshot(snapshot(alloc, words)?),
         Keyword::Clone => Command::Clone(clone(alloc, words)?),
+        Keyword::Destroy => Command::Destroy(destroy(alloc, words)?),
         Keyword::Close => Command::Close,
         Keyword::Quiesced => Command::Quiesced,
         Keyword::Plan => Command::Plan,

@@ -11,8 +11,8 @@ use std::alloc::{AllocError, Global};
 use std::test::Fail;
 use txg_pipeline::{Call, Pipeline};
 use volume_rules::{
-    NameIndex, VolumeShape, against_change, against_read, against_write, is_good_shape, lay_over,
-    makes_good_volumes,
+    NameIndex, NewName, VolumeEntry, VolumeShape, against_read, against_write, is_good_shape,
+    lay_over, makes_good_volumes,
 };
 
 const SHAPE: VolumeShape = VolumeShape {
@@ -211,9 +211,13 @@ fn one_group_goes_through_the_pipeline(rt: HostRuntime) -> Result<(), Fail> {
 }
 
 fn add(alloc: Global, index: &mut NameIndex, volume: &str, shape: VolumeShape) -> Result<(), Fail> {
-    let volume = name(alloc, volume)?;
+    let name = name(alloc, volume)?;
+    let entry = VolumeEntry {
+        shape,
+        origin: None,
+    };
     index.reserve()?;
-    index.add(volume, shape);
+    index.add(NewName { name, entry });
     Ok(())
 }
 
@@ -405,8 +409,7 @@ fn change_cause(
     let change = create(alloc, volume, size, block_size)?;
     let mut index = NameIndex::new(alloc);
     add(alloc, &mut index, "v", SHAPE)?;
-    let found = index.find(change.volume());
-    Ok(against_change(&change, found, found))
+    Ok(index.against(alloc, &change)?)
 }
 
 /// The name of a volume that is made, its size, that of its blocks, and why it is refused, if it is.

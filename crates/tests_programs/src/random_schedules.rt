@@ -93,6 +93,7 @@ struct Writers {
     committed: u64,
     receipts: u64,
     clones: u64,
+    destroys: u64,
     reads: u64,
 }
 
@@ -105,6 +106,7 @@ impl Writers {
             committed: 3,
             receipts: 0,
             clones: 0,
+            destroys: 0,
             reads: 0,
         }
     }
@@ -135,7 +137,7 @@ impl Writers {
         let part = PARTS[self.dice.below(4) as usize];
         let clone = CLONES[self.dice.below(6) as usize];
         let (offset, len) = self.dice.range();
-        Ok(match self.dice.below(56) {
+        Ok(match self.dice.below(62) {
             0..=6 => format!(in alloc; "hold {writer}")?,
             7..=11 => format!(in alloc; "release {writer}")?,
             12..=20 => format!(in alloc;
@@ -150,7 +152,9 @@ impl Writers {
             41..=44 => format!(in alloc; "snapshot {writer} {number} {name} {part}")?,
             45..=46 => format!(in alloc; "read {name}@{part} {offset} {len}")?,
             47 => format!(in alloc; "under {group} {name}@{part} {offset} {len}")?,
-            _ => format!(in alloc; "clone {writer} {number} {name}@{part} {clone}")?,
+            48..=55 => format!(in alloc; "clone {writer} {number} {name}@{part} {clone}")?,
+            56..=59 => format!(in alloc; "destroy {writer} {number} {name}@{part}")?,
+            _ => format!(in alloc; "destroy {writer} {number} {name}")?,
         })
     }
 
@@ -161,6 +165,9 @@ impl Writers {
                 self.clones = self
                     .clones
                     .saturating_add(u64::from(line.starts_with("clone")));
+                self.destroys = self
+                    .destroys
+                    .saturating_add(u64::from(line.starts_with("destroy")));
                 if let Some(number) = self.numbers.get_mut(self.writer) {
                     *number = number.saturating_add(1);
                 }
@@ -174,7 +181,11 @@ impl Writers {
     }
 
     fn is_lucky(&self) -> bool {
-        self.committed >= 6 && self.receipts >= 10 && self.clones >= 2 && self.reads >= 16
+        self.committed >= 6
+            && self.receipts >= 10
+            && self.clones >= 2
+            && self.destroys >= 2
+            && self.reads >= 16
     }
 }
 
@@ -253,10 +264,10 @@ fn all_other_replies(alloc: Global, seeds: &[u64]) -> Result<String, Fail> {
 
 #[test]
 fn disks_reply_as_memory_does(rt: HostRuntime) -> Result<(), Fail> {
-    expect_none(&rt, all_other_replies(rt.alloc(), &[3, 8, 12]))
+    expect_none(&rt, all_other_replies(rt.alloc(), &[57, 107, 250]))
 }
 
 #[test]
 fn disks_reply_as_memory_does_again(rt: HostRuntime) -> Result<(), Fail> {
-    expect_none(&rt, all_other_replies(rt.alloc(), &[22, 25, 77]))
+    expect_none(&rt, all_other_replies(rt.alloc(), &[152, 211, 333]))
 }

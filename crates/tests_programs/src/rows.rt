@@ -310,6 +310,89 @@ read s 0 1024 -> 15x512 19x512
 under 9 q 0 1024 -> refused 8 NoSuchName
 ";
 
+/// Behind the first ones, what has snapshots or clones can't be destroyed. A clone, its snapshot and then the volume can, and are gone at
+/// once, but are under the groups before; a new volume has the name then, and none of the old one's bytes.
+const DESTROYED: &str = "hold 1 -> held 5
+write 1 2 v 0 512 0a -> receipt 5
+snapshot 1 3 v a -> receipt 5
+clone 1 4 v@a w -> receipt 5
+destroy 1 5 v@a -> refused 14 HasClones
+destroy 1 5 v -> refused 15 HasSnapshots
+destroy 1 5 x -> refused 8 NoSuchName
+destroy 1 5 v@b -> refused 8 NoSuchName
+destroy 1 5 V -> refused 16 BadName
+destroy 1 5 v@A -> refused 16 BadName
+destroy 1 5 v@a@b -> refused 16 BadName
+destroy 1 6 V -> refused 7 OutOfOrder 5
+destroy 2 1 v@a -> refused 6 NoHold
+release 1 -> released
+sync -> committed 5
+hold 1 -> held 6
+destroy 1 5 v@a -> refused 14 HasClones
+destroy 1 5 v -> refused 15 HasSnapshots
+write 1 5 w 0 512 0b -> receipt 6
+destroy 1 6 w -> receipt 6
+destroy 1 7 w -> refused 8 NoSuchName
+read w 0 512 -> refused 8 NoSuchName
+write 1 7 w 0 512 0c -> refused 8 NoSuchName
+under 5 w 0 1024 -> 0ax512 00x512
+destroy 1 7 v -> refused 15 HasSnapshots
+destroy 1 7 v@a -> receipt 6
+read v@a 0 512 -> refused 8 NoSuchName
+read v 0 1024 -> 0ax512 00x512
+destroy 1 8 v -> receipt 6
+read v 0 512 -> refused 8 NoSuchName
+create 1 9 v 512 512 -> receipt 6
+read v 0 512 -> 00x512
+write 1 10 v 0 512 0d -> refused 9 NotYet
+release 1 -> released
+sync -> committed 6
+read v 0 512 -> 00x512
+read v 0 1024 -> refused 11 OutOfRange
+under 6 w 0 512 -> refused 8 NoSuchName
+under 5 w 0 1024 -> 0ax512 00x512
+under 5 v@a 0 1024 -> 0ax512 00x512
+under 5 v 0 1024 -> 0ax512 00x512
+";
+
+/// Behind those, what is made and destroyed in one group, and what is made again: in the waiting group, and in the open one of what the
+/// waiting one makes.
+const DESTROYED_AT_ONCE: &str = "hold 1 -> held 7
+write 1 10 v 0 512 0d -> receipt 7
+snapshot 1 11 v a -> receipt 7
+clone 1 12 v@a w -> receipt 7
+destroy 1 13 w -> receipt 7
+destroy 1 14 v@a -> receipt 7
+snapshot 1 15 v a -> receipt 7
+clone 1 16 v@a x -> receipt 7
+close -> closed 7
+destroy 1 17 x -> refused 13 NotNow
+hold 2 -> held 8
+write 2 1 v 0 512 0e -> receipt 8
+destroy 2 2 x -> receipt 8
+destroy 2 3 v@a -> receipt 8
+snapshot 2 4 v a -> receipt 8
+clone 2 5 v@a x -> receipt 8
+read v@a 0 512 -> 0ex512
+read x 0 512 -> 0ex512
+write 1 17 x 0 512 0f -> refused 9 NotYet
+write 1 17 v 0 512 0f -> receipt 7
+read v 0 512 -> 0ex512
+release 1 -> released
+quiesced -> quiesced 7
+commit -> committed 7
+read x 0 512 -> 0ex512
+under 7 x 0 512 -> 0fx512
+under 7 v@a 0 512 -> 0fx512
+under 7 w 0 512 -> refused 8 NoSuchName
+release 2 -> released
+sync -> committed 8
+read x 0 512 -> 0ex512
+read v@a 0 512 -> 0ex512
+read v 0 512 -> 0ex512
+under 7 x 0 512 -> 0fx512
+";
+
 /// Names are judged against all that is accepted, and each step by the first cause that applies.
 const CAUSES: &str = "pool 1 3 8388608 12 2 -> pool 3 claim 1
 device -> refused 13 NotNow
@@ -355,13 +438,14 @@ device -> refused 13 NotNow
 ";
 
 /// What the machine in memory replies.
-const IN_MEMORY: [&[&str]; 7] = [
+const IN_MEMORY: [&[&str]; 8] = [
     &[FIRST],
     &[FIRST, TWO_GROUPS],
     &[FIRST, REFUSALS, PLANNED, COMMITTED],
     &[FIRST, KEPT],
     &[FIRST, TAKEN, TAKEN_AGAIN],
     &[FIRST, CLONED, CLONED_AT_ONCE, CLONED_IN_FLOW],
+    &[FIRST, DESTROYED, DESTROYED_AT_ONCE],
     &[CAUSES, NO_CAUSES],
 ];
 
@@ -370,7 +454,7 @@ const IN_MEMORY: [&[&str]; 7] = [
 /// three copies of two; the dnodes of the meta object set and that set three of three, which are
 /// 18, and two space maps too, which are 18 more: 62 columns. Group 4 makes a volume and the first root,
 /// with its maps: 99 columns.
-const OVER_DISKS: [&[&str]; 7] = [
+const OVER_DISKS: [&[&str]; 8] = [
     &[FIRST],
     &[FIRST, TWO_GROUPS],
     &[
@@ -379,6 +463,7 @@ const OVER_DISKS: [&[&str]; 7] = [
     &[FIRST, KEPT],
     &[FIRST, TAKEN, TAKEN_AGAIN],
     &[FIRST, CLONED, CLONED_AT_ONCE, CLONED_IN_FLOW],
+    &[FIRST, DESTROYED, DESTROYED_AT_ONCE],
     &[
         CAUSES,
         TEN_WRITES,

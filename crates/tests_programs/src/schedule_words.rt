@@ -9,7 +9,7 @@ use std::alloc::{AllocError, Global};
 use std::test::Fail;
 
 /// Lines, and what each says.
-const LINES: [(&str, &str); 26] = [
+const LINES: [(&str, &str); 27] = [
     ("", "Skipped"),
     ("# a  line of words", "Skipped"),
     (
@@ -38,6 +38,10 @@ const LINES: [(&str, &str); 26] = [
     (
         "clone 3 4 v@s w",
         "Command(Clone(CloneLine { writer: 3, number: 4, snapshot: Name { letters: [118, 64, 115] }, name: Name { letters: [119] } }))",
+    ),
+    (
+        "destroy 3 5 v@s",
+        "Command(Destroy(DestroyLine { writer: 3, number: 5, name: Name { letters: [118, 64, 115] } }))",
     ),
     ("close", "Command(Close)"),
     ("quiesced", "Command(Quiesced)"),
@@ -75,7 +79,7 @@ const LINES: [(&str, &str); 26] = [
 ];
 
 /// Lines that say nothing, and why.
-const FAULTS: [(&str, &str); 33] = [
+const FAULTS: [(&str, &str); 35] = [
     (" ", "two empty words"),
     (" # no comment", "a space before the mark"),
     ("hold", "a word is missing"),
@@ -98,6 +102,8 @@ const FAULTS: [(&str, &str); 33] = [
     ("clone 1 2 v@s", "no name of a clone"),
     ("clone 1 2 v s w", "a snapshot's name in two words"),
     ("clone 1 v@s w", "no number of an item"),
+    ("destroy 1 v", "no number of an item"),
+    ("destroy 1 2", "no name"),
     ("close now", "a word behind the last"),
     ("stop", "no point"),
     ("stop slots", "no number of disks"),

@@ -127,6 +127,45 @@ clone 1 1 v@a w -> refused 10 Exists
 clone 1 1 v@a x -> receipt 7
 read x 0 1024 -> 0ax512 00x512";
 
+/// What is destroyed is gone where the disks are opened again, and is there a group back, without one of them, if it was then; and an open
+/// knows what has snapshots or clones.
+const DESTROY_OPENED: &str = "pool 1 3 8388608 12 2 -> pool 3 claim 1
+hold 1 -> held 4
+create 1 1 v 1024 512 -> receipt 4
+release 1 -> released
+sync -> committed 4
+hold 1 -> held 5
+write 1 2 v 0 512 0a -> receipt 5
+snapshot 1 3 v a -> receipt 5
+clone 1 4 v@a w -> receipt 5
+release 1 -> released
+sync -> committed 5
+reopen 0 -> opened 5 claim 2
+hold 1 -> held 6
+destroy 1 1 v@a -> refused 14 HasClones
+destroy 1 1 v -> refused 15 HasSnapshots
+destroy 1 1 w -> receipt 6
+destroy 1 2 v@a -> receipt 6
+release 1 -> released
+sync -> committed 6
+hold 1 -> held 7
+destroy 1 3 v -> receipt 7
+create 1 4 u 512 512 -> receipt 7
+release 1 -> released
+sync -> committed 7
+read v 0 512 -> refused 8 NoSuchName
+reopen 1 1 -> opened 6 claim 3
+read v 0 1024 -> 0ax512 00x512
+read v@a 0 512 -> refused 8 NoSuchName
+read w 0 512 -> refused 8 NoSuchName
+read u 0 512 -> refused 8 NoSuchName
+hold 1 -> held 7
+destroy 1 1 w -> refused 8 NoSuchName
+destroy 1 1 v -> receipt 7
+release 1 -> released
+sync -> committed 7
+read v 0 512 -> refused 8 NoSuchName";
+
 /// Behind a pool at group 8, rows that stop commits.
 const STOPPED_COMMITS: [&[&str]; 6] = [
     &[EIGHT, STOPPED_TWICE],
@@ -138,12 +177,13 @@ const STOPPED_COMMITS: [&[&str]; 6] = [
 ];
 
 /// Rows that stop claims, and some that go back.
-const STOPPED_CLAIMS: [&[&str]; 5] = [
+const STOPPED_CLAIMS: [&[&str]; 6] = [
     &[EIGHT, CLAIM_OF_ONE],
     &[EIGHT, CLAIM_OF_NONE],
     &[EIGHT, CLAIM_OF_ALL],
     &[GONE_BACK],
     &[CLONE_OPENED],
+    &[DESTROY_OPENED],
 ];
 
 #[test]

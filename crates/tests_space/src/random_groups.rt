@@ -9,6 +9,7 @@ use std::process::Abort;
 use std::test::Fail;
 use txg_pipeline::Pipeline;
 use vdev_label::Config;
+use volume_rules::part;
 
 /// A volume: its name of one letter, how many bytes a block of it has, how many blocks there are, and how many of them a write
 /// overwrites at most.
@@ -200,24 +201,33 @@ fn gone_in(group: u64) -> &'static [u8] {
     }
 }
 
-fn destroyed_in(alloc: Global, group: u64) -> Result<Vec<Name>, AllocError> {
-    let mut names = Vec::new(alloc);
+fn destroy_in(alloc: Global, group: u64) -> Result<Option<Change>, AllocError> {
     let name = gone_in(group);
-    if !name.is_empty() {
-        names.push(Name::new(Vec::from_slice(alloc, name)?))?;
+    if name.is_empty() {
+        return Ok(None);
     }
-    Ok(names)
+    Ok(Some(Change::Destroy {
+        name: Name::new(Vec::from_slice(alloc, name)?),
+    }))
 }
 
-fn accept_change(pipeline: &mut Pipeline, alloc: Global, group: u64) -> Result<(), Fail> {
-    if let Some(change) = change_in(alloc, group)? {
+fn accept_change(pipeline: &mut Pipeline, number: u64, change: Option<Change>) -> Result<(), Fail> {
+    if let Some(change) = change {
         pipeline.accept(Item::Action(Action {
             writer: 1,
-            number: 3,
+            number,
             change,
         }))?;
     }
     Ok(())
+}
+
+/// What the group destroys, and then what it makes.
+fn accept_changes(pipeline: &mut Pipeline, alloc: Global, group: u64) -> Result<(), Fail> {
+    let gone = destroy_in(alloc, group)?;
+    let behind = if gone.is_some() { 4 } else { 3 };
+    accept_change(pipeline, 3, gone)?;
+    accept_change(pipeline, behind, change_in(alloc, group)?)
 }
 
 /// The first root of a pool with the volumes.
@@ -228,7 +238,9 @@ fn made(store: &mut Store, alloc: Global) -> Result<FirstRoot, Fail> {
     let mut pipeline = Pipeline::new(alloc, 3);
     accept_each(&mut pipeline, alloc, false)?;
     store.drop_plan(1);
-    let first = first_group(store, alloc, &config, 1, pipeline.open_items())?;
+    let items = pipeline.open_items();
+    let parted = part(alloc, items.actions())?;
+    let first = first_group(store, alloc, &config, 1, &parted, items)?;
     store_plan(store);
     Ok(first)
 }
@@ -255,8 +267,7 @@ impl InUse {
     }
 }
 
-/// The root behind another one, without what a group destroys and after what it has accepted, once what it replaces is given back, and all is
-/// stored.
+/// The root behind another one, after what a group has accepted, once what it replaces is given back, and all is stored.
 fn next(
     before: &FirstRoot,
     store: &mut Store,
@@ -265,8 +276,8 @@ fn next(
     in_use: &mut InUse,
 ) -> Result<FirstRoot, Refusal> {
     let group = before.root.birth.saturating_add(1);
-    let gone = destroyed_in(alloc, group)?;
     let items = pipeline.open_items();
+    let parted = part(alloc, items.actions())?;
     store.begin_plan(group)?;
     let after = after_group(
         &before.root,
@@ -274,7 +285,7 @@ fn next(
         alloc,
         group,
         &before.directory,
-        &gone,
+        &parted,
         items,
     )?;
     store.release(&after.replaced, group)?;
@@ -305,7 +316,7 @@ fn random_next(
     let group = before.root.birth.saturating_add(1);
     let mut pipeline = Pipeline::new(alloc, 3);
     accept_random(&mut pipeline, alloc, numbers, group)?;
-    accept_change(&mut pipeline, alloc, group)?;
+    accept_changes(&mut pipeline, alloc, group)?;
     Ok(next(before, store, alloc, &pipeline, in_use)?)
 }
 

@@ -7,6 +7,7 @@ use pool_model::{Action, Bytes, Change, Item, Name, Write};
 use std::alloc::Global;
 use std::test::Fail;
 use txg_pipeline::Pipeline;
+use volume_rules::part;
 
 /// Four blocks.
 pub(crate) const SIZE: u64 = 2048;
@@ -78,19 +79,19 @@ pub(crate) fn next_root(
     Ok(next_group(root, store, alloc, item)?.root)
 }
 
-/// The root after a group that destroys these names and what it has accepted, by the directory under the root before, once it is stored.
+/// The root after what a group has accepted, by the directory under the root before, once it is stored.
 pub(crate) fn planned(
     root: &Block,
     store: &mut Store,
     alloc: Global,
-    destroyed: &[Name],
     pipeline: &Pipeline,
 ) -> Result<NextRoot, Refusal> {
     let group = root.birth.saturating_add(1);
     let directory = directory_under(root, store, alloc, root.birth, &[])?;
     store.drop_plan(group);
     let items = pipeline.open_items();
-    let next = after_group(root, store, alloc, group, &directory, destroyed, items);
+    let parted = part(alloc, items.actions())?;
+    let next = after_group(root, store, alloc, group, &directory, &parted, items);
     store_plan(store);
     next
 }
@@ -103,7 +104,7 @@ pub(crate) fn next_group(
     item: Item,
 ) -> Result<NextRoot, Fail> {
     let pipeline = group_of(alloc, item)?;
-    planned(root, store, alloc, &[], &pipeline).map_err(Fail::from)
+    planned(root, store, alloc, &pipeline).map_err(Fail::from)
 }
 
 /// The bytes of `v` from one on.

@@ -17,6 +17,7 @@ use pool_model::Name;
 use std::alloc::{AllocError, Global};
 use std::test::Fail;
 use txg_pipeline::Pipeline;
+use volume_rules::part;
 
 /// Whether a directory has these rows: letters in order, each with its object.
 pub(crate) fn has_rows(directory: &Directory, rows: &[(u8, u64)]) -> bool {
@@ -301,7 +302,8 @@ fn written_of_many(store: &mut CountedStore, alloc: Global, count: u8) -> Result
     store.drop_plan(2);
     let root = &first.root;
     let items = pipeline.open_items();
-    after_group(root, store, alloc, 2, &first.directory, &[], items).map_err(Fail::from)
+    let parted = part(alloc, items.actions())?;
+    after_group(root, store, alloc, 2, &first.directory, &parted, items).map_err(Fail::from)
 }
 
 /// The group that it is born in.

@@ -16,6 +16,7 @@ use std::alloc::Global;
 use std::test::Fail;
 use txg_pipeline::Pipeline;
 use vdev_label::Config;
+use volume_rules::part;
 
 /// A directory in which the name `v` has object 5.
 fn directory_of_one(alloc: Global) -> Result<Directory, Fail>
@@ -109,7 +110,9 @@ pub(crate) fn first_with<D: Disk + Drop>(
         vdevs: Vec::new(alloc),
     };
     store.drop_plan(1);
-    let first = first_group(store, alloc, &config, 1, pipeline.open_items());
+    let items = pipeline.open_items();
+    let parted = part(alloc, items.actions())?;
+    let first = first_group(store, alloc, &config, 1, &parted, items);
     store_plan(store);
     first.map_err(Fail::from)
 }

@@ -1,6 +1,6 @@
 -- Bytes that a write sets: those before make no difference.
 use Rattle.std.proofs.Common.{◌≡◌, ◌⊎◌, ⊎_elim, inl, inr, ℕ, zero, suc, ◌+◌, ◌-◌, ◌<◌, ◌≤◌, Bool, true, false, true≢false, nat_le, List, [], ◌∷◌, ◌++◌, take, drop, length, get_or, replicate, Option, Some, None, refl, sym, ap, ◌∙◌, subst, arith}
-use Rattle.std.specs.Prelude.{◌&&◌, Any, cond, find, map, not}
+use Rattle.std.specs.Prelude.{◌&&◌, Any, cond, map, not}
 use Rattle.std.specs.Option.{option_map}
 use Rattle.std.proofs.lemmas.Bool.{cases_lt}
 use Rattle.std.proofs.lemmas.Bool.Decides.{nat_tests}
@@ -13,7 +13,7 @@ use Rattle.pool_model.specs.Pools.{PlainPool, Ledger, is_snapshot, volume_at, vo
 use Rattle.pool_model.specs.View.{View, open_group, now_of}
 use Rattle.pool_model.proofs.Places.{same_is, is_same, name_after}
 use Rattle.volume_rules.specs.declared.shape.VolumeShape.{VolumeShape}
-use Rattle.volume_rules.specs.Shapes.{shape_of, HaveSameShapes}
+use Rattle.volume_rules.specs.Shapes.{outline, shape_of, HaveSameShapes}
 use Rattle.volume_rules.specs.NowMoves.{GroupsAreBelow, IsMadeBy}
 use Rattle.volume_rules.specs.Effects.{PendingTakeEffect}
 use Rattle.volume_rules.specs.Sources.{base_name, found_at, pool_upto}
@@ -21,12 +21,12 @@ use Rattle.volume_rules.specs.Covering.{IsCovered}
 use Rattle.volume_rules.specs.Overlay.{after_writes, bytes_or_zeros, base_of, HasRange, StandsThere}
 use Rattle.volume_rules.proofs.Made.{found_named}
 use Rattle.volume_rules.proofs.Effects.{effects_along}
-use Rattle.volume_rules.proofs.Later.{later, found_later, made_behind, name_later, shape_later}
+use Rattle.volume_rules.proofs.Later.{later, name_later, shape_later, stood_below}
 use Rattle.volume_rules.proofs.Laying.{base_stands}
 use Rattle.volume_rules.proofs.NowMoves.{shapes_upto}
 use Rattle.pool_model.proofs.Uptos.{upto_chain}
 use Rattle.volume_rules.proofs.Ranges.{range_from, range_at}
-use Rattle.volume_rules.proofs.Volumes.{shape_after}
+use Rattle.volume_rules.proofs.Volumes.{outlined, outlined_at, same_shapes_at, shape_after, shapes_back}
 
 -- ---- a byte after a write
 
@@ -198,35 +198,16 @@ zeros_in n size offset fits =
     range_from (replicate n 0) (replicate size 0) offset (let a = length-replicate {A = ℕ} n 0 in let b = length-replicate {A = ℕ} size 0 in omega arith)
     (λ k d lt. get_or-replicate n k 0 d (let a = length-replicate {A = ℕ} n 0 in omega arith) ∙ sym (get_or-replicate size (offset + k) 0 d (let a = length-replicate {A = ℕ} n 0 in omega arith)))
 
--- a volume with zeros in place of its bytes, and a pool of such
-abbrev blank : PlainVolume → PlainVolume
-blank volume = record volume { bytes = replicate (length volume.bytes) 0 }
-
-abbrev blanked : PlainPool → PlainPool
-blanked pool = record { volumes = map blank pool.volumes }
-
-blank_shape : (volume : PlainVolume) → shape_of (blank volume) ≡ shape_of volume
-blank_shape volume = ap (λ n. record (shape_of volume) { size = n }) (length-replicate {A = ℕ} (length volume.bytes) 0)
-
-blank_at : (name : List ℕ) (pool : PlainPool) → volume_at name (blanked pool) ≡ option_map blank (volume_at name pool)
-blank_at name pool = along pool.volumes
+blank_shapes : (pool : PlainPool) → HaveSameShapes pool (outlined pool)
+blank_shapes pool = record { outlines = sym (along pool.volumes) }
   where
-    along : (volumes : List PlainVolume) → find (λ v. same v.name name) (map blank volumes) ≡ option_map blank (find (λ v. same v.name name) volumes)
+    along : (volumes : List PlainVolume) → map outline (map outline volumes) ≡ map outline volumes
     along [] = refl
-    along (volume ∷ volumes) =
-        ap (cond (same volume.name name) (Some (blank volume))) (along volumes)
-        ∙ elim (same volume.name name) as (λ b. cond b (Some (blank volume)) (option_map blank (find (λ v. same v.name name) volumes)) ≡ option_map blank (cond b (Some volume) (find (λ v. same v.name name) volumes))) [ true ↦ refl | false ↦ refl ]
-
-blank_shapes : (pool : PlainPool) → HaveSameShapes pool (blanked pool)
-blank_shapes pool name = sym (ap (option_map shape_of) (blank_at name pool) ∙ same_shape (volume_at name pool))
-  where
-    same_shape : (o : Option PlainVolume) → option_map shape_of (option_map blank o) ≡ option_map shape_of o
-    same_shape None = refl
-    same_shape (Some volume) = ap Some (blank_shape volume)
+    along (v ∷ volumes) = λ i. record v { bytes = replicate (length-replicate {A = ℕ} (length v.bytes) 0 i) 0 } ∷ along volumes i
 
 -- a volume of the same shape
 shaped_at : (name : List ℕ) (pool other : PlainPool) (volume : PlainVolume) → HaveSameShapes pool other → volume_at name other ≡ Some volume → (was : PlainVolume) × (volume_at name pool ≡ Some was) × (shape_of was ≡ shape_of volume)
-shaped_at name pool other volume h e = cases (volume_at name pool) refl (h name ∙ ap (option_map shape_of) e)
+shaped_at name pool other volume h e = cases (volume_at name pool) refl (same_shapes_at name pool other h ∙ ap (option_map shape_of) e)
   where
     cases : (o : Option PlainVolume) → volume_at name pool ≡ o → option_map shape_of o ≡ Some (shape_of volume) → (was : PlainVolume) × (volume_at name pool ≡ Some was) × (shape_of was ≡ shape_of volume)
     cases None f g = absurd (cc)
@@ -239,19 +220,19 @@ made_along group pool other h made = record {
 }
 
 -- zeros lie wherever something stands, and nowhere
-blank_bytes : (source : Option (List ℕ)) (pool : PlainPool) (size : ℕ) → StandsThere source (blanked pool) size → bytes_or_zeros (found_at source (blanked pool)) size ≡ replicate size 0
+blank_bytes : (source : Option (List ℕ)) (pool : PlainPool) (size : ℕ) → StandsThere source (outlined pool) size → bytes_or_zeros (found_at source (outlined pool)) size ≡ replicate size 0
 blank_bytes None pool size h = refl
-blank_bytes (Some name) pool size h = ap (λ o. bytes_or_zeros o size) (blank_at name pool) ∙ cases (volume_at name pool) (sym (blank_at name pool) ∙ h.1)
+blank_bytes (Some name) pool size h = ap (λ o. bytes_or_zeros o size) (outlined_at name pool) ∙ cases (volume_at name pool) (sym (outlined_at name pool) ∙ h.1)
   where
-    cases : (o : Option PlainVolume) → option_map blank o ≡ Some h.0 → bytes_or_zeros (option_map blank o) size ≡ replicate size 0
+    cases : (o : Option PlainVolume) → option_map outline o ≡ Some h.0 → bytes_or_zeros (option_map outline o) size ≡ replicate size 0
     cases None e = absurd (cc)
     cases (Some volume) e =
-        let is : blank volume ≡ h.0 = cc in
+        let is : outline volume ≡ h.0 = cc in
         ap (λ n. replicate n 0) (sym (length-replicate {A = ℕ} (length volume.bytes) 0) ∙ (ap (λ (v : PlainVolume). length v.bytes) is ∙ h.2))
 
 -- a view whose committed pool has zeros for bytes
 abbrev with_zeros : View → View
-with_zeros v = record v { pools = λ group. blanked (v.pools group) }
+with_zeros v = record v { pools = λ group. outlined (v.pools group) }
 
 -- What makes the bytes of a volume of the bytes under its pending writes, in each view, makes them of zeros too where a pending write covers the range.
 pub covered_laid : (v : View) (name : List ℕ) (volume : PlainVolume) (offset : ℕ) (old new : List ℕ) → GroupsAreBelow v → PendingTakeEffect v → volume_at name (now_of v) ≡ Some volume
@@ -261,17 +242,17 @@ pub covered_laid : (v : View) (name : List ℕ) (volume : PlainVolume) (offset :
 covered_laid v name volume offset old new below effects found fits whole covered zeros lays =
     range_from new volume.bytes offset (omega arith) (λ k d lt. range_at new other.0.bytes offset has k d lt ∙ alike k d (let a = whole in omega arith))
   where
-    pools : HaveSameShapes (v.pools v.committed) (blanked (v.pools v.committed))
+    pools : HaveSameShapes (v.pools v.committed) (outlined (v.pools v.committed))
     pools = blank_shapes (v.pools v.committed)
 
     upto_shapes : (n : ℕ) → HaveSameShapes (pool_upto v n) (pool_upto (with_zeros v) n)
-    upto_shapes n = shapes_upto v.committed (v.pools v.committed) (blanked (v.pools v.committed)) v.ledger v.ledger n pools (λ group. refl)
+    upto_shapes n = shapes_upto v.committed (v.pools v.committed) (outlined (v.pools v.committed)) v.ledger v.ledger n pools (λ group. refl)
 
     back : (n : ℕ) → HaveSameShapes (pool_upto (with_zeros v) n) (pool_upto v n)
-    back n called = sym (upto_shapes n called)
+    back n = shapes_back (pool_upto v n) (pool_upto (with_zeros v) n) (upto_shapes n)
 
     still : PendingTakeEffect (with_zeros v)
-    still = effects_along v.committed (v.pools v.committed) (blanked (v.pools v.committed)) v.ledger v.ledger pools (λ group. refl) effects
+    still = effects_along v.committed (v.pools v.committed) (outlined (v.pools v.committed)) v.ledger v.ledger pools (λ group. refl) effects
 
     -- what stands in the other view
     other : (u : PlainVolume) × (volume_at name (now_of (with_zeros v)) ≡ Some u) × (shape_of u ≡ shape_of volume)
@@ -286,7 +267,7 @@ covered_laid v name volume offset old new below effects found fits whole covered
         (subst (λ n. HasRange old (replicate n 0) offset) (sym size) (subst (λ xs. HasRange xs (replicate (length volume.bytes) 0) offset) (sym zeros) (zeros_in (length old) (length volume.bytes) offset fits)))
 
     has : HasRange new other.0.bytes offset
-    has = lays (with_zeros v) other.0 refl (made_along v.committed (v.pools v.committed) (blanked (v.pools v.committed)) pools below) still other.1 other.2 under
+    has = lays (with_zeros v) other.0 refl (made_along v.committed (v.pools v.committed) (outlined (v.pools v.committed)) pools below) still other.1 other.2 under
 
     -- the group before the one that covers the range
     before : (n : ℕ) × (covered.group ≡ suc n) × (v.committed ≤ n)
@@ -302,31 +283,23 @@ covered_laid v name volume offset old new below effects found fits whole covered
     within : before.0 ≤ open_group v
     within = let a = covered.accepted in let b = before.1 in omega arith
 
-    -- the volume stood there already
-    stood : (x : PlainVolume) × (volume_at name (pool_upto v before.0) ≡ Some x)
-    stood = cases (volume_at name (pool_upto v before.0)) refl
-      where
-        cases : (o : Option PlainVolume) → volume_at name (pool_upto v before.0) ≡ o → (x : PlainVolume) × (volume_at name (pool_upto v before.0) ≡ Some x)
-        cases (Some x) e = (x, e)
-        cases None e = absurd (let high = made_behind before.0 (open_group v) (pool_upto v before.0) v.ledger name volume e within (ap (volume_at name) (upto_chain v.committed before.0 (v.pools v.committed) v.ledger (open_group v) before.2 within) ∙ found) in let low = behind in omega arith)
+    -- the volume stood there already, in each view
+    stood : (x : PlainVolume) × (volume_at name (pool_upto v before.0) ≡ Some x) × (later x before.0 v.ledger (open_group v) ≡ volume)
+    stood =
+        stood_below before.0 (open_group v) (pool_upto v before.0) v.ledger name volume within
+        (ap (volume_at name) (upto_chain v.committed before.0 (v.pools v.committed) v.ledger (open_group v) before.2 within) ∙ found) behind
 
-    stood_other : (y : PlainVolume) × (volume_at name (pool_upto (with_zeros v) before.0) ≡ Some y) × (shape_of y ≡ shape_of stood.0)
-    stood_other = shaped_at name (pool_upto (with_zeros v) before.0) (pool_upto v before.0) stood.0 (back before.0) stood.1
-
-    is_volume : later stood.0 before.0 v.ledger (open_group v) ≡ volume
-    is_volume =
-        let both : Some (later stood.0 before.0 v.ledger (open_group v)) ≡ Some volume =
-        sym (found_later name before.0 (open_group v) (pool_upto v before.0) v.ledger stood.0 stood.1)
-        ∙ (ap (volume_at name) (upto_chain v.committed before.0 (v.pools v.committed) v.ledger (open_group v) before.2 within) ∙ found) in cc
-
-    is_other : later stood_other.0 before.0 v.ledger (open_group v) ≡ other.0
-    is_other =
-        let both : Some (later stood_other.0 before.0 v.ledger (open_group v)) ≡ Some other.0 =
-        sym (found_later name before.0 (open_group v) (pool_upto (with_zeros v) before.0) v.ledger stood_other.0 stood_other.1)
-        ∙ (ap (volume_at name) (upto_chain v.committed before.0 (blanked (v.pools v.committed)) v.ledger (open_group v) before.2 within) ∙ other.1) in cc
+    stood_other : (x : PlainVolume) × (volume_at name (pool_upto (with_zeros v) before.0) ≡ Some x) × (later x before.0 v.ledger (open_group v) ≡ other.0)
+    stood_other =
+        stood_below before.0 (open_group v) (pool_upto (with_zeros v) before.0) v.ledger name other.0 within
+        (ap (volume_at name) (upto_chain v.committed before.0 (outlined (v.pools v.committed)) v.ledger (open_group v) before.2 within) ∙ other.1)
+        (subst (λ (s : VolumeShape). s.group ≤ before.0) (sym other.2) behind)
 
     shaped : shape_of stood.0 ≡ shape_of volume
-    shaped = sym (shape_later before.0 (open_group v) v.ledger stood.0) ∙ ap shape_of is_volume
+    shaped = sym (shape_later before.0 (open_group v) v.ledger stood.0) ∙ ap shape_of stood.2
+
+    shaped_other : shape_of stood_other.0 ≡ shape_of volume
+    shaped_other = sym (shape_later before.0 (open_group v) v.ledger stood_other.0) ∙ (ap shape_of stood_other.2 ∙ other.2)
 
     is_of : (x : PlainVolume) (p : PlainPool) → volume_at name p ≡ Some x → shape_of x ≡ shape_of volume → IsOf name (length volume.bytes) x
     is_of x p e s = record {
@@ -356,7 +329,7 @@ covered_laid v name volume offset old new below effects found fits whole covered
 
     alike : (k d : ℕ) → k < length old → get_or other.0.bytes (offset + k) d ≡ get_or volume.bytes (offset + k) d
     alike k d lt =
-        ap (λ (u : PlainVolume). get_or u.bytes (offset + k) d) (sym is_other)
+        ap (λ (u : PlainVolume). get_or u.bytes (offset + k) d) (sym stood_other.2)
         ∙ (later_alike name (length volume.bytes) before.0 (open_group v) v.ledger stood_other.0 stood.0 (offset + k) d
-        (is_of stood_other.0 (pool_upto (with_zeros v) before.0) stood_other.1 (stood_other.2 ∙ shaped)) (is_of stood.0 (pool_upto v before.0) stood.1 shaped) (inr (set k lt))
-        ∙ ap (λ (u : PlainVolume). get_or u.bytes (offset + k) d) is_volume)
+        (is_of stood_other.0 (pool_upto (with_zeros v) before.0) stood_other.1 shaped_other) (is_of stood.0 (pool_upto v before.0) stood.1 shaped) (inr (set k lt))
+        ∙ ap (λ (u : PlainVolume). get_or u.bytes (offset + k) d) stood.2)

@@ -1,20 +1,20 @@
 -- Changes that take effect.
-use Rattle.std.proofs.Common.{◌≡◌, ◌≢◌, ⊎_elim, ℕ, suc, ◌≤◌, Bool, false, List, [], ◌∷◌, ◌++◌, Option, Some, None, refl, sym, ap, ◌∙◌, subst, arith}
-use Rattle.std.specs.Prelude.{◌%◌, ◌^◌, ◌==◌, ◌&&◌, cond, fold, is_some, nat_le, not}
+use Rattle.std.proofs.Common.{◌≡◌, ◌≢◌, ⊎_elim, ℕ, suc, ◌≤◌, Bool, List, [], ◌∷◌, ◌++◌, Option, Some, None, refl, sym, ap, ◌∙◌, subst, arith}
+use Rattle.std.specs.Prelude.{◌%◌, ◌^◌, ◌==◌, ◌&&◌, cond, fold, is_none, nat_le, not}
 use Rattle.std.specs.Option.{option_map}
 use Rattle.std.proofs.lemmas.Bool.{cases_lt}
 use Rattle.pool_model.specs.declared.item.Action.{Action}
 use Rattle.pool_model.specs.declared.item.Change.{Change}
-use Rattle.pool_model.specs.declared.item.Change.TheVariants.{Clone, Create, Snapshot}
+use Rattle.pool_model.specs.declared.item.Change.TheVariants.{Clone, Create, Destroy, Snapshot}
 use Rattle.pool_model.specs.declared.item.Item.TheVariants.{Action as ActionItem, Write as WriteItem}
-use Rattle.pool_model.specs.declared.refusal.Refusal.TheVariants.{BadName, Exists, Misaligned, NoSuchName, OutOfRange}
+use Rattle.pool_model.specs.declared.refusal.Refusal.TheVariants.{BadName, Exists, HasClones, HasSnapshots, Misaligned, NoSuchName, OutOfRange}
 use Rattle.pool_model.specs.declared.step.Step.{Step}
 use Rattle.pool_model.specs.declared.step.Step.TheVariants.{Act}
 use Rattle.pool_model.specs.declared.step.Reply.{Reply}
 use Rattle.pool_model.specs.declared.step.Reply.TheVariants.{Receipt}
 use Rattle.pool_model.specs.declared.volume.PlainVolume.{PlainVolume}
-use Rattle.pool_model.specs.Names.{is_block_size, is_name, snapshot_name}
-use Rattle.pool_model.specs.Pools.{PlainPool, Entry, Ledger, is_snapshot, no_items, volume_at, written, changed, applied, upto}
+use Rattle.pool_model.specs.Names.{is_block_size, is_name, is_whole_name, snapshot_name}
+use Rattle.pool_model.specs.Pools.{PlainPool, Entry, Ledger, no_items, volume_at, written, changed, applied, upto}
 use Rattle.pool_model.specs.Refusals.{act_refusal, change_refusal, first_cause, is_snapshot_there, is_volume}
 use Rattle.pool_model.specs.View.{View, Given, Vdev, now_of, opened_as, started}
 use Rattle.pool_model.specs.Flow.{added, ledger_accepted}
@@ -24,52 +24,42 @@ use Rattle.pool_model.proofs.Causes.{or_none}
 use Rattle.pool_model.proofs.Moves.{EachMove, by_move}
 use Rattle.pool_model.proofs.Told.{stays}
 use Rattle.pool_model.proofs.Uptos.{upto_above, upto_agree, upto_from, itself}
-use Rattle.volume_rules.specs.declared.shape.VolumeShape.{VolumeShape}
-use Rattle.volume_rules.specs.Effects.{PendingTakeEffect, TakeEffect}
+use Rattle.volume_rules.specs.Effects.{GroupTakesEffect, PendingTakeEffect, TakeEffect}
 use Rattle.volume_rules.specs.Overlay.{closed_in}
-use Rattle.volume_rules.specs.Shapes.{shape_of, HaveSameShapes}
+use Rattle.volume_rules.specs.Shapes.{outline, HaveSameShapes}
 use Rattle.volume_rules.proofs.NowMoves.{actions_stay, shapes_upto}
 use Rattle.volume_rules.proofs.Pending.{opens_after, taken_above, closed_above}
-use Rattle.volume_rules.proofs.Volumes.{shapes_changed, shapes_of_writes}
+use Rattle.volume_rules.proofs.Volumes.{clones_outlined, outlined, outlined_at, outlined_by, shapes_back, shapes_chain, shapes_changed, shapes_of_writes, shapes_self, snapshots_outlined, some_outlined}
 
--- ---- a change is refused by names, kinds and sizes alone
-
-some_by : (o : Option PlainVolume) → is_some o ≡ is_some (option_map shape_of o)
-some_by None = refl
-some_by (Some volume) = refl
-
-abbrev is_volume_shape : Option VolumeShape → Bool
-is_volume_shape None = false
-is_volume_shape (Some shape) = not (is_snapshot shape.kind)
-
-volume_by : (o : Option PlainVolume) → is_volume o ≡ is_volume_shape (option_map shape_of o)
-volume_by None = refl
-volume_by (Some volume) = refl
-
-abbrev is_snapshot_shape : Option VolumeShape → Bool
-is_snapshot_shape None = false
-is_snapshot_shape (Some shape) = is_snapshot shape.kind
-
-snapshot_by : (o : Option PlainVolume) → is_snapshot_there o ≡ is_snapshot_shape (option_map shape_of o)
-snapshot_by None = refl
-snapshot_by (Some volume) = refl
+-- ---- a change is refused by outlines alone
 
 same_refusal : (change : Change) (pool other : PlainPool) → HaveSameShapes pool other → change_refusal change pool ≡ change_refusal change other
-same_refusal change pool other h = by change
+same_refusal change pool other h = sym (outlined_refusal change pool) ∙ (ap (change_refusal change) (outlined_by pool other h) ∙ outlined_refusal change other)
   where
-    there : (name : List ℕ) → is_some (volume_at name pool) ≡ is_some (volume_at name other)
-    there name = some_by (volume_at name pool) ∙ (ap is_some (h name) ∙ sym (some_by (volume_at name other)))
+    volumes : (o : Option PlainVolume) → is_volume (option_map outline o) ≡ is_volume o
+    volumes None = refl
+    volumes (Some volume) = refl
 
-    volumes : (name : List ℕ) → is_volume (volume_at name pool) ≡ is_volume (volume_at name other)
-    volumes name = volume_by (volume_at name pool) ∙ (ap is_volume_shape (h name) ∙ sym (volume_by (volume_at name other)))
+    snapshots : (o : Option PlainVolume) → is_snapshot_there (option_map outline o) ≡ is_snapshot_there o
+    snapshots None = refl
+    snapshots (Some volume) = refl
 
-    snapshots : (name : List ℕ) → is_snapshot_there (volume_at name pool) ≡ is_snapshot_there (volume_at name other)
-    snapshots name = snapshot_by (volume_at name pool) ∙ (ap is_snapshot_shape (h name) ∙ sym (snapshot_by (volume_at name other)))
+    none : (o : Option PlainVolume) → is_none (option_map outline o) ≡ is_none o
+    none None = refl
+    none (Some volume) = refl
 
-    by : (change : Change) → change_refusal change pool ≡ change_refusal change other
-    by (Create name size block_size) = ap (λ b. first_cause ((not (is_name name), BadName) ∷ (b, Exists) ∷ (not (is_block_size block_size && (size % block_size == 0)), Misaligned) ∷ (not (nat_le block_size size && nat_le size (2 ^ 40)), OutOfRange) ∷ [])) (there name)
-    by (Snapshot volume part) = λ i. first_cause ((not (is_name part), BadName) ∷ (not (volumes volume i), NoSuchName) ∷ (there (snapshot_name volume part) i, Exists) ∷ [])
-    by (Clone snapshot name) = λ i. first_cause ((not (is_name name), BadName) ∷ (not (snapshots snapshot i), NoSuchName) ∷ (there name i, Exists) ∷ [])
+    outlined_refusal : (change : Change) (p : PlainPool) → change_refusal change (outlined p) ≡ change_refusal change p
+    outlined_refusal (Create name size block_size) p =
+        ap (λ b. first_cause ((not (is_name name), BadName) ∷ (b, Exists) ∷ (not (is_block_size block_size && (size % block_size == 0)), Misaligned) ∷ (not (nat_le block_size size && nat_le size (2 ^ 40)), OutOfRange) ∷ [])) (some_outlined name p)
+    outlined_refusal (Snapshot volume part) p =
+        let found : is_volume (volume_at volume (outlined p)) ≡ is_volume (volume_at volume p) = ap is_volume (outlined_at volume p) ∙ volumes (volume_at volume p) in
+        λ i. first_cause ((not (is_name part), BadName) ∷ (not (found i), NoSuchName) ∷ (some_outlined (snapshot_name volume part) p i, Exists) ∷ [])
+    outlined_refusal (Clone snapshot name) p =
+        let found : is_snapshot_there (volume_at snapshot (outlined p)) ≡ is_snapshot_there (volume_at snapshot p) = ap is_snapshot_there (outlined_at snapshot p) ∙ snapshots (volume_at snapshot p) in
+        λ i. first_cause ((not (is_name name), BadName) ∷ (not (found i), NoSuchName) ∷ (some_outlined name p i, Exists) ∷ [])
+    outlined_refusal (Destroy name) p =
+        let absent : is_none (volume_at name (outlined p)) ≡ is_none (volume_at name p) = ap is_none (outlined_at name p) ∙ none (volume_at name p) in
+        λ i. first_cause ((not (is_whole_name name), BadName) ∷ (absent i, NoSuchName) ∷ (snapshots_outlined name p i, HasSnapshots) ∷ (clones_outlined name p i, HasClones) ∷ [])
 
 -- ---- the actions of a group
 
@@ -86,10 +76,6 @@ effect_more group pool (x ∷ actions) a effect e = (effect.0, effect_more group
 
 -- ---- the groups behind a base one
 
--- those of a group, behind its writes
-abbrev pub GroupTakesEffect : ℕ → PlainPool → Entry → Type 0
-GroupTakesEffect group pool entry = TakeEffect group (fold written pool entry.writes) entry.actions
-
 abbrev pub AllTakeEffect : ℕ → PlainPool → Ledger → Type 0
 AllTakeEffect c pool ledger = (n : ℕ) → c ≤ n → GroupTakesEffect (suc n) (upto c pool ledger n) (ledger (suc n))
 
@@ -98,7 +84,11 @@ pub effects_along : (c : ℕ) (pool other : PlainPool) (ledger also : Ledger) �
 effects_along c pool other ledger also h f effects n le =
     subst (TakeEffect (suc n) (fold written (upto c other also n) (also (suc n)).writes)) (f (suc n))
     (effect_along (suc n) (fold written (upto c pool ledger n) (ledger (suc n)).writes) (fold written (upto c other also n) (also (suc n)).writes) (ledger (suc n)).actions
-    (λ name. shapes_of_writes (upto c pool ledger n) (ledger (suc n)).writes name ∙ (shapes_upto c pool other ledger also n h f name ∙ sym (shapes_of_writes (upto c other also n) (also (suc n)).writes name)))
+    (shapes_chain (fold written (upto c pool ledger n) (ledger (suc n)).writes) (upto c pool ledger n) (fold written (upto c other also n) (also (suc n)).writes)
+    (shapes_of_writes (upto c pool ledger n) (ledger (suc n)).writes)
+    (shapes_chain (upto c pool ledger n) (upto c other also n) (fold written (upto c other also n) (also (suc n)).writes)
+    (shapes_upto c pool other ledger also n h f)
+    (shapes_back (fold written (upto c other also n) (also (suc n)).writes) (upto c other also n) (shapes_of_writes (upto c other also n) (also (suc n)).writes))))
     (effects n le))
 
 -- the last group that has actions takes one more
@@ -162,7 +152,7 @@ effect_moves = record {
   read = λ v given name offset len bytes a s u effects. effects;
   read_under = λ v given g name offset len bytes k a s u effects. effects;
   held = λ v given by n s u effects. effects;
-  wrote = λ v given x g h n le s u effects. effects_along v.committed (v.pools v.committed) (v.pools v.committed) v.ledger (ledger_accepted v.ledger g (WriteItem x)) (λ name. refl) (λ group. sym (actions_stay v.ledger g x group)) effects;
+  wrote = λ v given x g h n le s u effects. effects_along v.committed (v.pools v.committed) (v.pools v.committed) v.ledger (ledger_accepted v.ledger g (WriteItem x)) (shapes_self (v.pools v.committed)) (λ group. sym (actions_stay v.ledger g x group)) effects;
   acted = λ v given a g h n le op s u effects.
       let last = opens_after v in
       let low : v.committed ≤ closed_in v = let x = taken_above v in let y = closed_above v in omega arith in

@@ -5,7 +5,7 @@ use Rattle.std.specs.List.{position, position_or_len}
 use Rattle.std.proofs.lemmas.Bool.Decides.{nat_tests}
 use Rattle.std.proofs.lemmas.Option.{cond_some}
 use Rattle.pool_model.specs.declared.item.Change.{Change}
-use Rattle.pool_model.specs.declared.item.Change.TheVariants.{Clone, Create, Snapshot}
+use Rattle.pool_model.specs.declared.item.Change.TheVariants.{Clone, Create, Destroy, Snapshot}
 use Rattle.pool_model.specs.declared.refusal.Refusal.TheVariants.{BadName, Exists, Misaligned, NoSuchName, OutOfRange}
 use Rattle.pool_model.specs.declared.volume.PlainVolume.{PlainVolume}
 use Rattle.pool_model.specs.declared.volume.VolumeKind.{VolumeKind}
@@ -13,6 +13,7 @@ use Rattle.pool_model.specs.declared.volume.VolumeKind.TheVariants.{Volume, Snap
 use Rattle.pool_model.specs.Names.{is_block_size, is_name, is_name_for, is_snapshot_name, snapshot_name, volume_part}
 use Rattle.pool_model.specs.Pools.{PlainPool, is_snapshot, volume_at}
 use Rattle.pool_model.specs.Refusals.{first_cause, is_snapshot_there, is_volume, change_refusal}
+use Rattle.pool_model.proofs.Causes.{first_none, not_false}
 use Rattle.volume_rules.specs.GoodChanges.{is_good_change}
 use Rattle.volume_rules.specs.NowMoves.{HasGoodNames}
 
@@ -64,37 +65,4 @@ not_refused (Snapshot volume part) pool h e =
 not_refused (Clone snapshot name) pool h e =
     let good = from_there_is_good (is_name name) (is_snapshot_there (volume_at snapshot pool)) (is_some (volume_at name pool)) e in
     λ i. snapshot_named pool snapshot (volume_at snapshot pool) h refl good.0 i && good.1 i
-
--- ---- the names of snapshots
-
-has_first : (letters : List ℕ) → is_snapshot_name letters ≡ nat_lt (position_or_len (λ c. c == 64) letters) (length letters)
-has_first [] = refl
-has_first (c ∷ letters) = cases (c == 64) (has_first letters)
-  where
-    later : (n m : ℕ) → nat_lt n m ≡ nat_lt (1 + n) (suc m)
-    later n m = grind (arith, nat_tests)
-
-    cases : (b : Bool) → is_snapshot_name letters ≡ nat_lt (position_or_len (λ c. c == 64) letters) (length letters)
-        → (b || is_snapshot_name letters) ≡ nat_lt (cond (not b) (1 + position_or_len (λ c. c == 64) letters) 0) (suc (length letters))
-    cases true e = grind (arith, nat_tests)
-    cases false e = e ∙ later (position_or_len (λ c. c == 64) letters) (length letters)
-
-pub good_before : (letters : List ℕ) (end : ℕ) → position (λ c. c == 64) letters ≡ Some end → is_name (take end letters) ≡ is_name_for SnapshotKind letters
-good_before letters end e =
-    let parts = cond_some (nat_lt (position_or_len (λ c. c == 64) letters) (length letters)) (position_or_len (λ c. c == 64) letters) end e in
-    and_true (is_name (take end letters)) ∙ (λ i. is_name (take (sym parts.1 i) letters) && sym (has_first letters ∙ parts.0) i)
-  where
-    and_true : (b : Bool) → b ≡ (b && true)
-    and_true true = refl
-    and_true false = refl
-
-pub none_good : (letters : List ℕ) → position (λ c. c == 64) letters ≡ None → false ≡ is_name_for SnapshotKind letters
-none_good letters e = and_false (is_name (volume_part letters)) ∙ ap (λ b. is_name (volume_part letters) && b) (sym (has_first letters ∙ past (nat_lt (position_or_len (λ c. c == 64) letters) (length letters)) (position_or_len (λ c. c == 64) letters) e))
-  where
-    and_false : (b : Bool) → false ≡ (b && false)
-    and_false true = refl
-    and_false false = refl
-
-    past : (b : Bool) (n : ℕ) → cond b (Some n) None ≡ None → b ≡ false
-    past true n f = absurd (cc)
-    past false n f = refl
+not_refused (Destroy name) pool h e = not_false _ (first_none _ _ _ e).0

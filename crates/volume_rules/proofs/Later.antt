@@ -1,29 +1,19 @@
 -- The volume of a name after the groups behind a base one.
-use Rattle.std.proofs.Common.{◌≡◌, ℕ, zero, suc, ◌<◌, ◌≤◌, Bool, true, false, nat_le, List, Option, Some, None, refl, sym, ap, ◌∙◌, subst, arith}
+use Rattle.std.proofs.Common.{◌≡◌, ◌⊎◌, ⊎_elim, inl, inr, ℕ, zero, suc, ◌<◌, ◌≤◌, Bool, true, false, nat_le, List, Some, refl, sym, ap, ◌∙◌, subst, arith}
 use Rattle.std.specs.Prelude.{cond}
 use Rattle.std.proofs.lemmas.Bool.Decides.{nat_tests}
 use Rattle.pool_model.specs.declared.volume.PlainVolume.{PlainVolume}
 use Rattle.pool_model.specs.Pools.{PlainPool, Ledger, volume_at, applied, upto}
 use Rattle.pool_model.proofs.Uptos.{upto_base, upto_above}
-use Rattle.volume_rules.specs.declared.shape.VolumeShape.{VolumeShape}
 use Rattle.volume_rules.specs.NowMoves.{AreGood, IsMadeBy}
 use Rattle.volume_rules.specs.Overlay.{after_writes}
 use Rattle.volume_rules.specs.Shapes.{shape_of}
-use Rattle.volume_rules.proofs.Overlays.{applied_found, applied_fresh, made_by_applied, name_after_writes, shape_after_writes}
+use Rattle.volume_rules.proofs.Overlays.{behind_group, made_by_applied, name_after_writes, shape_after_writes}
 
 -- a volume after the writes of the groups behind a base one, up to another
 unfoldable pub later : PlainVolume → ℕ → Ledger → ℕ → PlainVolume
 later volume base ledger zero = volume
 later volume base ledger (suc n) = cond (nat_le (suc n) base) volume (after_writes (later volume base ledger n) (ledger (suc n)).writes)
-
-pub found_later : (name : List ℕ) (base n : ℕ) (pool : PlainPool) (ledger : Ledger) (x : PlainVolume) → volume_at name pool ≡ Some x → volume_at name (upto base pool ledger n) ≡ Some (later x base ledger n)
-unfolding later
-found_later name base zero pool ledger x e = e
-found_later name base (suc n) pool ledger x e =
-    elim (nat_le (suc n) base) as (λ b. volume_at name (cond b pool (applied (suc n) (upto base pool ledger n) (ledger (suc n)))) ≡ Some (cond b x (after_writes (later x base ledger n) (ledger (suc n)).writes))) [
-      | true ↦ e
-      | false ↦ applied_found (suc n) (upto base pool ledger n) (ledger (suc n)) name (later x base ledger n) (found_later name base n pool ledger x e)
-    ]
 
 pub shape_later : (base n : ℕ) (ledger : Ledger) (x : PlainVolume) → shape_of (later x base ledger n) ≡ shape_of x
 unfolding later
@@ -63,19 +53,34 @@ climb P c (suc n) pool ledger start step le = climb_cases P c n pool ledger (nat
 pub made_by_upto : (c n : ℕ) (pool : PlainPool) (ledger : Ledger) → AreGood ledger → IsMadeBy c pool → c ≤ n → IsMadeBy n (upto c pool ledger n)
 made_by_upto c n pool ledger good made le = climb IsMadeBy c n pool ledger made (λ k low m. made_by_applied k (upto c pool ledger k) (ledger (suc k)) m (good (suc k))) le
 
--- what isn't there in the base pool was made behind it
-pub made_behind : (c n : ℕ) (pool : PlainPool) (ledger : Ledger) (name : List ℕ) (y : PlainVolume) → volume_at name pool ≡ None → c ≤ n → volume_at name (upto c pool ledger n) ≡ Some y → c < y.group
-made_behind c n pool ledger name y none le e = climb (λ k p. (y : PlainVolume) → volume_at name p ≡ Some y → c < y.group) c n pool ledger (λ z f. absurd (let differ : None ≡ Some z = sym none ∙ f in cc)) further le y e
+later_above : (c n : ℕ) (ledger : Ledger) (x : PlainVolume) → c ≤ n → later x c ledger (suc n) ≡ after_writes (later x c ledger n) (ledger (suc n)).writes
+unfolding later
+later_above c n ledger x le = grind (arith, nat_tests, le)
+
+later_base : (c : ℕ) (ledger : Ledger) (x : PlainVolume) → later x c ledger c ≡ x
+unfolding later
+later_base zero ledger x = refl
+later_base (suc c) ledger x = grind (arith, nat_tests)
+
+-- what stands there behind the base pool was made behind it, or stood there in it
+pub stood_or_made : (c n : ℕ) (pool : PlainPool) (ledger : Ledger) (name : List ℕ) (y : PlainVolume) → c ≤ n → volume_at name (upto c pool ledger n) ≡ Some y
+    → ((x : PlainVolume) × (volume_at name pool ≡ Some x) × (later x c ledger n ≡ y)) ⊎ (c < y.group)
+stood_or_made c n pool ledger name y le e = climb IsOld c n pool ledger (λ z f. inl (z, f, later_base c ledger z)) further le y e
   where
-    further : (k : ℕ) → c ≤ k → ((y : PlainVolume) → volume_at name (upto c pool ledger k) ≡ Some y → c < y.group)
-        → (y : PlainVolume) → volume_at name (applied (suc k) (upto c pool ledger k) (ledger (suc k))) ≡ Some y → c < y.group
-    further k low h z f = cases (volume_at name (upto c pool ledger k)) refl
-      where
-        cases : (o : Option PlainVolume) → volume_at name (upto c pool ledger k) ≡ o → c < z.group
-        cases None g = let made = applied_fresh (suc k) (upto c pool ledger k) (ledger (suc k)) name z g f in omega arith
-        cases (Some x) g =
-            let both : Some (after_writes x (ledger (suc k)).writes) ≡ Some z = sym (applied_found (suc k) (upto c pool ledger k) (ledger (suc k)) name x g) ∙ f in
-            let is : after_writes x (ledger (suc k)).writes ≡ z = cc in
-            let group : z.group ≡ x.group = sym (ap (λ (v : PlainVolume). v.group) is) ∙ ap (λ (s : VolumeShape). s.group) (shape_after_writes x (ledger (suc k)).writes) in
-            let high = h x g in
-            omega arith
+    IsOld : ℕ → PlainPool → Type 0
+    IsOld k p = (y : PlainVolume) → volume_at name p ≡ Some y → ((x : PlainVolume) × (volume_at name pool ≡ Some x) × (later x c ledger k ≡ y)) ⊎ (c < y.group)
+
+    further : (k : ℕ) → c ≤ k → IsOld k (upto c pool ledger k) → IsOld (suc k) (applied (suc k) (upto c pool ledger k) (ledger (suc k)))
+    further k low h z f =
+        ⊎_elim
+        (λ was. ⊎_elim
+        (λ old. inl (old.0, old.1, later_above c k ledger old.0 low ∙ (ap (λ v. after_writes v (ledger (suc k)).writes) old.2 ∙ was.2)))
+        (λ made. inr (let g = was.3 in let high = made in omega arith))
+        (h was.0 was.1))
+        (λ made. inr (let g = made in omega arith))
+        (behind_group (suc k) (upto c pool ledger k) (ledger (suc k)) name z f)
+
+-- so it stood there where the group that made it is not behind the base one
+pub stood_below : (c n : ℕ) (pool : PlainPool) (ledger : Ledger) (name : List ℕ) (y : PlainVolume) → c ≤ n → volume_at name (upto c pool ledger n) ≡ Some y → y.group ≤ c
+    → (x : PlainVolume) × (volume_at name pool ≡ Some x) × (later x c ledger n ≡ y)
+stood_below c n pool ledger name y le e old = ⊎_elim (λ was. was) (λ made. absurd (let high = made in omega arith)) (stood_or_made c n pool ledger name y le e)

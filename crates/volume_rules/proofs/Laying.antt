@@ -11,16 +11,16 @@ use Rattle.pool_model.specs.Pools.{PlainPool, Entry, Ledger, is_snapshot, volume
 use Rattle.pool_model.specs.View.{View, is_syncing, now_of, open_group, waiting_group}
 use Rattle.pool_model.proofs.Letters.{volume_name}
 use Rattle.pool_model.proofs.Uptos.{upto_above, upto_base, upto_chain}
-use Rattle.volume_rules.specs.Effects.{PendingTakeEffect}
+use Rattle.volume_rules.specs.Effects.{GroupTakesEffect, PendingTakeEffect}
 use Rattle.volume_rules.specs.NowMoves.{AreGood, GroupsAreBelow, HasGoodNames}
 use Rattle.volume_rules.specs.Overlay.{after_writes, base_of, bytes_or_zeros, closed_in, HasRange, HasRangeAt, StandsThere}
 use Rattle.volume_rules.specs.Sources.{base_name, found_at, pool_upto, source_before, source_between, source_from}
-use Rattle.volume_rules.proofs.Effects.{AllTakeEffect, GroupTakesEffect}
+use Rattle.volume_rules.proofs.Effects.{AllTakeEffect}
 use Rattle.volume_rules.proofs.Later.{made_by_upto}
 use Rattle.volume_rules.proofs.Made.{found_named}
 use Rattle.volume_rules.proofs.Overlays.{length_after_writes, snapshot_stays}
 use Rattle.volume_rules.proofs.Pending.{closed_above, open_is_pending, opens_after, taken_above, waits_after}
-use Rattle.volume_rules.proofs.Sources.{LiesUnder, from_above, from_base, from_chain, from_group, from_one, group_stands, groups_stand, stands_with, there_at_base}
+use Rattle.volume_rules.proofs.Sources.{LiesUnder, from_above, from_base, from_chain, from_group, from_one, group_stands, groups_stand, own_at_base, stands_with}
 
 -- ---- one group
 
@@ -147,9 +147,11 @@ before_all v name closed syncing result items is e f g =
 
 -- ---- what stands in NOW
 
-pub committed_bytes : (v : View) (name : List ℕ) (volume base : PlainVolume) → PendingTakeEffect v → volume_at name (v.pools v.committed) ≡ Some base → base_of v name volume ≡ base.bytes
-committed_bytes v name volume base effects f =
-    ap (λ o. bytes_or_zeros (found_at o (v.pools v.committed)) (length volume.bytes)) (there_at_base v.committed (open_group v) (v.pools v.committed) v.ledger name base effects (let le = open_is_pending v in omega arith) f)
+pub committed_bytes : (v : View) (name : List ℕ) (volume base : PlainVolume) → GroupsAreBelow v → PendingTakeEffect v → volume_at name (now_of v) ≡ Some volume → volume.group ≤ v.committed → volume_at name (v.pools v.committed) ≡ Some base
+    → base_of v name volume ≡ base.bytes
+committed_bytes v name volume base below effects found old f =
+    ap (λ o. bytes_or_zeros (found_at o (v.pools v.committed)) (length volume.bytes))
+    (own_at_base v.committed (open_group v) (v.pools v.committed) v.ledger name volume effects (let le = open_is_pending v in omega arith) found old)
     ∙ ap (λ o. bytes_or_zeros o (length volume.bytes)) f
 
 pub base_stands : (v : View) (name : List ℕ) (volume : PlainVolume) → PendingTakeEffect v → volume_at name (now_of v) ≡ Some volume → StandsThere (base_name v name) (v.pools v.committed) (length volume.bytes)

@@ -1,4 +1,5 @@
 pub mod GoodChanges
+pub mod WholeNames
 pub mod Indexes
 pub mod Volumes
 pub mod NowMoves
@@ -13,3 +14,9 @@ pub mod Laying
 pub mod Covering
 pub mod CoveredGroups
 pub mod InPieces
+pub mod PartChanges
+pub mod PartBeside
+pub mod PartNames
+pub mod PartWrites
+pub mod PartMaking
+pub mod PartActions

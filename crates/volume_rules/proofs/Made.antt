@@ -1,19 +1,19 @@
--- What the changes of a group make: new volumes, and snapshots of those that are there.
-use Rattle.std.proofs.Common.{◌≡◌, ℕ, Bool, true, false, List, [], ◌∷◌, Option, Some, None, refl, sym, ap, ◌∙◌, subst}
-use Rattle.std.specs.Prelude.{◌&&◌, cond, find, fold}
+-- What the changes of a group make: new volumes, snapshots of those that are there, and clones of these.
+use Rattle.std.proofs.Common.{◌≡◌, ◌⊎◌, ⊎_elim, inl, inr, ℕ, Bool, true, false, List, [], ◌∷◌, Option, Some, None, refl, sym, ap, ◌∙◌, subst}
+use Rattle.std.specs.Prelude.{◌&&◌, ◌||◌, cond, find, fold}
 use Rattle.std.specs.List.{AllByRecursion}
 use Rattle.std.specs.Option.{option_or}
 use Rattle.std.proofs.lemmas.Bool.{and_from, and_parts}
 use Rattle.std.proofs.lemmas.Option.{cond_some}
 use Rattle.pool_model.specs.declared.item.Action.{Action}
 use Rattle.pool_model.specs.declared.item.Change.{Change}
-use Rattle.pool_model.specs.declared.item.Change.TheVariants.{Clone, Create, Snapshot}
+use Rattle.pool_model.specs.declared.item.Change.TheVariants.{Clone, Create, Destroy, Snapshot}
 use Rattle.pool_model.specs.declared.volume.PlainVolume.{PlainVolume}
 use Rattle.pool_model.specs.declared.volume.VolumeKind.TheVariants.{Snapshot as SnapshotKind}
 use Rattle.pool_model.specs.Names.{same, is_name, is_name_for, is_snapshot_name, snapshot_name, volume_part}
-use Rattle.pool_model.specs.Pools.{PlainPool, volume_at, clone_of, created, is_snapshot, snapshot_of, with_clone, with_snapshot, with_volume, changed}
+use Rattle.pool_model.specs.Pools.{PlainPool, volume_at, clone_of, created, destroyed, has_clones, has_snapshots, is_snapshot, snapshot_of, with_clone, with_snapshot, with_volume, without, changed}
 use Rattle.pool_model.proofs.Letters.{snapshots_name, volumes_part}
-use Rattle.pool_model.proofs.Places.{same_is, volume_more}
+use Rattle.pool_model.proofs.Places.{same_is, volume_more, volume_without}
 use Rattle.volume_rules.specs.GoodChanges.{is_good_change, is_good_size}
 use Rattle.volume_rules.specs.NowMoves.{HasGoodNames}
 
@@ -33,32 +33,25 @@ found_named name pool x e = among pool.volumes x e
 
 -- ---- a change
 
-more_found : (pool : PlainPool) (new : PlainVolume) (name : List ℕ) (x : PlainVolume) → volume_at name pool ≡ Some x → volume_at name (with_volume new pool) ≡ Some x
-more_found pool new name x e = volume_more pool new name ∙ ap (λ o. option_or o (cond (same new.name name) (Some new) None)) e
-
-more_fresh : (pool : PlainPool) (new : PlainVolume) (name : List ℕ) (y : PlainVolume) → volume_at name pool ≡ None → volume_at name (with_volume new pool) ≡ Some y → y ≡ new
-more_fresh pool new name y none e =
-    sym ((cond_some (same new.name name) new y (sym (volume_more pool new name ∙ ap (λ o. option_or o (cond (same new.name name) (Some new) None)) none) ∙ e)).1)
-
--- what is there stays
-found_changed : (group : ℕ) (pool : PlainPool) (change : Change) (name : List ℕ) (x : PlainVolume) → volume_at name pool ≡ Some x → volume_at name (changed group pool change) ≡ Some x
-found_changed group pool (Create called size block_size) name x e = more_found pool (created group called size block_size) name x e
-found_changed group pool (Snapshot volume part) name x e = taken (volume_at volume pool)
+-- what stands there with a volume more stood there, or is that volume
+more_behind : (pool : PlainPool) (new : PlainVolume) (name : List ℕ) (y : PlainVolume) → volume_at name (with_volume new pool) ≡ Some y → (volume_at name pool ≡ Some y) ⊎ (y ≡ new)
+more_behind pool new name y e = cases (volume_at name pool) refl
   where
-    taken : (found : Option PlainVolume) → volume_at name (with_snapshot group (snapshot_name volume part) found pool) ≡ Some x
-    taken None = e
-    taken (Some it) = elim (is_snapshot it.kind) as (λ b. volume_at name (cond b pool (with_volume (snapshot_of group (snapshot_name volume part) it) pool)) ≡ Some x) [
-      | true ↦ e
-      | false ↦ more_found pool (snapshot_of group (snapshot_name volume part) it) name x e
-    ]
-found_changed group pool (Clone snapshot called) name x e = cloned (volume_at snapshot pool)
-  where
-    cloned : (found : Option PlainVolume) → volume_at name (with_clone group called found pool) ≡ Some x
-    cloned None = e
-    cloned (Some it) = elim (is_snapshot it.kind) as (λ b. volume_at name (cond b (with_volume (clone_of group called it) pool) pool) ≡ Some x) [
-      | true ↦ more_found pool (clone_of group called it) name x e
-      | false ↦ e
-    ]
+    cases : (o : Option PlainVolume) → volume_at name pool ≡ o → (volume_at name pool ≡ Some y) ⊎ (y ≡ new)
+    cases (Some x) f = inl (f ∙ (sym (volume_more pool new name ∙ ap (λ o. option_or o (cond (same new.name name) (Some new) None)) f) ∙ e))
+    cases None f = inr (sym (cond_some (same new.name name) new y (sym (volume_more pool new name ∙ ap (λ o. option_or o (cond (same new.name name) (Some new) None)) f) ∙ e)).1)
+
+kept : (b : Bool) (o : Option PlainVolume) (y : PlainVolume) → cond b None o ≡ Some y → o ≡ Some y
+kept true o y e = absurd (cc)
+kept false o y e = e
+
+-- what stands behind a destroy stood there before it
+pub left_behind : (pool : PlainPool) (gone name : List ℕ) (y : PlainVolume) → volume_at name (destroyed gone pool) ≡ Some y → volume_at name pool ≡ Some y
+left_behind pool gone name y e =
+    elim (has_snapshots gone pool || has_clones gone pool) as (λ b. volume_at name (cond b pool (without gone pool)) ≡ Some y → volume_at name pool ≡ Some y) [
+      | true ↦ λ f. f
+      | false ↦ λ f. kept (same gone name) (volume_at name pool) y (sym (volume_without pool gone name) ∙ f)
+    ] e
 
 -- what a change makes of a pool: a volume of zeros, a snapshot of a volume that is there, or a clone of a snapshot that is
 abbrev MadeBy : ℕ → PlainPool → Change → PlainVolume → Type 0
@@ -67,35 +60,40 @@ MadeBy group pool (Snapshot volume part) made =
     (it : PlainVolume) × (volume_at volume pool ≡ Some it) × (is_snapshot it.kind ≡ false) × (made ≡ snapshot_of group (snapshot_name volume part) it)
 MadeBy group pool (Clone snapshot name) made =
     (it : PlainVolume) × (volume_at snapshot pool ≡ Some it) × (is_snapshot it.kind ≡ true) × (made ≡ clone_of group name it)
+MadeBy group pool (Destroy name) made = ⊥
 
--- what is there behind a change and wasn't before
-made_changed : (group : ℕ) (pool : PlainPool) (change : Change) (name : List ℕ) (y : PlainVolume) → volume_at name pool ≡ None → volume_at name (changed group pool change) ≡ Some y → MadeBy group pool change y
-made_changed group pool (Create called size block_size) name y none e = more_fresh pool (created group called size block_size) name y none e
-made_changed group pool (Snapshot volume part) name y none e = taken (volume_at volume pool) refl e
+-- what stands there behind a change stood there before it, or was made by it
+made_changed : (group : ℕ) (pool : PlainPool) (change : Change) (name : List ℕ) (y : PlainVolume) → volume_at name (changed group pool change) ≡ Some y → (volume_at name pool ≡ Some y) ⊎ MadeBy group pool change y
+made_changed group pool (Create called size block_size) name y e = more_behind pool (created group called size block_size) name y e
+made_changed group pool (Snapshot volume part) name y e = taken (volume_at volume pool) refl e
   where
     kinds : (it : PlainVolume) (b : Bool) → volume_at volume pool ≡ Some it → is_snapshot it.kind ≡ b → volume_at name (cond b pool (with_volume (snapshot_of group (snapshot_name volume part) it) pool)) ≡ Some y
-        → MadeBy group pool (Snapshot volume part) y
-    kinds it true f k e = absurd (let differ : None ≡ Some y = sym none ∙ e in cc)
-    kinds it false f k e = (it, f, k, more_fresh pool (snapshot_of group (snapshot_name volume part) it) name y none e)
+        → (volume_at name pool ≡ Some y) ⊎ MadeBy group pool (Snapshot volume part) y
+    kinds it true f k e = inl e
+    kinds it false f k e = ⊎_elim (λ was. inl was) (λ is. inr (it, f, k, is)) (more_behind pool (snapshot_of group (snapshot_name volume part) it) name y e)
 
-    taken : (found : Option PlainVolume) → volume_at volume pool ≡ found → volume_at name (with_snapshot group (snapshot_name volume part) found pool) ≡ Some y → MadeBy group pool (Snapshot volume part) y
-    taken None f e = absurd (let differ : None ≡ Some y = sym none ∙ e in cc)
+    taken : (found : Option PlainVolume) → volume_at volume pool ≡ found → volume_at name (with_snapshot group (snapshot_name volume part) found pool) ≡ Some y
+        → (volume_at name pool ≡ Some y) ⊎ MadeBy group pool (Snapshot volume part) y
+    taken None f e = inl e
     taken (Some it) f e = kinds it (is_snapshot it.kind) f refl e
-made_changed group pool (Clone snapshot called) name y none e = cloned (volume_at snapshot pool) refl e
+made_changed group pool (Clone snapshot called) name y e = cloned (volume_at snapshot pool) refl e
   where
     kinds : (it : PlainVolume) (b : Bool) → volume_at snapshot pool ≡ Some it → is_snapshot it.kind ≡ b → volume_at name (cond b (with_volume (clone_of group called it) pool) pool) ≡ Some y
-        → MadeBy group pool (Clone snapshot called) y
-    kinds it true f k e = (it, f, k, more_fresh pool (clone_of group called it) name y none e)
-    kinds it false f k e = absurd (let differ : None ≡ Some y = sym none ∙ e in cc)
+        → (volume_at name pool ≡ Some y) ⊎ MadeBy group pool (Clone snapshot called) y
+    kinds it true f k e = ⊎_elim (λ was. inl was) (λ is. inr (it, f, k, is)) (more_behind pool (clone_of group called it) name y e)
+    kinds it false f k e = inl e
 
-    cloned : (found : Option PlainVolume) → volume_at snapshot pool ≡ found → volume_at name (with_clone group called found pool) ≡ Some y → MadeBy group pool (Clone snapshot called) y
-    cloned None f e = absurd (let differ : None ≡ Some y = sym none ∙ e in cc)
+    cloned : (found : Option PlainVolume) → volume_at snapshot pool ≡ found → volume_at name (with_clone group called found pool) ≡ Some y
+        → (volume_at name pool ≡ Some y) ⊎ MadeBy group pool (Clone snapshot called) y
+    cloned None f e = inl e
     cloned (Some it) f e = kinds it (is_snapshot it.kind) f refl e
+made_changed group pool (Destroy gone) name y e = inl (left_behind pool gone name y e)
 
 group_of : (group : ℕ) (pool : PlainPool) (change : Change) (y : PlainVolume) → MadeBy group pool change y → y.group ≡ group
 group_of group pool (Create called size block_size) y is = ap (λ (v : PlainVolume). v.group) is
 group_of group pool (Snapshot volume part) y (it, there, writable, is) = ap (λ (v : PlainVolume). v.group) is
 group_of group pool (Clone snapshot called) y (it, there, taken, is) = ap (λ (v : PlainVolume). v.group) is
+group_of group pool (Destroy gone) y is = absurd is
 
 good_name : (volume part : List ℕ) → is_name volume ≡ true → (is_name (volume_part (snapshot_name volume part)) && is_snapshot_name (snapshot_name volume part)) ≡ true
 good_name volume part e = and_from (is_name (volume_part (snapshot_name volume part))) (is_snapshot_name (snapshot_name volume part)) (ap is_name (volumes_part volume part e) ∙ e) (snapshots_name volume part)
@@ -108,38 +106,26 @@ has_good_name group pool (Snapshot volume part) y good (it, there, writable, is)
     subst (λ (v : PlainVolume). is_name_for v.kind v.name ≡ true) (sym is) (good_name volume part (and_parts (is_name volume) (is_name part) good).0)
 has_good_name group pool (Clone snapshot called) y good (it, there, taken, is) =
     subst (λ (v : PlainVolume). is_name_for v.kind v.name ≡ true) (sym is) ((and_parts (is_name_for SnapshotKind snapshot) (is_name called) good).1)
+has_good_name group pool (Destroy gone) y good is = absurd is
 
 names_changed : (group : ℕ) (pool : PlainPool) (change : Change) → is_good_change change ≡ true → HasGoodNames pool → HasGoodNames (changed group pool change)
-names_changed group pool change good named name y e = cases (volume_at name pool) refl
-  where
-    cases : (o : Option PlainVolume) → volume_at name pool ≡ o → is_name_for y.kind name ≡ true
-    cases None f =
-        subst (λ n. is_name_for y.kind n ≡ true) (same_is y.name name (found_named name (changed group pool change) y e)) (has_good_name group pool change y good (made_changed group pool change name y f e))
-    cases (Some x) f =
-        let both : Some x ≡ Some y = sym (found_changed group pool change name x f) ∙ e in
-        let is : x ≡ y = cc in
-        subst (λ (v : PlainVolume). is_name_for v.kind name ≡ true) is (named name x f)
+names_changed group pool change good named name y e =
+    ⊎_elim (λ was. named name y was)
+    (λ made. subst (λ n. is_name_for y.kind n ≡ true) (same_is y.name name (found_named name (changed group pool change) y e)) (has_good_name group pool change y good made))
+    (made_changed group pool change name y e)
 
 -- ---- the changes of a group, one after another
 
 abbrev pub changes : ℕ → PlainPool → List Action → PlainPool
 changes group pool actions = fold (λ p a. changed group p a.change) pool actions
 
-pub found_changes : (group : ℕ) (pool : PlainPool) (actions : List Action) (name : List ℕ) (x : PlainVolume) → volume_at name pool ≡ Some x → volume_at name (changes group pool actions) ≡ Some x
-found_changes group pool [] name x e = e
-found_changes group pool (a ∷ actions) name x e = found_changes group (changed group pool a.change) actions name x (found_changed group pool a.change name x e)
-
--- what is there behind changes and wasn't before was made by one of them
-pub fresh_changes : (group : ℕ) (pool : PlainPool) (actions : List Action) (name : List ℕ) (y : PlainVolume) → volume_at name pool ≡ None → volume_at name (changes group pool actions) ≡ Some y → y.group ≡ group
-fresh_changes group pool [] name y none e = absurd (let differ : None ≡ Some y = sym none ∙ e in cc)
-fresh_changes group pool (a ∷ actions) name y none e = cases (volume_at name (changed group pool a.change)) refl (λ n. fresh_changes group (changed group pool a.change) actions name y n e)
-  where
-    cases : (o : Option PlainVolume) → volume_at name (changed group pool a.change) ≡ o → (volume_at name (changed group pool a.change) ≡ None → y.group ≡ group) → y.group ≡ group
-    cases None f rest = rest f
-    cases (Some z) f rest =
-        let both : Some z ≡ Some y = sym (found_changes group (changed group pool a.change) actions name z f) ∙ e in
-        let is : z ≡ y = cc in
-        sym (ap (λ (v : PlainVolume). v.group) is) ∙ group_of group pool a.change z (made_changed group pool a.change name z none f)
+-- what stands there behind changes stood there before them, or was made by one of them
+pub behind_changes : (group : ℕ) (pool : PlainPool) (actions : List Action) (name : List ℕ) (y : PlainVolume) → volume_at name (changes group pool actions) ≡ Some y → (volume_at name pool ≡ Some y) ⊎ (y.group ≡ group)
+behind_changes group pool [] name y e = inl e
+behind_changes group pool (a ∷ actions) name y e =
+    ⊎_elim (λ was. ⊎_elim (λ before. inl before) (λ made. inr (group_of group pool a.change y made)) (made_changed group pool a.change name y was))
+    (λ made. inr made)
+    (behind_changes group (changed group pool a.change) actions name y e)
 
 pub names_changes : (group : ℕ) (pool : PlainPool) (actions : List Action) → AllByRecursion (λ a. is_good_change a.change ≡ true) actions → HasGoodNames pool → HasGoodNames (changes group pool actions)
 names_changes group pool [] good named = named

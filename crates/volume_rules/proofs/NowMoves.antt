@@ -1,5 +1,5 @@
 -- How each step moves NOW.
-use Rattle.std.proofs.Common.{◌≡◌, ℕ, zero, suc, ◌≤◌, Bool, true, false, true≢false, List, [], ◌∷◌, ◌++◌, Option, Some, None, refl, sym, ap, ◌∙◌, subst, arith}
+use Rattle.std.proofs.Common.{◌≡◌, ℕ, zero, suc, ◌≤◌, Bool, true, false, true≢false, List, [], ◌∷◌, ◌++◌, map, Option, Some, None, refl, sym, ap, ◌∙◌, subst, arith}
 use Rattle.std.specs.Prelude.{cond, fold, is_some, nat_le, not, ◌==◌, ◌&&◌, ◌||◌, if◌then◌else◌}
 use Rattle.pool_model.specs.declared.group.Stage.{Stage}
 use Rattle.pool_model.specs.declared.group.Stage.TheVariants.{Quiescing, Quiesced as QuiescedStage}
@@ -22,25 +22,25 @@ use Rattle.pool_model.proofs.Moves.{EachMove, by_move}
 use Rattle.pool_model.proofs.Told.{stays}
 use Rattle.pool_model.proofs.Uptos.{upto_above, upto_agree, upto_from, itself}
 use Rattle.volume_rules.specs.declared.index.NameIndex.{NameIndex}
-use Rattle.volume_rules.specs.Shapes.{shape_at, HaveSameShapes}
+use Rattle.volume_rules.specs.Shapes.{outline, HaveSameShapes}
 use Rattle.volume_rules.specs.Index.{Knows}
 use Rattle.volume_rules.specs.NowMoves.{MovesNow, is_action_taken}
-use Rattle.volume_rules.proofs.Volumes.{shapes_applied}
+use Rattle.volume_rules.proofs.Volumes.{ascending_alike, same_entries, shapes_applied, shapes_self}
 
 -- ---- writes
 
 pub shapes_upto : (c : ℕ) (pool other : PlainPool) (ledger also : Ledger) (n : ℕ) → HaveSameShapes pool other → ((group : ℕ) → (ledger group).actions ≡ (also group).actions) → HaveSameShapes (upto c pool ledger n) (upto c other also n)
-shapes_upto c pool other ledger also zero h f name = h name
-shapes_upto c pool other ledger also (suc n) h f name =
-    let rest = shapes_applied (suc n) (upto c pool ledger n) (upto c other also n) (ledger (suc n)) (also (suc n)) (f (suc n)) (shapes_upto c pool other ledger also n h f) name in
-    elim (nat_le (suc n) c) as (λ b. shape_at name (cond b pool (applied (suc n) (upto c pool ledger n) (ledger (suc n)))) ≡ shape_at name (cond b other (applied (suc n) (upto c other also n) (also (suc n))))) [ true ↦ h name | false ↦ rest ]
+shapes_upto c pool other ledger also zero h f = h
+shapes_upto c pool other ledger also (suc n) h f =
+    let rest = shapes_applied (suc n) (upto c pool ledger n) (upto c other also n) (ledger (suc n)) (also (suc n)) (f (suc n)) (shapes_upto c pool other ledger also n h f) in
+    elim (nat_le (suc n) c) as (λ b. HaveSameShapes (cond b pool (applied (suc n) (upto c pool ledger n) (ledger (suc n)))) (cond b other (applied (suc n) (upto c other also n) (also (suc n))))) [ true ↦ h | false ↦ rest ]
 
 pub actions_stay : (ledger : Ledger) (group : ℕ) (x : Write) (g : ℕ) → (ledger_accepted ledger group (WriteItem x) g).actions ≡ (ledger g).actions
 actions_stay ledger group x g = elim (g == group) as (λ b. (cond b (added (ledger g) (WriteItem x)) (ledger g)).actions ≡ (ledger g).actions) [ true ↦ refl | false ↦ refl ]
 
 -- a write that is accepted leaves every shape
 pub now_wrote : (v : View) (writer group : ℕ) (x : Write) → HaveSameShapes (now_of (with_flow v (with_accepted (flow_of v) writer group (WriteItem x)))) (now_of v)
-now_wrote v writer group x = shapes_upto v.committed (v.pools v.committed) (v.pools v.committed) (ledger_accepted v.ledger group (WriteItem x)) v.ledger (open_group v) (λ name. refl) (actions_stay v.ledger group x)
+now_wrote v writer group x = shapes_upto v.committed (v.pools v.committed) (v.pools v.committed) (ledger_accepted v.ledger group (WriteItem x)) v.ledger (open_group v) (shapes_self (v.pools v.committed)) (actions_stay v.ledger group x)
 
 -- ---- actions
 
@@ -166,12 +166,15 @@ moves_now v given step reply w s h = by_move Moves now_moves v given step reply 
 -- ---- what an index knows
 
 pub knows_along : (index : NameIndex) (pool other : PlainPool) → HaveSameShapes other pool → Knows index pool → Knows index other
-knows_along index pool other h k = record { shapes = λ name. k.shapes name ∙ sym (h name) }
+knows_along index pool other h k = record {
+  entries = λ name. k.entries name ∙ sym (same_entries name other pool h);
+  ascending = ascending_alike other pool h k.ascending;
+}
 
 same_shapes : (v w : View) (step : Step) (reply : Reply) → is_action_taken step reply ≡ false → MovesNow v step reply w → HaveSameShapes (now_of w) (now_of v)
 same_shapes v w (Act a) (Receipt group) e m = absurd (true≢false e)
 same_shapes v w (WriteStep x) (Receipt group) e m = m
-same_shapes v w step reply e m = λ name. ap (shape_at name) m
+same_shapes v w step reply e m = record { outlines = ap (λ (p : PlainPool). map outline p.volumes) m }
 
 pub knows_step : (v : View) (given : Given) (step : Step) (reply : Reply) (w : View) (index : NameIndex) → IsSound v → StepOf v given step reply w → is_action_taken step reply ≡ false → Knows index (now_of v) → Knows index (now_of w)
 knows_step v given step reply w index s h e k = knows_along index (now_of v) (now_of w) (same_shapes v w step reply e (moves_now v given step reply w s h)) k

@@ -1,5 +1,5 @@
 -- Pending writes over the bytes that lie under them.
-use Rattle.std.proofs.Common.{◌≡◌, ℕ, suc, ◌+◌, ◌<◌, ◌≤◌, Bool, true, false, true≢false, List, [], ◌∷◌, ◌++◌, length, take, get_or, Option, Some, None, refl, sym, ap, ◌∙◌, subst, arith}
+use Rattle.std.proofs.Common.{◌≡◌, ◌⊎◌, ⊎_elim, inl, inr, ℕ, suc, ◌+◌, ◌<◌, Bool, true, false, true≢false, List, [], ◌∷◌, ◌++◌, length, take, get_or, Option, Some, None, refl, sym, ap, ◌∙◌, subst, arith}
 use Rattle.std.specs.Prelude.{◌&&◌, cond, fold, not}
 use Rattle.std.specs.Option.{option_map}
 use Rattle.std.proofs.lemmas.List.{take_more}
@@ -14,7 +14,7 @@ use Rattle.volume_rules.specs.Shapes.{shape_of}
 use Rattle.volume_rules.specs.GoodChanges.{MakesGoodVolumes}
 use Rattle.volume_rules.specs.NowMoves.{HasGoodNames, IsMadeBy, IsOlder}
 use Rattle.volume_rules.specs.Overlay.{after_writes, HasRange}
-use Rattle.volume_rules.proofs.Made.{found_changes, fresh_changes, names_changes}
+use Rattle.volume_rules.proofs.Made.{behind_changes, names_changes}
 use Rattle.volume_rules.proofs.Volumes.{shape_after}
 use Rattle.volume_rules.proofs.NowMoves.{fold_push}
 
@@ -90,7 +90,7 @@ map_after : (w : Write) (writes : List Write) (o : Option PlainVolume) → optio
 map_after w writes None = refl
 map_after w writes (Some v) = refl
 
-pub volume_at_writes : (name : List ℕ) (pool : PlainPool) (writes : List Write) → volume_at name (fold written pool writes) ≡ option_map (λ v. after_writes v writes) (volume_at name pool)
+volume_at_writes : (name : List ℕ) (pool : PlainPool) (writes : List Write) → volume_at name (fold written pool writes) ≡ option_map (λ v. after_writes v writes) (volume_at name pool)
 volume_at_writes name pool [] = none_or (volume_at name pool)
   where
     none_or : (o : Option PlainVolume) → o ≡ option_map (λ v. after_writes v []) o
@@ -98,41 +98,34 @@ volume_at_writes name pool [] = none_or (volume_at name pool)
     none_or (Some v) = refl
 volume_at_writes name pool (w ∷ writes) = volume_at_writes name (written pool w) writes ∙ (ap (option_map (λ v. after_writes v writes)) (volume_written pool w name) ∙ map_after w writes (volume_at name pool))
 
-pub found_written : (name : List ℕ) (pool : PlainPool) (writes : List Write) (x : PlainVolume) → volume_at name pool ≡ Some x → volume_at name (fold written pool writes) ≡ Some (after_writes x writes)
-found_written name pool writes x e = volume_at_writes name pool writes ∙ ap (option_map (λ v. after_writes v writes)) e
+-- what stands behind writes stood before them
+pub under_writes : (name : List ℕ) (pool : PlainPool) (writes : List Write) (z : PlainVolume) → volume_at name (fold written pool writes) ≡ Some z
+    → (volume : PlainVolume) × (volume_at name pool ≡ Some volume) × (after_writes volume writes ≡ z)
+under_writes name pool writes z e = cases (volume_at name pool) refl
+  where
+    cases : (o : Option PlainVolume) → volume_at name pool ≡ o → (volume : PlainVolume) × (volume_at name pool ≡ Some volume) × (after_writes volume writes ≡ z)
+    cases None f = absurd (let differ : None ≡ Some z = sym (volume_at_writes name pool writes ∙ ap (option_map (λ v. after_writes v writes)) f) ∙ e in cc)
+    cases (Some x) f = let both : Some (after_writes x writes) ≡ Some z = sym (volume_at_writes name pool writes ∙ ap (option_map (λ v. after_writes v writes)) f) ∙ e in (x, f, cc)
 
-none_written : (name : List ℕ) (pool : PlainPool) (writes : List Write) → volume_at name pool ≡ None → volume_at name (fold written pool writes) ≡ None
-none_written name pool writes none = volume_at_writes name pool writes ∙ ap (option_map (λ v. after_writes v writes)) none
+group_after_writes : (volume : PlainVolume) (writes : List Write) → (after_writes volume writes).group ≡ volume.group
+group_after_writes volume writes = ap (λ (s : VolumeShape). s.group) (shape_after_writes volume writes)
 
--- a volume that was there has the group's writes
-pub applied_found : (group : ℕ) (pool : PlainPool) (entry : Entry) (name : List ℕ) (x : PlainVolume) → volume_at name pool ≡ Some x → volume_at name (applied group pool entry) ≡ Some (after_writes x entry.writes)
-applied_found group pool entry name x e = found_changes group (fold written pool entry.writes) entry.actions name (after_writes x entry.writes) (found_written name pool entry.writes x e)
-
--- one that wasn't was made by the group
-pub applied_fresh : (group : ℕ) (pool : PlainPool) (entry : Entry) (name : List ℕ) (y : PlainVolume) → volume_at name pool ≡ None → volume_at name (applied group pool entry) ≡ Some y → y.group ≡ group
-applied_fresh group pool entry name y none e = fresh_changes group (fold written pool entry.writes) entry.actions name y (none_written name pool entry.writes none) e
+-- what stands there behind a group has the group's writes and stood there before it, or was made by the group
+pub behind_group : (group : ℕ) (pool : PlainPool) (entry : Entry) (name : List ℕ) (y : PlainVolume) → volume_at name (applied group pool entry) ≡ Some y
+    → ((x : PlainVolume) × (volume_at name pool ≡ Some x) × (after_writes x entry.writes ≡ y) × (x.group ≡ y.group)) ⊎ (y.group ≡ group)
+behind_group group pool entry name y e =
+    ⊎_elim (λ was. let x = under_writes name pool entry.writes y was in inl (x.0, x.1, x.2, sym (group_after_writes x.0 entry.writes) ∙ ap (λ (v : PlainVolume). v.group) x.2)) (λ made. inr made)
+    (behind_changes group (fold written pool entry.writes) entry.actions name y e)
 
 older_applied : (n : ℕ) (pool : PlainPool) (entry : Entry) → IsOlder n pool → IsOlder (suc n) (applied (suc n) pool entry)
-older_applied n pool entry older name y e = cases (volume_at name pool) refl
-  where
-    cases : (o : Option PlainVolume) → volume_at name pool ≡ o → y.group ≤ suc n
-    cases None f = let g = applied_fresh (suc n) pool entry name y f e in omega arith
-    cases (Some x) f =
-        let low = older name x f in
-        let is : Some (after_writes x entry.writes) ≡ Some y = sym (applied_found (suc n) pool entry name x f) ∙ e in
-        let same : after_writes x entry.writes ≡ y = cc in
-        let g : y.group ≡ x.group = sym (ap (λ (v : PlainVolume). v.group) same) ∙ ap (λ (s : VolumeShape). s.group) (shape_after_writes x entry.writes) in
-        omega arith
+older_applied n pool entry older name y e =
+    ⊎_elim (λ was. let low = older name was.0 was.1 in let g = was.3 in omega arith) (λ made. let g = made in omega arith)
+    (behind_group (suc n) pool entry name y e)
 
 names_writes : (pool : PlainPool) (writes : List Write) → HasGoodNames pool → HasGoodNames (fold written pool writes)
-names_writes pool writes named name y e = cases (volume_at name pool) refl
-  where
-    cases : (o : Option PlainVolume) → volume_at name pool ≡ o → is_name_for y.kind name ≡ true
-    cases None f = absurd (let differ : None ≡ Some y = sym (none_written name pool writes f) ∙ e in cc)
-    cases (Some x) f =
-        let both : Some (after_writes x writes) ≡ Some y = sym (found_written name pool writes x f) ∙ e in
-        let is : after_writes x writes ≡ y = cc in
-        subst (λ (k : VolumeKind). is_name_for k name ≡ true) (sym (kind_after_writes x writes) ∙ ap (λ (v : PlainVolume). v.kind) is) (named name x f)
+names_writes pool writes named name y e =
+    let x = under_writes name pool writes y e in
+    subst (λ (k : VolumeKind). is_name_for k name ≡ true) (sym (kind_after_writes x.0 writes) ∙ ap (λ (v : PlainVolume). v.kind) x.2) (named name x.0 x.1)
 
 pub made_by_applied : (n : ℕ) (pool : PlainPool) (entry : Entry) → IsMadeBy n pool → MakesGoodVolumes entry → IsMadeBy (suc n) (applied (suc n) pool entry)
 made_by_applied n pool entry m good = record {

@@ -1,5 +1,5 @@
 -- The groups above the committed one.
-use Rattle.std.proofs.Common.{◌≡◌, ℕ, suc, ◌<◌, ◌≤◌, true, false, List, Option, Some, None, refl, sym, ap, ◌∙◌, subst, arith}
+use Rattle.std.proofs.Common.{◌≡◌, ℕ, suc, ◌<◌, ◌≤◌, true, false, List, Some, refl, sym, ap, ◌∙◌, subst, arith}
 use Rattle.std.specs.Prelude.{cond, is_some}
 use Rattle.pool_model.specs.declared.volume.PlainVolume.{PlainVolume}
 use Rattle.pool_model.specs.Groups.{taken_upto}
@@ -15,7 +15,7 @@ use Rattle.volume_rules.specs.Shapes.{shape_of}
 use Rattle.volume_rules.specs.NowMoves.{AreGood, GroupsAreBelow, IsMadeBy}
 use Rattle.volume_rules.specs.Overlay.{closed_in, IsCommitted}
 use Rattle.volume_rules.proofs.Overlays.{made_by_applied}
-use Rattle.volume_rules.proofs.Later.{found_later, later, made_behind, made_by_upto, shape_later}
+use Rattle.volume_rules.proofs.Later.{made_by_upto, shape_later, stood_below}
 
 -- ---- where they are
 
@@ -38,16 +38,11 @@ open_is_pending v = let a = taken_above v in let b = closed_above v in let o = o
 
 pub committed_iff : (v : View) (name : List ℕ) (volume : PlainVolume) → GroupsAreBelow v → volume_at name (now_of v) ≡ Some volume → (volume.group ≤ v.committed → IsCommitted v name volume) × (IsCommitted v name volume → volume.group ≤ v.committed)
 committed_iff v name volume m e = (
-  cases (volume_at name (v.pools v.committed)) refl,
+  λ old.
+      let was = stood_below v.committed (open_group v) (v.pools v.committed) v.ledger name volume (let below = open_is_pending v in omega arith) e old in
+      (was.0, was.1, sym (shape_later v.committed (open_group v) v.ledger was.0) ∙ ap shape_of was.2),
   λ k. let low = m.older name k.0 k.1 in let same : k.0.group ≡ volume.group = ap (λ (s : VolumeShape). s.group) k.2 in omega arith,
 )
-  where
-    cases : (o : Option PlainVolume) → volume_at name (v.pools v.committed) ≡ o → volume.group ≤ v.committed → IsCommitted v name volume
-    cases (Some base) f le =
-        let both : Some (later base v.committed v.ledger (open_group v)) ≡ Some volume = sym (found_later name v.committed (open_group v) (v.pools v.committed) v.ledger base f) ∙ e in
-        let is : later base v.committed v.ledger (open_group v) ≡ volume = cc in
-        (base, f, sym (shape_later v.committed (open_group v) v.ledger base) ∙ ap shape_of is)
-    cases None f le = absurd (let high = made_behind v.committed (open_group v) (v.pools v.committed) v.ledger name volume f (let below = open_is_pending v in omega arith) e in omega arith)
 
 -- ---- the groups that made the committed volumes
 

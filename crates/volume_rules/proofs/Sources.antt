@@ -1,13 +1,11 @@
 -- Where the bytes of a name stood before.
-use Rattle.std.proofs.Common.{◌≡◌, ℕ, zero, suc, ◌<◌, ◌≤◌, Bool, true, false, true≢false, List, [], ◌∷◌, ◌++◌, ◌+◌, ◌-◌, length, take, get_or, replicate, Option, Some, None, refl, sym, ap, ◌∙◌, subst, arith}
+use Rattle.std.proofs.Common.{◌≡◌, ◌≢◌, ◌⊎◌, ⊎_elim, inl, inr, ℕ, zero, suc, ◌<◌, ◌≤◌, Bool, true, false, true≢false, List, [], ◌∷◌, ◌++◌, ◌+◌, ◌-◌, length, take, get_or, replicate, Option, Some, None, refl, sym, ap, ◌∙◌, subst, arith}
 use Rattle.std.specs.Prelude.{cond, fold, nat_le, not}
-use Rattle.std.specs.Option.{option_map}
 use Rattle.std.proofs.lemmas.Bool.Decides.{nat_tests}
 use Rattle.std.proofs.lemmas.List.{length-replicate, take_all, take_more}
 use Rattle.pool_model.specs.declared.item.Action.{Action}
 use Rattle.pool_model.specs.declared.item.Change.{Change}
-use Rattle.pool_model.specs.declared.item.Change.TheVariants.{Clone, Create, Snapshot}
-use Rattle.pool_model.specs.declared.item.Write.{Write}
+use Rattle.pool_model.specs.declared.item.Change.TheVariants.{Clone, Create, Destroy, Snapshot}
 use Rattle.pool_model.specs.declared.volume.PlainVolume.{PlainVolume}
 use Rattle.pool_model.specs.Names.{name_of, same, snapshot_name}
 use Rattle.pool_model.specs.Pools.{PlainPool, Entry, Ledger, is_snapshot, volume_at, written, clone_of, created, snapshot_of, with_clone, with_snapshot, with_volume, changed, applied, upto}
@@ -15,13 +13,14 @@ use Rattle.pool_model.specs.Refusals.{change_refusal, is_snapshot_there, is_volu
 use Rattle.pool_model.proofs.Causes.{first_none, none_of, not_false}
 use Rattle.pool_model.proofs.Places.{same_is}
 use Rattle.pool_model.proofs.Uptos.{upto_above, upto_base}
-use Rattle.volume_rules.specs.Effects.{TakeEffect}
+use Rattle.volume_rules.specs.declared.shape.VolumeShape.{VolumeShape}
+use Rattle.volume_rules.specs.Effects.{GroupTakesEffect, TakeEffect}
 use Rattle.volume_rules.specs.Overlay.{after_writes, bytes_or_zeros, StandsThere}
 use Rattle.volume_rules.specs.Sources.{found_at, source_before, source_by, source_from, source_in}
-use Rattle.volume_rules.proofs.Effects.{AllTakeEffect, GroupTakesEffect}
+use Rattle.volume_rules.proofs.Effects.{AllTakeEffect}
 use Rattle.volume_rules.proofs.Indexes.{new_name, other_name}
-use Rattle.volume_rules.proofs.Made.{changes, found_changes}
-use Rattle.volume_rules.proofs.Overlays.{applied_found, found_written, length_after_writes, volume_at_writes}
+use Rattle.volume_rules.proofs.Made.{changes, left_behind}
+use Rattle.volume_rules.proofs.Overlays.{length_after_writes, shape_after_writes, under_writes}
 
 -- ---- a change
 
@@ -30,37 +29,38 @@ abbrev pub HasBytesAt : Option (List ℕ) → PlainPool → List ℕ → Type 0
 HasBytesAt None pool bytes = bytes ≡ replicate (length bytes) 0
 HasBytesAt (Some name) pool bytes = (volume : PlainVolume) × (volume_at name pool ≡ Some volume) × (volume.bytes ≡ bytes)
 
--- what the new name of a change is made of
-abbrev made_of : Change → Option (List ℕ)
-made_of (Create name size block_size) = None
-made_of (Snapshot volume part) = Some volume
-made_of (Clone snapshot name) = Some snapshot
-
-source_is : (change : Change) (name : List ℕ) → source_by change name ≡ cond (same (name_of change) name) (made_of change) (Some name)
-source_is (Create called size block_size) name = refl
-source_is (Snapshot volume part) name = refl
-source_is (Clone snapshot called) name = refl
-
 -- a change that takes effect makes one volume more, of what was there
-record Takes (group : ℕ) (pool : PlainPool) (change : Change) : Type 0 where
+record MakesOne (group : ℕ) (pool : PlainPool) (change : Change) : Type 0 where
   new : PlainVolume
   called : new.name ≡ name_of change
+  made : new.group ≡ group
   none : volume_at (name_of change) pool ≡ None
   is : changed group pool change ≡ with_volume new pool
-  from : HasBytesAt (made_of change) pool new.bytes
+  of : Option (List ℕ)
+  from : HasBytesAt of pool new.bytes
+  sources : (name : List ℕ) → source_by change name ≡ cond (same (name_of change) name) of (Some name)
 
-takes : (group : ℕ) (pool : PlainPool) (change : Change) → change_refusal change pool ≡ None → Takes group pool change
+-- or it makes none: what stands behind it stood there before it
+record MakesNone (group : ℕ) (pool : PlainPool) (change : Change) : Type 0 where
+  stood : (name : List ℕ) (volume : PlainVolume) → volume_at name (changed group pool change) ≡ Some volume → volume_at name pool ≡ Some volume
+  sources : (name : List ℕ) → source_by change name ≡ Some name
+
+takes : (group : ℕ) (pool : PlainPool) (change : Change) → change_refusal change pool ≡ None → MakesOne group pool change ⊎ MakesNone group pool change
 takes group pool (Create name size block_size) e =
-    let two = first_none _ _ _ (first_none _ _ _ e).1 in record {
+    let two = first_none _ _ _ (first_none _ _ _ e).1 in
+    inl (record {
       new = created group name size block_size;
       called = refl;
+      made = refl;
       none = none_of _ two.0;
       is = refl;
+      of = None;
       from = ap (λ n. replicate n 0) (sym (length-replicate {A = ℕ} size 0));
-    }
-takes group pool (Snapshot volume part) e = taken (volume_at volume pool) refl
+      sources = λ name. refl;
+    })
+takes group pool (Snapshot volume part) e = inl (taken (volume_at volume pool) refl)
   where
-    taken : (found : Option PlainVolume) → volume_at volume pool ≡ found → Takes group pool (Snapshot volume part)
+    taken : (found : Option PlainVolume) → volume_at volume pool ≡ found → MakesOne group pool (Snapshot volume part)
     taken None f = absurd (true≢false (sym (not_false _ (first_none _ _ _ (first_none _ _ _ e).1).0) ∙ ap is_volume f))
     taken (Some it) f =
         let two = first_none _ _ _ (first_none _ _ _ e).1 in
@@ -68,17 +68,20 @@ takes group pool (Snapshot volume part) e = taken (volume_at volume pool) refl
         let writable : is_snapshot it.kind ≡ false = not_true (is_snapshot it.kind) (sym (ap is_volume f) ∙ there) in record {
           new = snapshot_of group (snapshot_name volume part) it;
           called = refl;
+          made = refl;
           none = none_of _ (first_none _ _ _ two.1).0;
           is = ap (λ o. with_snapshot group (snapshot_name volume part) o pool) f ∙ ap (λ b. cond b pool (with_volume (snapshot_of group (snapshot_name volume part) it) pool)) writable;
+          of = Some volume;
           from = (it, f, refl);
+          sources = λ name. refl;
         }
       where
         not_true : (b : Bool) → not b ≡ true → b ≡ false
         not_true true g = absurd (true≢false (sym g))
         not_true false g = refl
-takes group pool (Clone snapshot name) e = cloned (volume_at snapshot pool) refl
+takes group pool (Clone snapshot name) e = inl (cloned (volume_at snapshot pool) refl)
   where
-    cloned : (found : Option PlainVolume) → volume_at snapshot pool ≡ found → Takes group pool (Clone snapshot name)
+    cloned : (found : Option PlainVolume) → volume_at snapshot pool ≡ found → MakesOne group pool (Clone snapshot name)
     cloned None f = absurd (true≢false (sym (not_false _ (first_none _ _ _ (first_none _ _ _ e).1).0) ∙ ap is_snapshot_there f))
     cloned (Some it) f =
         let two = first_none _ _ _ (first_none _ _ _ e).1 in
@@ -86,36 +89,52 @@ takes group pool (Clone snapshot name) e = cloned (volume_at snapshot pool) refl
         let taken : is_snapshot it.kind ≡ true = sym (ap is_snapshot_there f) ∙ there in record {
           new = clone_of group name it;
           called = refl;
+          made = refl;
           none = none_of _ (first_none _ _ _ two.1).0;
           is = ap (λ o. with_clone group name o pool) f ∙ ap (λ b. cond b (with_volume (clone_of group name it) pool) pool) taken;
+          of = Some snapshot;
           from = (it, f, refl);
+          sources = λ name. refl;
         }
+takes group pool (Destroy gone) e = inr (record { stood = left_behind pool gone; sources = λ name. refl })
+
+-- what stands behind it at the new name is the new volume, and at another name it stood there before
+behind_one : (group : ℕ) (pool : PlainPool) (change : Change) (t : MakesOne group pool change) (name : List ℕ) (volume : PlainVolume) → volume_at name (changed group pool change) ≡ Some volume
+    → ((same (name_of change) name ≡ true) × (t.new ≡ volume)) ⊎ ((same (name_of change) name ≡ false) × (volume_at name pool ≡ Some volume))
+behind_one group pool change t name volume e = cases (same (name_of change) name) refl
+  where
+    behind : volume_at name (with_volume t.new pool) ≡ Some volume
+    behind = ap (volume_at name) (sym t.is) ∙ e
+
+    cases : (b : Bool) → same (name_of change) name ≡ b → ((same (name_of change) name ≡ true) × (t.new ≡ volume)) ⊎ ((same (name_of change) name ≡ false) × (volume_at name pool ≡ Some volume))
+    cases true s =
+        let both : Some t.new ≡ Some volume = sym (new_name pool t.new name (ap (λ n. same n name) t.called ∙ s) (ap (λ n. volume_at n pool) (sym (same_is (name_of change) name s)) ∙ t.none)) ∙ behind in
+        inl (s, cc)
+    cases false s = inr (s, sym (other_name pool t.new name (ap (λ n. same n name) t.called ∙ s)) ∙ behind)
 
 -- the bytes of a name behind a change stood at its source before
 from_change : (group : ℕ) (pool : PlainPool) (change : Change) (source : Option (List ℕ)) (bytes : List ℕ) → change_refusal change pool ≡ None → HasBytesAt source (changed group pool change) bytes → HasBytesAt (source_in change source) pool bytes
 from_change group pool change None bytes e h = h
-from_change group pool change (Some name) bytes e h = subst (λ o. HasBytesAt o pool bytes) (sym (source_is change name)) (cases (same (name_of change) name) refl)
-  where
-    behind : volume_at name (with_volume (takes group pool change e).new pool) ≡ Some h.0
-    behind = ap (volume_at name) (sym (takes group pool change e).is) ∙ h.1
+from_change group pool change (Some name) bytes e h =
+    ⊎_elim
+    (λ (t : MakesOne group pool change). subst (λ o. HasBytesAt o pool bytes) (sym (t.sources name)) (⊎_elim
+    (λ new. subst (λ b. HasBytesAt (cond b t.of (Some name)) pool bytes) (sym new.0) (subst (HasBytesAt t.of pool) (ap (λ (v : PlainVolume). v.bytes) new.1 ∙ h.2) t.from))
+    (λ old. subst (λ b. HasBytesAt (cond b t.of (Some name)) pool bytes) (sym old.0) (h.0, old.1, h.2))
+    (behind_one group pool change t name h.0 h.1)))
+    (λ (t : MakesNone group pool change). subst (λ o. HasBytesAt o pool bytes) (sym (t.sources name)) (h.0, t.stood name h.0 h.1, h.2))
+    (takes group pool change e)
 
-    cases : (b : Bool) → same (name_of change) name ≡ b → HasBytesAt (cond b (made_of change) (Some name)) pool bytes
-    cases true s =
-        let t = takes group pool change e in
-        let both : Some t.new ≡ Some h.0 = sym (new_name pool t.new name (ap (λ n. same n name) t.called ∙ s) (ap (λ n. volume_at n pool) (sym (same_is (name_of change) name s)) ∙ t.none)) ∙ behind in
-        let is : t.new ≡ h.0 = cc in
-        subst (HasBytesAt (made_of change) pool) (ap (λ (v : PlainVolume). v.bytes) is ∙ h.2) t.from
-    cases false s =
-        let t = takes group pool change e in
-        (h.0, sym (other_name pool t.new name (ap (λ n. same n name) t.called ∙ s)) ∙ behind, h.2)
-
--- what was there before is its own source
-there_before : (pool : PlainPool) (change : Change) (name : List ℕ) (x : PlainVolume) → change_refusal change pool ≡ None → volume_at name pool ≡ Some x → source_by change name ≡ Some name
-there_before pool change name x e f = source_is change name ∙ cases (same (name_of change) name) refl
-  where
-    cases : (b : Bool) → same (name_of change) name ≡ b → cond b (made_of change) (Some name) ≡ Some name
-    cases true s = absurd (let differ : None ≡ Some x = sym (takes 0 pool change e).none ∙ (ap (λ n. volume_at n pool) (same_is (name_of change) name s) ∙ f) in cc)
-    cases false s = refl
+-- what another group made is its own source
+own_source : (group : ℕ) (pool : PlainPool) (change : Change) (name : List ℕ) (y : PlainVolume) → change_refusal change pool ≡ None → volume_at name (changed group pool change) ≡ Some y → y.group ≢ group
+    → (source_by change name ≡ Some name) × (volume_at name pool ≡ Some y)
+own_source group pool change name y e f apart =
+    ⊎_elim
+    (λ (t : MakesOne group pool change). ⊎_elim
+    (λ new. absurd (apart (sym (ap (λ (v : PlainVolume). v.group) new.1) ∙ t.made)))
+    (λ old. (t.sources name ∙ ap (λ b. cond b t.of (Some name)) old.0, old.1))
+    (behind_one group pool change t name y f))
+    (λ (t : MakesNone group pool change). (t.sources name, t.stood name y f))
+    (takes group pool change e)
 
 -- ---- the actions of a group
 
@@ -145,21 +164,15 @@ from_actions group pool [] source bytes effect h = h
 from_actions group pool (a ∷ actions) source bytes effect h =
     from_change group pool a.change (source_before actions source) bytes effect.0 (from_actions group (changed group pool a.change) actions source bytes effect.1 h)
 
-there_before_actions : (group : ℕ) (pool : PlainPool) (actions : List Action) (name : List ℕ) (x : PlainVolume) → TakeEffect group pool actions → volume_at name pool ≡ Some x → source_before actions (Some name) ≡ Some name
-there_before_actions group pool [] name x effect f = refl
-there_before_actions group pool (a ∷ actions) name x effect f =
-    ap (source_in a.change) (there_before_actions group (changed group pool a.change) actions name x effect.1 (found_changes group pool (a ∷ []) name x f)) ∙ there_before pool a.change name x effect.0 f
+own_source_actions : (group : ℕ) (pool : PlainPool) (actions : List Action) (name : List ℕ) (y : PlainVolume) → TakeEffect group pool actions → volume_at name (changes group pool actions) ≡ Some y → y.group ≢ group
+    → (source_before actions (Some name) ≡ Some name) × (volume_at name pool ≡ Some y)
+own_source_actions group pool [] name y effect f apart = (refl, f)
+own_source_actions group pool (a ∷ actions) name y effect f apart =
+    let rest = own_source_actions group (changed group pool a.change) actions name y effect.1 f apart in
+    let first = own_source group pool a.change name y effect.0 rest.1 apart in
+    (ap (source_in a.change) rest.0 ∙ first.0, first.1)
 
 -- ---- a group
-
--- what stands behind writes stood before them
-under_writes : (name : List ℕ) (pool : PlainPool) (writes : List Write) (z : PlainVolume) → volume_at name (fold written pool writes) ≡ Some z
-    → (volume : PlainVolume) × (volume_at name pool ≡ Some volume) × (after_writes volume writes ≡ z)
-under_writes name pool writes z e = cases (volume_at name pool) refl
-  where
-    cases : (o : Option PlainVolume) → volume_at name pool ≡ o → (volume : PlainVolume) × (volume_at name pool ≡ Some volume) × (after_writes volume writes ≡ z)
-    cases None f = absurd (let differ : None ≡ Some z = sym (volume_at_writes name pool writes ∙ ap (option_map (λ v. after_writes v writes)) f) ∙ e in cc)
-    cases (Some x) f = let both : Some (after_writes x writes) ≡ Some z = sym (found_written name pool writes x f) ∙ e in (x, f, cc)
 
 -- the volume at a source lies under the group's writes to it; where it is nowhere zeros do
 abbrev pub LiesUnder : Option (List ℕ) → PlainPool → Entry → List ℕ → Type 0
@@ -193,9 +206,12 @@ pub group_stands : (group : ℕ) (pool : PlainPool) (entry : Entry) (source : Op
 group_stands group pool entry source size effect h =
     under_stands (source_before entry.actions source) pool entry _ size (stands_with source (applied group pool entry) size h).1 (from_group group pool entry source size effect h)
 
-there_before_group : (group : ℕ) (pool : PlainPool) (entry : Entry) (name : List ℕ) (x : PlainVolume) → GroupTakesEffect group pool entry → volume_at name pool ≡ Some x → source_before entry.actions (Some name) ≡ Some name
-there_before_group group pool entry name x effect f =
-    there_before_actions group (fold written pool entry.writes) entry.actions name (after_writes x entry.writes) effect (found_written name pool entry.writes x f)
+own_source_group : (group : ℕ) (pool : PlainPool) (entry : Entry) (name : List ℕ) (y : PlainVolume) → GroupTakesEffect group pool entry → volume_at name (applied group pool entry) ≡ Some y → y.group ≢ group
+    → (source_before entry.actions (Some name) ≡ Some name) × (x : PlainVolume) × (volume_at name pool ≡ Some x) × (x.group ≡ y.group)
+own_source_group group pool entry name y effect f apart =
+    let own = own_source_actions group (fold written pool entry.writes) entry.actions name y effect f apart in
+    let was = under_writes name pool entry.writes y own.1 in
+    (own.0, was.0, was.1, sym (ap (λ (s : VolumeShape). s.group) (shape_after_writes was.0 entry.writes)) ∙ ap (λ (v : PlainVolume). v.group) was.2)
 
 -- ---- the groups behind a base one
 
@@ -231,19 +247,14 @@ groups_stand c n pool ledger source size effects le =
     (λ k low rest s h. subst (λ o. StandsThere o pool size) (sym (from_above c k ledger s low))
     (rest (source_before (ledger (suc k)).actions s) (group_stands (suc k) (upto c pool ledger k) (ledger (suc k)) s size (effects k low) (subst (λ (p : PlainPool). StandsThere s p size) (upto_above c k pool ledger low) h)))) source
 
--- what is there in the base pool is its own source
-pub there_at_base : (c n : ℕ) (pool : PlainPool) (ledger : Ledger) (name : List ℕ) (x : PlainVolume) → AllTakeEffect c pool ledger → c ≤ n → volume_at name pool ≡ Some x → source_from c ledger n (Some name) ≡ Some name
-there_at_base c n pool ledger name x effects le f = (up There c n le start further).0
+-- what was made by the base group or an earlier one is its own source
+pub own_at_base : (c n : ℕ) (pool : PlainPool) (ledger : Ledger) (name : List ℕ) (y : PlainVolume) → AllTakeEffect c pool ledger → c ≤ n → volume_at name (upto c pool ledger n) ≡ Some y → y.group ≤ c → source_from c ledger n (Some name) ≡ Some name
+own_at_base c n pool ledger name y effects le f old = up IsOwn c n le (λ z g low. from_base c ledger (Some name)) further y f old
   where
-    There : ℕ → Type 0
-    There k = (source_from c ledger k (Some name) ≡ Some name) × (y : PlainVolume) × (volume_at name (upto c pool ledger k) ≡ Some y)
+    IsOwn : ℕ → Type 0
+    IsOwn k = (z : PlainVolume) → volume_at name (upto c pool ledger k) ≡ Some z → z.group ≤ c → source_from c ledger k (Some name) ≡ Some name
 
-    start : There c
-    start = (from_base c ledger (Some name), x, ap (volume_at name) (upto_base c pool ledger) ∙ f)
-
-    further : (k : ℕ) → c ≤ k → There k → There (suc k)
-    further k low h = (
-      from_above c k ledger (Some name) low ∙ (ap (source_from c ledger k) (there_before_group (suc k) (upto c pool ledger k) (ledger (suc k)) name h.1 (effects k low) h.2) ∙ h.0),
-      after_writes h.1 (ledger (suc k)).writes,
-      ap (volume_at name) (upto_above c k pool ledger low) ∙ applied_found (suc k) (upto c pool ledger k) (ledger (suc k)) name h.1 h.2,
-    )
+    further : (k : ℕ) → c ≤ k → IsOwn k → IsOwn (suc k)
+    further k low rest z g old =
+        let own = own_source_group (suc k) (upto c pool ledger k) (ledger (suc k)) name z (effects k low) (sym (ap (volume_at name) (upto_above c k pool ledger low)) ∙ g) (λ e. absurd (omega arith)) in
+        from_above c k ledger (Some name) low ∙ (ap (source_from c ledger k) own.0 ∙ rest own.1 own.2 (let same = own.3 in omega arith))

@@ -6,3 +6,4 @@ pub mod Overlay
 pub mod Sources
 pub mod Effects
 pub mod Covering
+pub mod Parting

@@ -1,9 +1,10 @@
 -- What is known of a pool's volumes without their bytes.
-use Rattle.std.specs.Prelude.{◌≡◌, ℕ, List, length, Option, Some, None, if◌then◌else◌}
+use Rattle.std.specs.Prelude.{◌≡◌, ℕ, List, length, map, replicate, Option, Some, None, if◌then◌else◌}
 use Rattle.std.specs.Option.{option_map}
 use Rattle.pool_model.specs.declared.volume.PlainVolume.{PlainVolume}
 use Rattle.pool_model.specs.declared.volume.VolumeKind.TheVariants.{Snapshot, Volume}
 use Rattle.pool_model.specs.Pools.{PlainPool, is_snapshot, volume_at}
+use Rattle.volume_rules.specs.declared.shape.VolumeEntry.{VolumeEntry}
 use Rattle.volume_rules.specs.declared.shape.VolumeShape.{VolumeShape}
 
 abbrev pub shape_of : PlainVolume → VolumeShape
@@ -13,9 +14,21 @@ shape_of volume = record { size = length volume.bytes; block_size = volume.block
 abbrev pub shape_at : List ℕ → PlainPool → Option VolumeShape
 shape_at name pool = option_map shape_of (volume_at name pool)
 
--- the same names, and at each the same shape
-abbrev pub HaveSameShapes : PlainPool → PlainPool → Type 0
-HaveSameShapes pool other = (name : List ℕ) → shape_at name pool ≡ shape_at name other
+-- its shape, and of a clone the name of its snapshot
+abbrev pub entry_of : PlainVolume → VolumeEntry
+entry_of volume = record { shape = shape_of volume; origin = volume.origin }
+
+-- the entry of the volume of that name
+abbrev pub entry_at : List ℕ → PlainPool → Option VolumeEntry
+entry_at name pool = option_map entry_of (volume_at name pool)
+
+-- a volume but for what its bytes are
+abbrev pub outline : PlainVolume → PlainVolume
+outline volume = record volume { bytes = replicate (length volume.bytes) 0 }
+
+-- the same volumes in the same order, but for what their bytes are
+pub record HaveSameShapes (pool other : PlainPool) : Type 0 where
+  pub outlines : map outline pool.volumes ≡ map outline other.volumes
 
 -- the shape of a snapshot that a group takes: that of the volume, where there is one and it is no snapshot
 abbrev pub taken_shape : ℕ → Option VolumeShape → Option VolumeShape

@@ -2,7 +2,7 @@
 use Rattle.std.specs.Prelude.{ℕ, zero, suc, List, [], ◌∷◌, Option, Some, None, nat_le, if◌then◌else◌}
 use Rattle.pool_model.specs.declared.item.Action.{Action}
 use Rattle.pool_model.specs.declared.item.Change.{Change}
-use Rattle.pool_model.specs.declared.item.Change.TheVariants.{Clone, Create, Snapshot}
+use Rattle.pool_model.specs.declared.item.Change.TheVariants.{Clone, Create, Destroy, Snapshot}
 use Rattle.pool_model.specs.Names.{same, snapshot_name}
 use Rattle.pool_model.specs.Pools.{Ledger, PlainPool, upto, volume_at}
 use Rattle.pool_model.specs.declared.volume.PlainVolume.{PlainVolume}
@@ -13,6 +13,7 @@ abbrev pub source_by : Change → List ℕ → Option (List ℕ)
 source_by (Create called size block_size) name = if same called name then None else Some name
 source_by (Snapshot volume part) name = if same (snapshot_name volume part) name then Some volume else Some name
 source_by (Clone snapshot called) name = if same called name then Some snapshot else Some name
+source_by (Destroy gone) name = Some name
 
 abbrev pub source_in : Change → Option (List ℕ) → Option (List ℕ)
 source_in change None = None

@@ -4,10 +4,11 @@ ghost use Rattle.std.specs.List.{list_all, position};
 ghost use Rattle.std.specs.Option.{option_map};
 ghost use Rattle.pool_model.specs.declared.volume.PlainVolume.{PlainVolume};
 ghost use Rattle.pool_model.specs.declared.volume.VolumeKind.TheVariants.{Snapshot};
-ghost use Rattle.pool_model.specs.Names.{is_name_letter, is_name, is_name_for, is_block_size, name_of, volume_of};
+ghost use Rattle.pool_model.specs.Names.{is_name_letter, is_name, is_name_for, is_whole_name, is_block_size, name_of, volume_of};
 ghost use Rattle.pool_model.specs.Pools.{PlainPool};
 ghost use Rattle.pool_model.specs.Refusals.{first_cause, is_aligned, is_in_range, is_snapshot_there, is_volume, place_refusal, change_refusal, read_refusal};
 ghost use Rattle.volume_rules.specs.GoodChanges.{is_good_size, is_good_change, MakesGoodVolumes};
+ghost use Rattle.volume_rules.specs.Index.{dependents_of};
 ghost use Rattle.volume_rules.specs.Shapes.{shape_of, shape_at};
 
 use crate::shape::VolumeShape;
@@ -69,7 +70,8 @@ pub fn is_good_shape(size: u64, block_size: u64) -> bool
         && size <= LARGEST_VOLUME
 }
 
-/// Whether a volume may be made so, with such a name and of such a size or of such a snapshot, or a snapshot be taken so.
+/// Whether a volume may be made so, with such a name and of such a size or of such a snapshot, or a snapshot be taken so; and whether
+/// what is destroyed may have such a name.
 pub fn is_good_change(change: &Change) -> bool
     ensures { result ≡ is_good_change change.now }
 {
@@ -82,6 +84,18 @@ pub fn is_good_change(change: &Change) -> bool
         Change::Snapshot { volume, part } => is_good_name(volume) && is_good_name(part),
         Change::Clone { snapshot, name } => is_good_name_of_snapshot(snapshot)
             && is_good_name(name),
+        Change::Destroy { name } => is_good_whole_name(name),
+    }
+}
+
+/// Whether it may be the name of a volume, or the whole name of a snapshot.
+fn is_good_whole_name(name: &Name) -> bool
+    ensures { result ≡ is_whole_name name.now }
+{
+    let letters = name.as_slice();
+    match first_at_sign(letters) {
+        Some(end) => are_good_letters(&letters[..end]) && are_good_letters(&letters[end + 1..]),
+        None => are_good_letters(letters),
     }
 }
 
@@ -102,7 +116,7 @@ fn first_at_sign(letters: &[u8]) -> Option<usize>
     letters.iter().position(|c| *c == b'@')
 }
 
-/// Whether each volume and snapshot that a group makes may be made.
+/// Whether each change of a group is a good one.
 pub fn makes_good_volumes(items: &Pending) -> bool
     ensures { IsTrue result ↔ MakesGoodVolumes items.now }
 {
@@ -149,14 +163,24 @@ pub fn against_write(write: &Write, group: u64, found: Option<VolumeShape>) -> O
     None
 }
 
-/// Why a change is refused, by the shape of the volume that it is of and of the one that has the name that it makes.
+/// What hinders a destroy: whether snapshots of a volume are there, and whether clones of a snapshot are.
+#[derive(Clone, Copy, Debug, PartialEq, Eq, Drop)]
+pub struct Dependents {
+    pub snapshots: bool,
+    pub clones: bool,
+}
+
+/// Why a change is refused, by the shape of the volume that it is of and of the one that has the name that it makes, and by what hinders a
+/// destroy.
 pub fn against_change(
     change: &Change,
     volume: Option<VolumeShape>,
     found: Option<VolumeShape>,
+    dependents: Dependents,
 ) -> Option<Refusal>
     ensures { (pool : PlainPool) → volume ≡ shape_at (volume_of change.now) pool →
-        found ≡ shape_at (name_of change.now) pool → result ≡ change_refusal change.now pool }
+        found ≡ shape_at (name_of change.now) pool → dependents ≡ dependents_of change.now pool →
+        result ≡ change_refusal change.now pool }
 {
     match change {
         Change::Create {
@@ -180,7 +204,29 @@ pub fn against_change(
         }
         Change::Snapshot { part, .. } => against_new_name(part, is_volume(volume), found),
         Change::Clone { name, .. } => against_new_name(name, is_snapshot(volume), found),
+        Change::Destroy { name } => against_destroy(name, volume.is_some(), dependents),
     }
+}
+
+/// Why a destroy is refused: by the name that is given, by whether it is there, and by what hinders it.
+fn against_destroy(name: &Name, is_there: bool, dependents: Dependents) -> Option<Refusal>
+    ensures { result ≡ first_cause ((not (is_whole_name name.now), Refusal.BadName)
+        ∷ (not is_there, Refusal.NoSuchName) ∷ (dependents.snapshots, Refusal.HasSnapshots)
+        ∷ (dependents.clones, Refusal.HasClones) ∷ []) }
+{
+    if !is_good_whole_name(name) {
+        return Some(Refusal::BadName);
+    }
+    if !is_there {
+        return Some(Refusal::NoSuchName);
+    }
+    if dependents.snapshots {
+        return Some(Refusal::HasSnapshots);
+    }
+    if dependents.clones {
+        return Some(Refusal::HasClones);
+    }
+    None
 }
 
 /// Why a snapshot or a clone is refused: by the name that is given, by whether what it is of is there, and by what has its name.

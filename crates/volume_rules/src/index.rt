@@ -1,43 +1,54 @@
 //! The names of a pool.
 ghost use Rattle.std.specs.Prelude.{◌≡◌, ◌↔◌, ℕ, None, OnOk, IfOk, fold};
+ghost use Rattle.pool_model.specs.Names.{same, volume_part};
+ghost use Rattle.volume_rules.specs.Index.{origin_by};
 
-use crate::causes::against_change;
-use crate::shape::VolumeShape;
+use crate::causes::{Dependents, against_change};
+use crate::shape::{VolumeEntry, VolumeShape};
 use pool_model::{Action, Change, Name, Refusal, VolumeKind};
 use std::alloc::{AllocError, Global};
 use std::collections::HashMap;
 use txg_pipeline::Pending;
 
-/// A name that a change makes, and the shape of what stands there.
+/// A name that a change makes, and what stands there.
 #[derive(Debug, Drop)]
 pub struct NewName {
     pub name: Name,
-    pub shape: VolumeShape,
+    pub entry: VolumeEntry,
 }
 
-/// For each name of a pool, the shape of the volume.
+/// What a change does to the names of a pool.
+#[derive(Debug, Drop)]
+pub enum NameChange {
+    Nothing,
+    Added(NewName),
+    Removed(Name),
+}
+
+/// For each name of a pool, the shape of the volume, and of a clone the name of its snapshot.
 ///
 /// A name is added in two calls, so that what is accepted is also known: first `reserve`, which may fail, and then, once
-/// the group has accepted the change, `add`, which takes no memory.
+/// the group has accepted the change, `make`, which takes no memory.
 #[derive(Debug, Drop)]
 pub struct NameIndex {
-    shapes: HashMap<Vec<u8>, VolumeShape>,
+    entries: HashMap<Vec<u8>, VolumeEntry>,
 }
 
 impl NameIndex {
     ghost use Rattle.pool_model.specs.declared.item.Change.{Change as ChangeValue};
     ghost use Rattle.pool_model.specs.declared.volume.PlainVolume.{PlainVolume};
     ghost use Rattle.pool_model.specs.Refusals.{change_refusal};
-    ghost use Rattle.pool_model.specs.Pools.{PlainPool, no_volumes, volume_at, with_volume, applied, changed};
-    ghost use Rattle.volume_rules.specs.Shapes.{shape_of, shape_at};
-    ghost use Rattle.volume_rules.specs.Index.{HasRoom, Knows, MakesName, MakesShape};
+    ghost use Rattle.pool_model.specs.Pools.{PlainPool, no_volumes, volume_at, with_volume, without, applied, changed, has_snapshots, has_clones};
+    ghost use Rattle.volume_rules.specs.Shapes.{shape_at};
+    ghost use Rattle.pool_model.specs.declared.item.Change.TheVariants.{Destroy};
+    ghost use Rattle.volume_rules.specs.Index.{HasRoom, IsNameChange, IsNameOf, Knows, MakesShape, dependents_of, with_origin};
 
     /// The index of a pool with no volume.
     pub fn new(alloc: Global) -> NameIndex
         ensures { Knows result no_volumes }
     {
         NameIndex {
-            shapes: HashMap::new(alloc),
+            entries: HashMap::new(alloc),
         }
     }
 
@@ -45,15 +56,51 @@ impl NameIndex {
     pub fn find(&self, name: &Name) -> Option<VolumeShape>
         ensures { (pool : PlainPool) → Knows self.now pool → result ≡ shape_at name.now pool }
     {
-        self.shapes.get(name.as_slice()).copied()
+        let entry = self.entries.get(name.as_slice())?;
+        Some(entry.shape)
     }
 
-    /// The same names and shapes once more.
+    /// Whether snapshots of the volume of that name are there. It looks through all names.
+    fn has_snapshots(&self, name: &Name) -> bool
+        ensures { (pool : PlainPool) → Knows self.now pool → result ≡ has_snapshots name.now pool }
+    {
+        self.entries.iter().any(|(key, entry)| {
+            entry.shape.kind.is_snapshot() && is_part_of_volume(name, key.as_slice())
+        })
+    }
+
+    /// Whether clones of the snapshot of that name are there. It looks through all names.
+    fn has_clones(&self, name: &Name) -> bool
+        ensures { (pool : PlainPool) → Knows self.now pool → result ≡ has_clones name.now pool }
+    {
+        self.entries
+            .iter()
+            .any(|(_, entry)| entry.is_clone_of(name))
+    }
+
+    /// What hinders a change, if it is a destroy.
+    fn dependents(&self, change: &Change) -> Dependents
+        ensures { (pool : PlainPool) → Knows self.now pool →
+            result ≡ dependents_of change.now pool }
+    {
+        match change {
+            Change::Destroy { name } => Dependents {
+                snapshots: self.has_snapshots(name),
+                clones: self.has_clones(name),
+            },
+            _ => Dependents {
+                snapshots: false,
+                clones: false,
+            },
+        }
+    }
+
+    /// The same names once more.
     pub fn copied(&self) -> Result<NameIndex, AllocError>
         ensures { IfOk result (λ copy. (pool : PlainPool) → Knows self.now pool ↔ Knows copy pool) }
     {
         Ok(NameIndex {
-            shapes: self.shapes.clone()?,
+            entries: self.entries.clone()?,
         })
     }
 
@@ -62,49 +109,85 @@ impl NameIndex {
         ensures room { OnOk result (HasRoom self.new) }
         ensures same { (pool : PlainPool) → Knows self.old pool ↔ Knows self.new pool }
     {
-        self.shapes.try_reserve(1)
+        self.entries.try_reserve(1)
     }
 
     /// Adds the name of a new volume, for which there is room.
-    pub fn add(&mut self, name: Name, shape: VolumeShape)
+    pub fn add(&mut self, new: NewName)
         requires { HasRoom self.old }
         ensures { (pool : PlainPool) (volume : PlainVolume) → Knows self.old pool →
-            volume_at name pool ≡ None → volume.name ≡ name → shape_of volume ≡ shape →
+            volume_at new.name pool ≡ None → IsNameOf new volume →
             Knows self.new (with_volume volume pool) }
     {
-        let _ = self.shapes.insert(name.into_vec(), shape);
+        let _ = self.entries.insert(new.name.into_vec(), new.entry);
     }
 
-    /// Adds what a change makes, for which there is room.
-    pub fn add_new(&mut self, new: Option<NewName>)
-        requires { HasRoom self.old }
-        ensures { (group : ℕ) (pool : PlainPool) (change : ChangeValue) → Knows self.old pool →
-            MakesName group pool change new → Knows self.new (changed group pool change) }
+    /// Takes a name away.
+    pub fn remove(&mut self, name: &Name)
+        ensures { (pool : PlainPool) → Knows self.old pool → Knows self.new (without name.now pool) }
     {
-        if let Some(new) = new {
-            self.add(new.name, new.shape);
+        let _ = self.entries.remove(name.as_slice());
+    }
+
+    /// The volume of that name, if there is one, is a clone of this snapshot.
+    pub fn set_origin(&mut self, name: &Name, origin: Name)
+        ensures { (pool : PlainPool) → Knows self.old pool →
+            Knows self.new (with_origin name.now origin pool) }
+    {
+        if let Some(entry) = self.entries.get_mut(name.as_slice()) {
+            entry.origin = Some(origin);
         }
     }
 
-    /// What a change makes in this group: nothing where its name is there already, or where there is no volume that a snapshot
-    /// could be taken of, or no snapshot that a clone could be made of.
-    pub fn made_by(
+    /// Does what a change does to the names. For a new name there is room.
+    pub fn make(&mut self, change: NameChange)
+        requires { HasRoom self.old }
+        ensures { (group : ℕ) (pool : PlainPool) (by : ChangeValue) → Knows self.old pool →
+            IsNameChange group pool by change → Knows self.new (changed group pool by) }
+    {
+        match change {
+            NameChange::Nothing => {}
+            NameChange::Added(new) => self.add(new),
+            NameChange::Removed(name) => self.remove(&name),
+        }
+    }
+
+    /// What a change does to the names in this group. A change that would be refused may do nothing: where its name is there already,
+    /// where there is no volume that a snapshot could be taken of, or no snapshot that a clone could be made of; and what has
+    /// snapshots or clones is not destroyed.
+    pub fn change_by(
         &self,
         alloc: Global,
         group: u64,
         change: &Change,
-    ) -> Result<Option<NewName>, AllocError>
-        ensures { IfOk result (λ new. (pool : PlainPool) → Knows self.now pool →
-            MakesName group pool change.now new) }
+    ) -> Result<NameChange, AllocError>
+        ensures { IfOk result (λ made. (pool : PlainPool) → Knows self.now pool →
+            IsNameChange group pool change.now made) }
     {
+        if let Change::Destroy { name } = change {
+            return self.removed_by(alloc, name);
+        }
         let name = change.name(alloc)?;
         if self.find(&name).is_some() {
-            return Ok(None);
+            return Ok(NameChange::Nothing);
         }
         let Some(shape) = self.shape_by(group, change) else {
-            return Ok(None);
+            return Ok(NameChange::Nothing);
         };
-        Ok(Some(NewName { name, shape }))
+        let origin = origin_by(alloc, change)?;
+        let entry = VolumeEntry { shape, origin };
+        Ok(NameChange::Added(NewName { name, entry }))
+    }
+
+    /// What a destroy of that name does to the names.
+    fn removed_by(&self, alloc: Global, name: &Name) -> Result<NameChange, AllocError>
+        ensures { IfOk result (λ made. (group : ℕ) (pool : PlainPool) → Knows self.now pool →
+            IsNameChange group pool (Destroy name.now) made) }
+    {
+        if self.has_snapshots(name) || self.has_clones(name) {
+            return Ok(NameChange::Nothing);
+        }
+        Ok(NameChange::Removed(name.copied(alloc)?))
     }
 
     /// The shape of what a change would make in this group.
@@ -145,6 +228,7 @@ impl NameIndex {
                     ..found
                 })
             }
+            Change::Destroy { .. } => None,
         }
     }
 
@@ -154,7 +238,8 @@ impl NameIndex {
             cause ≡ change_refusal change.now pool) }
     {
         let name = change.name(alloc)?;
-        Ok(against_change(change, self.find(change.volume()), self.find(&name)))
+        let volume = self.find(change.volume());
+        Ok(against_change(change, volume, self.find(&name), self.dependents(change)))
     }
 
     /// The index after the items of a group. This one stays as it is.
@@ -172,25 +257,43 @@ impl NameIndex {
         Ok(after)
     }
 
-    /// Adds the names that these actions make.
+    /// Does what these actions do to the names.
     fn make_all(&mut self, alloc: Global, group: u64, actions: &[Action]) -> Result<(), AllocError>
         ensures { OnOk result ((pool : PlainPool) → Knows self.old pool
             → Knows self.new (fold (λ p a. changed group p a.change) pool actions.now)) }
     {
         for action in actions {
-            self.make(alloc, group, &action.change)?;
+            self.make_one(alloc, group, &action.change)?;
         }
         Ok(())
     }
 
-    /// Adds the name that a change makes, if it makes one.
-    fn make(&mut self, alloc: Global, group: u64, change: &Change) -> Result<(), AllocError>
+    /// Does what a change does to the names.
+    fn make_one(&mut self, alloc: Global, group: u64, change: &Change) -> Result<(), AllocError>
         ensures { OnOk result ((pool : PlainPool) → Knows self.old pool
             → Knows self.new (changed group pool change.now)) }
     {
-        let new = self.made_by(alloc, group, change)?;
+        let made = self.change_by(alloc, group, change)?;
         self.reserve()?;
-        self.add_new(new);
+        self.make(made);
         Ok(())
     }
+}
+
+/// Of a clone that a change makes the name of its snapshot.
+fn origin_by(alloc: Global, change: &Change) -> Result<Option<Name>, AllocError>
+    ensures { IfOk result (λ origin. origin ≡ origin_by change.now) }
+{
+    match change {
+        Change::Clone { snapshot, .. } => Ok(Some(snapshot.copied(alloc)?)),
+        _ => Ok(None),
+    }
+}
+
+/// Whether what has this name is, if it is a snapshot, one of the volume of that name.
+pub fn is_part_of_volume(volume: &Name, name: &[u8]) -> bool
+    ensures { result ≡ same (volume_part name.now) volume.now }
+{
+    let end = name.iter().position(|c| *c == b'@').unwrap_or(name.len());
+    &name[..end] == volume.as_slice()
 }

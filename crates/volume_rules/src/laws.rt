@@ -94,7 +94,8 @@ pub fn creation_groups_tell_what_is_committed()
     ensures committed { (v : View) (name : List ℕ) (volume : PlainVolume) → GroupsAreBelow v →
         volume_at name (now_of v) ≡ Some volume →
         (volume.group ≤ v.committed) ↔ IsCommitted v name volume }
-    ensures bytes { (v : View) (name : List ℕ) (volume base : PlainVolume) → PendingTakeEffect v →
+    ensures bytes { (v : View) (name : List ℕ) (volume base : PlainVolume) → GroupsAreBelow v →
+        PendingTakeEffect v → volume_at name (now_of v) ≡ Some volume → volume.group ≤ v.committed →
         volume_at name (v.pools v.committed) ≡ Some base → base_of v name volume ≡ base.bytes }
     ensures stands { (v : View) (name : List ℕ) (volume : PlainVolume) → PendingTakeEffect v →
         volume_at name (now_of v) ≡ Some volume →

@@ -16,6 +16,7 @@ use Rattle.pool_model.specs.Pools.{PlainPool, applied, no_volumes}
 use Rattle.pool_model.specs.Pools.{changed as pool_changed}
 use Rattle.vdev_label.specs.Plain.{config_view}
 use Rattle.volume.proofs.Made.{no_objects}
+use Rattle.volume_rules.specs.Parting.{with_made}
 use Rattle.dataset_snapshots.specs.Demands.{HasRootPlaces, IsRootRefused}
 use Rattle.dataset_snapshots.specs.FirstGroup.{AreFirstVolumes, empty_meta}
 use Rattle.dataset_snapshots.proofs.FirstMaps.{first_of_others, first_value, unused_still}
@@ -27,12 +28,12 @@ use Rattle.dataset_snapshots.proofs.first_root.first_group.Goals as goal
 pub returns-in_err-datasets-clause-known : goal.returns-in_err-datasets-clause-known
 returns-in_err-datasets-clause-known g c =
     passed_on _ _ _ c.from_residual.ensures.1 (λ stored planned plans unused honest good.
-    c.in_err-datasets.ensures.known stored planned plans honest (subst AreGoodChanges (sym c.actions.ensures) good))
+    c.in_err-datasets.ensures.known stored planned plans honest (subst AreGoodChanges (sym c.made.ensures) good))
 
 pub returns-in_err-datasets-clause-refused : goal.returns-in_err-datasets-clause-refused
 returns-in_err-datasets-clause-refused g c =
     passed_on _ _ _ c.from_residual.ensures.1
-    (first_volumes_refused c.args.store.now c.first_volumes.new.store c.args.group (config_view c.args.config.now) c.args.items.now c.actions.result.now _ c.actions.ensures
+    (first_volumes_refused c.args.store.now c.first_volumes.new.store c.args.group (config_view c.args.config.now) (with_made c.args.items.now c.args.parted.now) c.made.result.now _ c.made.ensures
     c.in_err-datasets.ensures.refused)
 
 pub returns-in_err-directory-clause-known : goal.returns-in_err-directory-clause-known
@@ -43,10 +44,10 @@ returns-in_err-directory-clause-known g c =
 
 pub returns-in_err-directory-clause-refused : goal.returns-in_err-directory-clause-refused
 returns-in_err-directory-clause-refused g c =
-    let volumes = subst (λ (actions : List Action). AreFirstVolumes c.args.store.now c.first_volumes.new.store c.args.group actions c.in_ok-datasets.datasets) c.actions.ensures
+    let volumes = subst (λ (actions : List Action). AreFirstVolumes c.args.store.now c.first_volumes.new.store c.args.group actions c.in_ok-datasets.datasets) c.made.ensures
     c.in_ok-datasets.ensures.places in
     passed_on _ _ _ c.from_residual-in_err-directory.ensures.1
-    (first_datasets_refused c.args.store.now c.first_volumes.new.store c.args.group (config_view c.args.config.now) c.args.items.now c.in_ok-datasets.datasets _ c.in_ok-datasets.ensures.steps volumes
+    (first_datasets_refused c.args.store.now c.first_volumes.new.store c.args.group (config_view c.args.config.now) (with_made c.args.items.now c.args.parted.now) c.in_ok-datasets.datasets _ c.in_ok-datasets.ensures.steps volumes
     c.in_err-directory.ensures.refused)
 
 pub returns-in_err-changes-clause-steps : goal.returns-in_err-changes-clause-steps
@@ -59,7 +60,7 @@ returns-in_err-changes-clause-known g c =
     let steps = c.in_ok-datasets.ensures.steps in
     let volumes = c.in_ok-datasets.ensures.value stored planned plans
     (true_before c.args.store.now c.first_volumes.new.store c.first_maps.new.store c.in_err-changes.ensures.reads.reads honest) in
-    let pool = fold (λ p a. pool_changed c.args.group p a.change) no_volumes c.actions.result.now in
+    let pool = fold (λ p a. pool_changed c.args.group p a.change) no_volumes c.made.result.now in
     inl (c.in_err-changes.ensures.known
     (first_of_others (config_view c.args.config.now) c.in_ok-datasets.datasets made.changes.items c.in_ok-directory.ensures.tables made.next
     c.in_ok-directory.ensures.next volumes.0 c.args.group volumes.3 volumes.4 pool volumes.5)
@@ -69,11 +70,11 @@ returns-in_err-changes-clause-known g c =
 pub returns-in_err-changes-clause-refused : goal.returns-in_err-changes-clause-refused
 returns-in_err-changes-clause-refused g c =
     let made = c.in_ok-directory.field-0 in
-    let volumes = subst (λ (actions : List Action). AreFirstVolumes c.args.store.now c.first_volumes.new.store c.args.group actions c.in_ok-datasets.datasets) c.actions.ensures
+    let volumes = subst (λ (actions : List Action). AreFirstVolumes c.args.store.now c.first_volumes.new.store c.args.group actions c.in_ok-datasets.datasets) c.made.ensures
     c.in_ok-datasets.ensures.places in
     IfErr-weaker c.from_residual-in_err-changes.result _ _
     (λ refusal why.
-    first_maps_refused c.args.store.now c.first_volumes.new.store c.args.group (config_view c.args.config.now) c.args.items.now c.in_ok-datasets.datasets made.changes.items made.next
+    first_maps_refused c.args.store.now c.first_volumes.new.store c.args.group (config_view c.args.config.now) (with_made c.args.items.now c.args.parted.now) c.in_ok-datasets.datasets made.changes.items made.next
     c.in_ok-datasets.ensures.steps volumes c.in_ok-directory.ensures.tables c.in_ok-directory.ensures.next_is c.first_maps.new.store refusal why)
     (passed_on _ _ _ c.from_residual-in_err-changes.ensures.1 c.in_err-changes.ensures.refused)
 
@@ -104,10 +105,10 @@ returns-clause-value g c = λ stored planned plans unused honest.
     let later_honest = true_after first second last steps.reads honest in
     let volumes = c.in_ok-datasets.ensures.value stored planned plans (true_before first second last behind.reads honest) in
     let spells = subst (λ (pool : PlainPool). SpellsGroup volumes.0 c.args.group nothing datasets volumes.3 volumes.4 pool)
-    (pool_first c.args.group c.args.items.now c.actions.result.now c.actions.ensures) volumes.5 in
+    (pool_first c.args.group (with_made c.args.items.now c.args.parted.now) c.made.result.now c.made.ensures) volumes.5 in
     let maps = c.in_ok-changes.ensures.value
     (first_of_others (config_view c.args.config.now) datasets made.changes.items c.in_ok-directory.ensures.tables made.next
-    c.in_ok-directory.ensures.next volumes.0 c.args.group volumes.3 volumes.4 (applied c.args.group no_volumes c.args.items.now) spells)
+    c.in_ok-directory.ensures.next volumes.0 c.args.group volumes.3 volumes.4 (applied c.args.group no_volumes (with_made c.args.items.now c.args.parted.now)) spells)
     (unused_still first second steps unused) (true_before second third last c.in_ok-root.ensures.steps.reads later_honest) in
     let planned_root = c.in_ok-root.ensures.value stored volumes.0 0 nothing [] (λ number. []) (reads.plans stored volumes.0 volumes.1) (no_objects stored 0 empty_meta refl) (omega arith)
     (true_after second third last reads.reads later_honest) in
@@ -117,7 +118,7 @@ returns-clause-value g c = λ stored planned plans unused honest.
     let places = subst (λ (cs : List ObjectChange). HasRootPlaces third last empty_meta c.args.group cs) c.deref.ensures.value c.in_ok-root.ensures.places in
     let same = subst (λ spaces. AreSameBefore spaces last.spaces) (ap (λ (s : Store). s.spaces) reads.rest) (root_places_same third last empty_meta c.args.group whole places) in
     let is = first_value planned volumes.0 planned_root.0 c.args.group (config_view c.args.config.now) datasets made.changes.items c.in_ok-directory.ensures.tables made.next
-    c.in_ok-directory.ensures.next whole c.in_ok-changes.ensures.others.0 maps.3 root volumes.3 volumes.4 (applied c.args.group no_volumes c.args.items.now) second.spaces last.spaces planned_root.4 spells
+    c.in_ok-directory.ensures.next whole c.in_ok-changes.ensures.others.0 maps.3 root volumes.3 volumes.4 (applied c.args.group no_volumes (with_made c.args.items.now c.args.parted.now)) second.spaces last.spaces planned_root.4 spells
     volumes.2 planned_root.2 volumes.6 volumes.7 given planned_root.7 c.in_ok-root.ensures.born (maps.1, maps.2) same in (
       planned_root.0,
       planned_root.1,
@@ -142,7 +143,7 @@ returns-in_err-root-clause-known g c =
     let behind = steps_on second third last [] (steps_read second third [] reads) c.in_err-root.ensures.steps in
     let later_honest = true_after first second last steps.reads honest in
     let volumes = c.in_ok-datasets.ensures.value stored planned plans (true_before first second last behind.reads honest) in
-    let pool = fold (λ p a. pool_changed c.args.group p a.change) no_volumes c.actions.result.now in
+    let pool = fold (λ p a. pool_changed c.args.group p a.change) no_volumes c.made.result.now in
     let maps = c.in_ok-changes.ensures.value
     (first_of_others (config_view c.args.config.now) c.in_ok-datasets.datasets made.changes.items c.in_ok-directory.ensures.tables made.next
     c.in_ok-directory.ensures.next volumes.0 c.args.group volumes.3 volumes.4 pool volumes.5)
@@ -154,9 +155,9 @@ returns-in_err-root-clause-known g c =
 pub returns-clause-places : goal.returns-clause-places
 returns-clause-places g c =
     let made = c.in_ok-directory.field-0 in
-    let volumes = subst (λ (actions : List Action). AreFirstVolumes c.args.store.now c.first_volumes.new.store c.args.group actions c.in_ok-datasets.datasets) c.actions.ensures
+    let volumes = subst (λ (actions : List Action). AreFirstVolumes c.args.store.now c.first_volumes.new.store c.args.group actions c.in_ok-datasets.datasets) c.made.ensures
     c.in_ok-datasets.ensures.places in
-    first_has c.args.store.now c.first_volumes.new.store c.args.group (config_view c.args.config.now) c.args.items.now c.in_ok-datasets.datasets made.changes.items made.next
+    first_has c.args.store.now c.first_volumes.new.store c.args.group (config_view c.args.config.now) (with_made c.args.items.now c.args.parted.now) c.in_ok-datasets.datasets made.changes.items made.next
     c.in_ok-datasets.ensures.steps volumes c.in_ok-directory.ensures.tables c.in_ok-directory.ensures.next_is c.first_maps.new.store c.plan_root.new.store c.in_ok-changes.changes.items
     c.in_ok-changes.ensures.reads c.in_ok-changes.ensures.others
     (subst (λ (cs : List ObjectChange). HasRootPlaces c.first_maps.new.store c.plan_root.new.store empty_meta c.args.group cs) c.deref.ensures.value c.in_ok-root.ensures.places)
@@ -164,11 +165,11 @@ returns-clause-places g c =
 pub returns-in_err-root-clause-refused : goal.returns-in_err-root-clause-refused
 returns-in_err-root-clause-refused g c =
     let made = c.in_ok-directory.field-0 in
-    let volumes = subst (λ (actions : List Action). AreFirstVolumes c.args.store.now c.first_volumes.new.store c.args.group actions c.in_ok-datasets.datasets) c.actions.ensures
+    let volumes = subst (λ (actions : List Action). AreFirstVolumes c.args.store.now c.first_volumes.new.store c.args.group actions c.in_ok-datasets.datasets) c.made.ensures
     c.in_ok-datasets.ensures.places in
     IfErr-weaker c.from_residual-in_err-root.result _ _
     (λ refusal why.
-    first_set_refused c.args.store.now c.first_volumes.new.store c.args.group (config_view c.args.config.now) c.args.items.now c.in_ok-datasets.datasets made.changes.items made.next
+    first_set_refused c.args.store.now c.first_volumes.new.store c.args.group (config_view c.args.config.now) (with_made c.args.items.now c.args.parted.now) c.in_ok-datasets.datasets made.changes.items made.next
     c.in_ok-datasets.ensures.steps volumes c.in_ok-directory.ensures.tables c.in_ok-directory.ensures.next_is c.first_maps.new.store c.plan_root.new.store c.in_ok-changes.changes.items refusal
     c.in_ok-changes.ensures.reads c.in_ok-changes.ensures.others
     (subst (λ (cs : List ObjectChange). IsRootRefused c.first_maps.new.store c.plan_root.new.store empty_meta c.args.group c.args.group cs refusal) c.deref.ensures.value why))

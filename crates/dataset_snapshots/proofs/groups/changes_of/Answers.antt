@@ -9,14 +9,12 @@ use Rattle.dataset_groups.specs.Leaving.{IsReachExchanged}
 use Rattle.dataset_groups.specs.Names.{reach_by}
 use Rattle.dnode_tree.proofs.Refusing.{ok_both, passed_on}
 use Rattle.meta_objset.specs.declared.directory.DirectoryRow.{DirectoryRow}
-use Rattle.pool_model.specs.Pools.{PlainPool, written}
+use Rattle.pool_model.specs.Pools.{PlainPool, all_destroyed, written}
 use Rattle.pool_model.specs.Pools.{changed as pool_changed}
-use Rattle.dataset_groups.specs.Destroys.{all_destroyed}
 use Rattle.dataset_snapshots.specs.Demands.{are_renamed}
 use Rattle.dataset_snapshots.proofs.BelowNext.{not_misnumbered}
 use Rattle.dataset_snapshots.proofs.Copied.{adds_on}
 use Rattle.dataset_snapshots.proofs.Exchanges.{given_then, gone_first}
-use Rattle.dataset_snapshots.proofs.GroupDemands.{on_ok}
 use Rattle.dataset_snapshots.proofs.GroupsLeft.{begun, left_by, objects_still}
 use Rattle.dataset_snapshots.proofs.GroupsTouched.{actions_refused, datasets_refused, idle_rows, renamed_so, renamed_then, volumes_have}
 use Rattle.dataset_snapshots.proofs.groups.changes_of.Given.{Over}
@@ -131,11 +129,6 @@ returns-clause-known g c =
     absurd (not_misnumbered made.0 group is.objects new made.3.after made.3.readings (fold (λ p a. pool_changed group p a.change) (fold written after writes) c.args.actions.now) made.3.spells
     mis.1))
     why) c.with_directory.ensures.refused
-
-pub returns-clause-behind : goal.returns-clause-behind
-returns-clause-behind g c =
-    let behind = c.in_ok-write_all.ensures.behind in
-    on_ok c.with_directory.result _ (behind.0, behind.1 ∙ ap (λ (front : List Block). front ++ behind.0) c.in_ok-append.ensures.items)
 
 pub returns-clause-places : goal.returns-clause-places
 returns-clause-places g c =

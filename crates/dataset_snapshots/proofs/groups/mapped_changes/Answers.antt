@@ -45,11 +45,6 @@ returns-in_err-changes-clause-refused g c =
     }))
     c.in_err-changes.ensures.refused)
 
-pub returns-clause-behind : goal.returns-clause-behind
-returns-clause-behind g c =
-    let behind = c.in_ok-made.ensures.behind in
-    (behind.0, behind.1 ∙ ap (λ (front : List Block). (front ++ c.args.opened.freed.items) ++ behind.0) c.requires.none)
-
 pub returns-clause-places : goal.returns-clause-places
 returns-clause-places g c =
     let others = c.in_ok-changes.ensures.others in record {

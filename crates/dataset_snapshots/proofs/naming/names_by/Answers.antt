@@ -37,8 +37,9 @@ returns-clause-value g c =
     (λ names told stored pool held is same honest.
     let are = are_of_root stored _ _ pool _ is (c.in_ok-set.ensures.value stored is.set held is.is_set (true_before _ _ _ _ first rest honest)) in
     let rows_are : c.rows.result.now ≡ is.rows = c.rows.ensures.value ∙ same in
-    told stored is.objects is.own is.blocks pool.volumes (first.keeps stored held) are
-    (subst (λ (rows : List DirectoryRow). AllZip (SpellsDataset stored c.args.root.now.birth is.objects) rows pool.volumes) (sym rows_are) (volumes_of is)) (true_after _ _ _ _ first rest honest))
+    told stored is.objects is.own is.blocks pool.volumes is.datasets is.readings (first.keeps stored held) are
+    (subst (λ (rows : List DirectoryRow). AllZip (SpellsDataset stored c.args.root.now.birth is.objects) rows pool.volumes) (sym rows_are) (volumes_of is)) is.chains
+    (subst (λ (rows : List DirectoryRow). NamesPool is.datasets is.readings rows pool) (sym rows_are) is.names) (true_after _ _ _ _ first rest honest))
     c.names_of.ensures.value
 
 -- by the rows of the directory, and the spaces before the root was read

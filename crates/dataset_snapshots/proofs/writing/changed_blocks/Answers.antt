@@ -1,14 +1,12 @@
-use Rattle.std.proofs.Common.{sym, subst, ◌∙◌}
 use Rattle.std.proofs.lemmas.Result.{IfOk-weaker}
 use Rattle.dnode_tree.proofs.Refusing.{ok_both}
-use Rattle.meta_objset.specs.Names.{IsNamed}
 use Rattle.dataset_snapshots.proofs.Rows.{names_same}
 use Rattle.dataset_snapshots.proofs.writing.changed_blocks.Goals as goal
 
 pub returns-clause-value : goal.returns-clause-value
 returns-clause-value g c =
     IfOk-weaker c.changed_blocks.result _ _ (λ blocks laid stored plain held named is_volume spells honest.
-    laid stored plain held (names_same c.args.row.now.name plain.name c.unpadded.result.now named c.unpadded.ensures ∙ (sym c.in_ok-from_slice.ensures.items ∙ sym c.new-name.ensures)) is_volume spells honest)
+    laid stored plain held (names_same c.args.row.now.name plain.name c.in_ok-name.name named c.in_ok-name.ensures) is_volume spells honest)
     c.changed_blocks.ensures.value
 
 pub returns-clause-found : goal.returns-clause-found
@@ -16,8 +14,8 @@ returns-clause-found g c =
     IfOk-weaker c.changed_blocks.result _ _
     (λ blocks both. record {
       are = both.0;
-      name = c.new-name.result;
-      named = subst (IsNamed c.args.row.now.name) (sym c.in_ok-from_slice.ensures.items ∙ sym c.new-name.ensures) c.unpadded.ensures;
+      name = c.in_ok-name.name;
+      named = c.in_ok-name.ensures;
       which = both.1.0;
       judged = both.1.1.0;
       read = both.1.1.1;

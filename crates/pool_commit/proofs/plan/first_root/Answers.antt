@@ -1,7 +1,5 @@
 use Rattle.std.proofs.Common.{[], refl}
-use Rattle.std.proofs.lemmas.Result.{IfErr-weaker}
 use Rattle.block_store.proofs.Steps.{steps_none}
-use Rattle.dataset_snapshots.proofs.GoodNames.{good_changes_may_be_made}
 use Rattle.dataset_snapshots.specs.Reach.{reach_of}
 use Rattle.raidz_io.proofs.Rebuilt.{IfOk-map}
 use Rattle.pool_commit.proofs.plan.first_root.Goals as goal
@@ -10,8 +8,7 @@ pub returns-in_err-config-clause-steps : goal.returns-in_err-config-clause-steps
 returns-in_err-config-clause-steps g c = steps_none c.args.store.now []
 
 pub returns-clause-known : goal.returns-clause-known
-returns-clause-known g c = IfErr-weaker c.first_group.result _ _ (λ refusal known stored planned plans nothing honest good.
-    known stored planned plans nothing honest (good_changes_may_be_made c.args.items.now good)) c.first_group.ensures.known
+returns-clause-known g c = c.first_group.ensures.known
 
 pub returns-clause-value : goal.returns-clause-value
 returns-clause-value g c = IfOk-map c.first_group.result _ _ (λ first spells stored planned plans nothing honest.

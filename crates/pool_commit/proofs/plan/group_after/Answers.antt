@@ -10,12 +10,12 @@ returns-in_err-names-clause-steps g c = steps_none c.args.store.now []
 
 pub returns-in_err-next-clause-known : goal.returns-in_err-next-clause-known
 returns-in_err-next-clause-known g c =
-    passed_on _ _ _ c.from_residual-in_err-next.ensures.1 (λ stored planned pool plans spells begins honest good.
-    c.in_err-next.ensures.known stored planned pool plans spells begins honest good)
+    passed_on _ _ _ c.from_residual-in_err-next.ensures.1 (λ stored planned pool plans spells begins honest good effects.
+    c.in_err-next.ensures.known stored planned pool plans spells begins honest good effects)
 
 pub returns-clause-value : goal.returns-clause-value
-returns-clause-value g c = λ stored planned pool before plans spells leads begins honest.
-    let there = c.in_ok-next.ensures.value stored planned pool before plans spells leads begins honest in (
+returns-clause-value g c = λ stored planned pool before plans spells leads begins honest effects.
+    let there = c.in_ok-next.ensures.value stored planned pool before plans spells leads begins honest effects in (
       there.0,
       there.1,
       there.2,

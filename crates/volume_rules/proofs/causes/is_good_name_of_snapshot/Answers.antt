@@ -1,7 +1,7 @@
 use Rattle.std.proofs.Common.{ap, sym, take, ◌==◌, ◌∙◌}
 use Rattle.std.specs.List.{position}
 use Rattle.pool_model.specs.Names.{is_name}
-use Rattle.volume_rules.proofs.GoodChanges.{good_before, none_good}
+use Rattle.volume_rules.proofs.WholeNames.{good_before, none_good}
 use Rattle.volume_rules.proofs.causes.is_good_name_of_snapshot.Goals as goal
 
 pub returns-in-Some : goal.returns-in-Some

@@ -1,9 +1,9 @@
-use Rattle.std.proofs.Common.{◌≡◌, true, [], sym, subst}
+use Rattle.std.proofs.Common.{◌≡◌, true, [], inl, inr, refl, sym, ap, subst}
 use Rattle.std.proofs.lemmas.Result.{IfErr-weaker, on_ok_weaker}
-use Rattle.block_store.proofs.Steps.{steps_read}
+use Rattle.block_store.proofs.Steps.{steps_none, steps_read}
 use Rattle.pool_model.specs.declared.item.Change.{Change}
 use Rattle.pool_model.specs.Pools.{changed}
-use Rattle.volume_rules.specs.GoodChanges.{is_good_change}
+use Rattle.volume_rules.specs.GoodChanges.{is_good_making}
 use Rattle.dataset_groups.specs.Actions.{AreActed}
 use Rattle.dataset_groups.specs.Demands.{MakesOne}
 use Rattle.dataset_groups.proofs.datasets.GroupDatasets.act_one.Goals as goal
@@ -23,7 +23,7 @@ returns-in-Create-clause-value g c = on_ok_weaker c.create_one.result (λ value 
 
 pub returns-in-Create-clause-known : goal.returns-in-Create-clause-known
 returns-in-Create-clause-known g c = IfErr-weaker c.create_one.result _ _ (λ refusal known stored planned objects own blocks pool readings plain good plans are honest spells.
-    known (subst (λ (change : Change). is_good_change change ≡ true) c.in-Create.is good) stored planned plans honest) c.create_one.ensures.known
+    known (subst (λ (change : Change). is_good_making change ≡ true) c.in-Create.is good) stored planned plans honest) c.create_one.ensures.known
 
 pub returns-in-Create-clause-places : goal.returns-in-Create-clause-places
 returns-in-Create-clause-places g c = on_ok_weaker c.create_one.result (λ places.
@@ -46,7 +46,7 @@ returns-in-Snapshot-clause-value g c = on_ok_weaker c.take_one.result (λ value 
 
 pub returns-in-Snapshot-clause-known : goal.returns-in-Snapshot-clause-known
 returns-in-Snapshot-clause-known g c = IfErr-weaker c.take_one.result _ _ (λ refusal known stored planned objects own blocks pool readings plain good plans are honest spells.
-    known stored planned objects own blocks pool readings plain (subst (λ (change : Change). is_good_change change ≡ true) c.in-Snapshot.is good) plans.held are honest spells) c.take_one.ensures.known
+    known stored planned objects own blocks pool readings plain (subst (λ (change : Change). is_good_making change ≡ true) c.in-Snapshot.is good) plans.held are honest spells) c.take_one.ensures.known
 
 pub returns-in-Snapshot-clause-places : goal.returns-in-Snapshot-clause-places
 returns-in-Snapshot-clause-places g c = on_ok_weaker c.take_one.result (λ places.
@@ -69,8 +69,18 @@ returns-in-Clone-clause-value g c = on_ok_weaker c.clone_one.result (λ value st
 
 pub returns-in-Clone-clause-known : goal.returns-in-Clone-clause-known
 returns-in-Clone-clause-known g c = IfErr-weaker c.clone_one.result _ _ (λ refusal known stored planned objects own blocks pool readings plain good plans are honest spells.
-    known stored planned objects own blocks pool readings plain (subst (λ (change : Change). is_good_change change ≡ true) c.in-Clone.is good) plans.held are honest spells) c.clone_one.ensures.known
+    known stored planned objects own blocks pool readings plain (subst (λ (change : Change). is_good_making change ≡ true) c.in-Clone.is good) plans.held are honest spells) c.clone_one.ensures.known
 
 pub returns-in-Clone-clause-places : goal.returns-in-Clone-clause-places
 returns-in-Clone-clause-places g c = on_ok_weaker c.clone_one.result (λ places.
     subst (λ (change : Change). MakesOne c.args.store.now c.clone_one.new.store c.args.group c.args.self.now c.clone_one.new.self change) (sym c.in-Clone.is) places) c.clone_one.ensures.places
+
+-- ---- a destroy is none of these
+
+pub returns-in-Destroy-clause-refused : goal.returns-in-Destroy-clause-refused
+returns-in-Destroy-clause-refused g c = inr (inl (refl, ap is_good_making c.in-Destroy.is))
+
+-- ---- a destroy
+
+pub returns-in-Destroy-clause-steps : goal.returns-in-Destroy-clause-steps
+returns-in-Destroy-clause-steps g c = steps_none c.args.store.now []

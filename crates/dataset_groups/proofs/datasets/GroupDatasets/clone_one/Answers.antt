@@ -5,7 +5,7 @@ use Rattle.object_table.proofs.Tables.{spaces_stay}
 use Rattle.pool_model.specs.declared.item.Change.TheVariants.{Clone}
 use Rattle.pool_model.specs.declared.volume.VolumeKind.TheVariants.{Snapshot as SnapshotKind}
 use Rattle.pool_model.specs.Names.{is_name, is_name_for}
-use Rattle.volume_rules.specs.GoodChanges.{is_good_change}
+use Rattle.volume_rules.specs.GoodChanges.{is_good_making}
 use Rattle.dataset_groups.specs.Adding.{IsCloned}
 use Rattle.dataset_groups.specs.NewVolumes.{numbers_end}
 use Rattle.dataset_groups.proofs.GoodNames.{both}
@@ -15,7 +15,7 @@ use Rattle.dataset_groups.proofs.RowNames.{is_none, is_there}
 use Rattle.dataset_groups.proofs.ClonedDatasets.{clone_made, clone_there, row_is_snapshot, snapshot_not_there}
 use Rattle.dataset_groups.proofs.datasets.GroupDatasets.clone_one.Goals as goal
 
-good_names : (snapshot name : List ℕ) → is_good_change (Clone snapshot name) ≡ true → (is_name_for SnapshotKind snapshot ≡ true) × (is_name name ≡ true)
+good_names : (snapshot name : List ℕ) → is_good_making (Clone snapshot name) ≡ true → (is_name_for SnapshotKind snapshot ≡ true) × (is_name name ≡ true)
 good_names snapshot name good = both (is_name_for SnapshotKind snapshot) (is_name name) good
 
 -- ---- its name is there

@@ -9,7 +9,7 @@ use Rattle.meta_objset.specs.declared.record.DatasetRecord.{DatasetRecord}
 use Rattle.meta_objset.specs.Directory.{LacksName}
 use Rattle.pool_model.specs.declared.item.Change.TheVariants.{Create}
 use Rattle.pool_model.specs.Names.{is_name}
-use Rattle.volume_rules.specs.GoodChanges.{is_good_change, is_good_size}
+use Rattle.volume_rules.specs.GoodChanges.{is_good_making, is_good_size}
 use Rattle.dataset_groups.specs.declared.new_volume.NewVolume.{NewVolume}
 use Rattle.dataset_groups.specs.Demands.{HasNewPlaces, IsMaking, IsNewRefused}
 use Rattle.dataset_groups.specs.NewVolumes.{IsNewVolume, numbers_end}
@@ -76,7 +76,7 @@ returns-in_err-object_set-clause-refused g c =
 pub add-requires-clause-lacks : goal.add-requires-clause-lacks
 add-requires-clause-lacks g c = c.get.ensures.none (is_none _ _ c.is_some.ensures c.if-is_some.false)
 
-good_name : (name : List ℕ) (size block_size : ℕ) → is_good_change (Create name size block_size) ≡ true → is_name name ≡ true
+good_name : (name : List ℕ) (size block_size : ℕ) → is_good_making (Create name size block_size) ≡ true → is_name name ≡ true
 good_name name size block_size good = (both (is_name name) (is_good_size size block_size) good).0
 
 pub returns-clause-value : goal.returns-clause-value

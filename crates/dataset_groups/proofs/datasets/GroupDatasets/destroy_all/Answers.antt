@@ -5,8 +5,8 @@ use Rattle.block_pointer.specs.declared.block.Block.{Block}
 use Rattle.block_store.proofs.Steps.{reads_none, reads_on, true_after, true_before}
 use Rattle.dataset_chains.proofs.Chained.{objects_on, one_set_on}
 use Rattle.dnode_tree.proofs.Refusing.{passed_on}
-use Rattle.pool_model.specs.Pools.{PlainPool}
-use Rattle.dataset_groups.specs.Destroys.{AreDestroyed, DestroysAll, MayBeDestroyed, all_destroyed}
+use Rattle.pool_model.specs.Pools.{MayBeDestroyed, PlainPool, all_destroyed}
+use Rattle.dataset_groups.specs.Destroys.{AreDestroyed, DestroysAll}
 use Rattle.dataset_groups.proofs.DestroyedDatasets.{none_behind}
 use Rattle.dataset_groups.proofs.DestroyedLists.{IsOneThere, behind_both, destroyed_none, destroyed_on, destroys_more, in_parts, last_destroyed, later_refused, may_first, may_rest, one_further, renamed_now, renamed_still, still_at_most}
 use Rattle.dataset_groups.proofs.datasets.GroupDatasets.destroy_all.Goals as goal

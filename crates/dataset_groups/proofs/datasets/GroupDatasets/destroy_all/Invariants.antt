@@ -8,8 +8,8 @@ use Rattle.dataset_chains.specs.Chains.{Reading}
 use Rattle.dataset_changes.specs.States.{AreOfOneSet, birth_of, set_of}
 use Rattle.dead_list.specs.Datasets.{Pool}
 use Rattle.objset.specs.Objects.{AreObjects, Object}
-use Rattle.pool_model.specs.Pools.{PlainPool}
-use Rattle.dataset_groups.specs.Destroys.{AreDestroyed, DestroysAll, MayBeDestroyed, all_destroyed}
+use Rattle.pool_model.specs.Pools.{MayBeDestroyed, PlainPool, all_destroyed}
+use Rattle.dataset_groups.specs.Destroys.{AreDestroyed, DestroysAll}
 use Rattle.dataset_groups.specs.Groups.{SpellsGroup}
 use Rattle.dataset_groups.proofs.DestroyedLists.{IsOneThere}
 use Rattle.dataset_groups.proofs.datasets.GroupDatasets.destroy_all.Given as goal

@@ -4,7 +4,7 @@ use Rattle.dead_list.specs.Datasets.{Head}
 use Rattle.object_table.proofs.Tables.{spaces_stay}
 use Rattle.pool_model.specs.declared.item.Change.TheVariants.{Snapshot}
 use Rattle.pool_model.specs.Names.{is_name}
-use Rattle.volume_rules.specs.GoodChanges.{is_good_change}
+use Rattle.volume_rules.specs.GoodChanges.{is_good_making}
 use Rattle.dataset_groups.specs.Adding.{IsTaken}
 use Rattle.dataset_groups.specs.NewVolumes.{numbers_end}
 use Rattle.dataset_groups.proofs.GoodNames.{both}
@@ -14,7 +14,7 @@ use Rattle.dataset_groups.proofs.RowNames.{is_none, is_there}
 use Rattle.dataset_groups.proofs.TakenDatasets.{name_there, row_is_head, snapshot_made, volume_not_there}
 use Rattle.dataset_groups.proofs.datasets.GroupDatasets.take_one.Goals as goal
 
-good_volume : (volume part : List ℕ) → is_good_change (Snapshot volume part) ≡ true → is_name volume ≡ true
+good_volume : (volume part : List ℕ) → is_good_making (Snapshot volume part) ≡ true → is_name volume ≡ true
 good_volume volume part good = (both (is_name volume) (is_name part) good).0
 
 -- ---- its name is there

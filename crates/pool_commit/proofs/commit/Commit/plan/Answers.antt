@@ -5,6 +5,7 @@ use Rattle.raidz_io.specs.Reads.{AreUntouched, IsHonestSince}
 use Rattle.block_store.specs.declared.refusal.Refusal.{Refusal as StoreRefusal}
 use Rattle.block_store.specs.Store.{outs}
 use Rattle.pool_model.specs.View.{Unplanned}
+use Rattle.volume_rules.specs.Effects.{GroupTakesEffect}
 use Rattle.pool_commit.specs.declared.kept.KeptGroup.{KeptGroup}
 use Rattle.pool_commit.specs.declared.kept.Planned.{Planned}
 use Rattle.pool_commit.specs.Backs.{BeginsWithMaps, SpellsGroup}
@@ -130,7 +131,7 @@ returns-else-is_err-clause-untouched g c =
     (subst (AreUntouched (outs c.begin_plan.new.self ++ []) c.begin_plan.new.self.disks) (sym c.give_back.ensures.gives.disks) c.in-Ok.ensures.steps.untouched)
 
 pub returns-else-is_err-clause-planned : goal.returns-else-is_err-clause-planned
-returns-else-is_err-clause-planned g c = λ v backs none few items honest.
+returns-else-is_err-clause-planned g c = λ v backs none few items effects honest.
     let begins : Begins c.args.self.now.store c.begin_plan.new.self c.saturating_add-group.result =
     record { free = c.begin_plan.ensures.free; stays = c.begin_plan.ensures.stays; plans = c.begin_plan.ensures.plans; some = c.begin_plan.ensures.some } in
     let below : c.saturating_add-group.result ≤ suc c.args.self.now.kept.committed = let same = c.committed.ensures in omega arith in
@@ -142,7 +143,7 @@ returns-else-is_err-clause-planned g c = λ v backs none few items honest.
     (subst (λ (disks : Disks). IsHonestSince c.args.self.now.store.disks disks) c.give_back.ensures.gives.disks honest) in
     plan_is_backed s c.group_after.new.store c.give_back.new.store c.saturating_add-group.result c.last-last.result.now
     (record { after = c.in-Ok.next.after; uberblock = c.uberblock-uberblock.result; behind = c.in_ok-behind.behind }) c.in-Ok.next.replaced.items
-    c.args.items.now v begun c.begin_plan.ensures.due next c.last-last.ensures items c.in_ok-behind.ensures.are
+    c.args.items.now v begun c.begin_plan.ensures.due next c.last-last.ensures items effects c.in_ok-behind.ensures.are
     (record { root = c.in-Ok.next.root; is_root = c.in-Ok.ensures.is_root; timestamp = c.args.timestamp; is = c.uberblock-uberblock.ensures.is }) c.in-Ok.ensures.steps
     (subst (λ gone. GivesBack c.group_after.new.store c.give_back.new.store gone c.saturating_add-group.result) c.deref.ensures.value c.give_back.ensures.gives)
     c.begin_plan.ensures.free honest_since
@@ -195,7 +196,7 @@ returns-in-Err-clause-unread g c = λ fault. record { cause = c.in-Err.refusal; 
 
 pub returns-in-Err-clause-refused : goal.returns-in-Err-clause-refused
 unfolding refused
-returns-in-Err-clause-refused g c = λ v backs none few items good.
+returns-in-Err-clause-refused g c = λ v backs none few items good effects.
     let begun = backs_begun (state_of c.args.self.now) c.begin_plan.new.self c.saturating_add-group.result v c.begin_plan.ensures.out c.begin_plan.ensures.shapes
     (record { free = c.begin_plan.ensures.free; stays = c.begin_plan.ensures.stays; plans = c.begin_plan.ensures.plans; some = c.begin_plan.ensures.some })
     (let same = c.committed.ensures in omega arith) v.sync none backs in
@@ -216,7 +217,7 @@ returns-in-Err-clause-refused g c = λ v backs none few items good.
     (record { cause = c.in-Err.refusal; refused = refused g c; answered = c.from.ensures }) begun c.in-Err.ensures.steps.reads
     (subst (IsFaultIn c.begin_plan.new.self c.group_after.new.store) (sym c.from.ensures) fault))) other))
     (plan_faults c.begin_plan.new.self c.group_after.new.store c.in-Err.refusal
-    (λ honest. c.in-Err.ensures.known begun.blocks.stored begun.blocks.planned (v.pools v.committed) begun.blocks.plans spelled begins honest good))
+    (λ honest. c.in-Err.ensures.known begun.blocks.stored begun.blocks.planned (v.pools v.committed) begun.blocks.plans spelled begins honest good (subst (λ (n : ℕ). GroupTakesEffect n (v.pools v.committed) c.args.items.now) (let same = c.committed.ensures ∙ backs.committed in omega arith) effects)))
 
 pub returns-in-Err-clause-bad : goal.returns-in-Err-clause-bad
 returns-in-Err-clause-bad g c = λ is. absurd (no_config c.in-Err.refusal (sym c.from.ensures ∙ is))

@@ -12,8 +12,8 @@ use Rattle.pool_commit.specs.Room.{LacksRoom}
 use Rattle.pool_commit.specs.StateOf.{state_of as commit_state}
 use Rattle.pool_core.specs.StateOf.{state_of}
 use Rattle.pool_core.proofs.Fronting.{refused}
-use Rattle.pool_core.proofs.Phases.{plan_planned, backs_taken, plan_spares, plans, plan_refused, group_after, group_low, takes_none}
-use Rattle.std.proofs.Common.{inl, inr}
+use Rattle.pool_core.proofs.Phases.{plan_planned, backs_taken, plan_spares, plans, plan_refused, group_after, group_low, next_effects, takes_none}
+use Rattle.std.proofs.Common.{inr}
 use Rattle.pool_core.proofs.pool.Core.plan.Goals as goal
 
 pub returns-then-is_planned-clause-goes : goal.returns-then-is_planned-clause-goes
@@ -38,7 +38,8 @@ returns-in-Ok-plan-clause-goes g c timestamp v trusted r free honest plans_trust
     let begun = c.in-Ok.ensures.begun v timestamp r.follows free none in
     let low : v.committed < 2 ^ 62 = group_low c.args.self.now.intake v r.follows in
     let backed = backs_taken (commit_state c.args.self.now.commit) v r.backs none in
-    let planned = c.in-Ok-plan.ensures.planned (taken v Unplanned) backed refl low (c.in-Some.ensures.items (taken v Unplanned) begun.1) (honest (plans_trust tt)) in
+    let planned = c.in-Ok-plan.ensures.planned (taken v Unplanned) backed refl low (c.in-Some.ensures.items (taken v Unplanned) begun.1)
+    (next_effects (taken v Unplanned) c.in-Some.items.now (c.in-Some.ensures.items (taken v Unplanned) begun.1) begun.1.effects) (honest (plans_trust tt)) in
     plans (state_of c.args.self.now) c.begin_sync.new.self (commit_state c.plan.new.self) v trusted timestamp c.saturating_add.result planned.0 begun.0 begun.1
     (let committed = c.committed_group.ensures (taken v Unplanned) begun.1 in let added = c.saturating_add.ensures in group_after c.committed_group.result v.committed c.saturating_add.result committed low added)
     planned.1 planned.2 c.in-Ok-plan.ensures.reads (plan_spares (state_of c.args.self.now) (commit_state c.plan.new.self) c.begin_sync.new.self v r c.in-Ok-plan.ensures.untouched)
@@ -51,7 +52,7 @@ returns-in-Err-plan-clause-goes g c timestamp v trusted r free honest plans_trus
     let backed = backs_taken (commit_state c.args.self.now.commit) v r.backs none in
     let items = c.in-Some.ensures.items (taken v Unplanned) begun.1 in
     let good = subst MakesGoodVolumes (sym items) (begun.1.good (suc v.committed)) in
-    let why = c.in-Err-plan.ensures.refused (taken v Unplanned) backed refl low items good in
+    let why = c.in-Err-plan.ensures.refused (taken v Unplanned) backed refl low items good (next_effects (taken v Unplanned) c.in-Some.items.now items begun.1.effects) in
     let after = c.in-Err-plan.ensures.unplanned (taken v Unplanned) backed refl in
     plan_refused (state_of c.args.self.now) c.begin_sync.new.self (commit_state c.plan.new.self) v trusted timestamp c.in-Err-plan.refusal c.from.result c.from.ensures begun.0 begun.1 after c.in-Err-plan.ensures.reads
     (plan_spares (state_of c.args.self.now) (commit_state c.plan.new.self) c.begin_sync.new.self v r c.in-Err-plan.ensures.untouched)

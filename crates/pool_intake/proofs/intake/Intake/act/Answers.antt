@@ -9,8 +9,8 @@ use Rattle.pool_intake.proofs.intake.Intake.act.Goals as goal
 pub returns-in-Ok-accept : goal.returns-in-Ok-accept
 returns-in-Ok-accept c = λ v r u.
     acted _ _ _ _ v c.args.action _ r u (sym (c.in-Ok.ensures v r u) ∙ c.in_default-refusal.is) c.in-Ok-accept.ensures.accepted
-    (λ (pool : PlainPool) knows. subst (λ n. Knows c.add_new.new.self (changed n pool c.args.action.change)) (c.open_group-group.ensures (flow_of v) r.flow)
-    (c.add_new.ensures c.open_group-group.result pool c.args.action.change ((c.in-Ok-reserve.ensures.same pool).0 knows) (c.in-Ok-made_by.ensures pool knows)))
+    (λ (pool : PlainPool) knows. subst (λ n. Knows c.make.new.self (changed n pool c.args.action.change)) (c.open_group-group.ensures (flow_of v) r.flow)
+    (c.make.ensures c.open_group-group.result pool c.args.action.change ((c.in-Ok-reserve.ensures.same pool).0 knows) (c.in-Ok-change_by.ensures pool knows)))
 
 pub returns-in-Err : goal.returns-in-Err
 returns-in-Err c = λ v r u.
