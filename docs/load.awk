@@ -1,6 +1,6 @@
 # Prints a schedule that makes volumes of a pool of 4 + 1 disks and writes to the first, group by group; with snapshots=N then N groups that
-# take a snapshot of it each, and with clones=N that make a clone of the first snapshot each; with reads=1 then a read of each place that was
-# written. For example:
+# take a snapshot of it each, with clones=N that make a clone of the first snapshot each, with after=N that make those writes once more, and with
+# destroys=N that destroy the last snapshots, one each; with reads=1 then a read of each place that was written. For example:
 #   awk -v volumes=1 -v groups=100 -v writes=20 -v len=8192 -v size=67108864 -v block=8192 -v reads=0 -f docs/load.awk
 BEGIN {
     print "pool 1 5 268435456 16 2"
@@ -25,6 +25,15 @@ BEGIN {
         printf "hold 1\nsnapshot 1 %d v0000 s%04d\nrelease 1\nsync\n", n++, s
     for (c = 0; c < clones; c++)
         printf "hold 1\nclone 1 %d v0000@s0000 c%04d\nrelease 1\nsync\n", n++, c
+    for (g = 0; g < after; g++) {
+        print "hold 1"
+        for (k = 0; k < writes; k++)
+            printf "write 1 %d v0000 %d %d %02x\n", n++, ((first + g * writes + k) * 7 % places) * len, len, n % 251
+        print "release 1"
+        print "sync"
+    }
+    for (d = 0; d < destroys; d++)
+        printf "hold 1\ndestroy 1 %d v0000@s%04d\nrelease 1\nsync\n", n++, snapshots - 1 - d
     if (reads)
         for (k = 0; k < groups * writes; k++)
             printf "read v0000 %d %d\n", ((first + k) * 7 % places) * len, len
