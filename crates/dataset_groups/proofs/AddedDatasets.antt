@@ -1,5 +1,5 @@
 -- The datasets of a group with a volume more, and behind actions one after the other.
-use Rattle.std.proofs.Common.{◌≡◌, ◌+◌, ◌<◌, ◌≤◌, ℕ, true, List, [], replicate, Option, Some, None, Contains, inl, inr, refl, sym, ap, subst, ◌∙◌, arith}
+use Rattle.std.proofs.Common.{◌≡◌, ◌+◌, ◌<◌, ◌≤◌, ℕ, true, List, [], replicate, Option, Some, None, Contains, refl, sym, ap, subst, ◌∙◌, arith}
 use Rattle.std.proofs.lemmas.List.{length-replicate}
 use Rattle.block_pointer.specs.declared.block.Block.{Block}
 use Rattle.block_store.specs.Blocks.{Contents, Extends}
@@ -59,18 +59,18 @@ module _ (group : ℕ) (planned later : Contents) (blocks : List Block) (one : I
 -- the volume of a change is made
 pub volume_made : (old new : GroupDatasets) (name : List ℕ) (size block_size : ℕ) (v : NewVolume) (group : ℕ) (object_set : Block) (r : DatasetRecord) (planned later : Contents)
     (objects : ℕ → Option Object) (pool : Pool) (readings : ℕ → Reading) (plain : PlainPool) → IsNewVolume name size block_size v → is_name name ≡ true → 0 < group → 4 < old.next
-    → old.next + 2 ≤ numbers_end → LacksName old.directory v.name → IsAdded old v.name r new → r ≡ new_record v group (old.next + 1) object_set → Extends planned later
+    → old.next + 2 ≤ numbers_end → old.next + 2 ≤ old.bounds.end → LacksName old.directory v.name → IsAdded old v.name r new → r ≡ new_record v group (old.next + 1) object_set → Extends planned later
     → (bytes : IsVolume later group object_set v.size v.block_size (replicate v.size 0))
     → IsReachExchanged group planned later [] (blocks_of_volume object_set bytes.set bytes.has.own bytes.has.blocks) [] → AddsData planned later
     → SpellsGroup planned group objects old pool readings plain → AreActed group objects planned later old new pool (changed group plain (Create name size block_size))
-volume_made old new name size block_size v group object_set r planned later objects pool readings plain is good some behind within lacks added r_is more bytes one adds spells =
+volume_made old new name size block_size v group object_set r planned later objects pool readings plain is good some behind within left lacks added r_is more bytes one adds spells =
     let made : DatasetRecord = new_record v group (old.next + 1) object_set in
     let it : IsAdded old v.name made new = subst (λ (r : DatasetRecord). IsAdded old v.name r new) r_is added in
     let blocks : List Block = blocks_of_volume object_set bytes.set bytes.has.own bytes.has.blocks in
     let reading : Reading = record { array = replicate v.size 0; block_size = v.block_size } in
     let n : ℕ = old.next in
     let row : DirectoryRow = record { name = v.name; object = n } in
-    let unused : IsUnused pool.datasets n = next_unused old group planned objects pool readings plain spells behind in
+    let unused : IsUnused pool.datasets n = next_unused old group planned objects pool readings plain spells left behind in
     let one_more = one_with pool n (volume_with pool blocks) unused refl in
     let in_group = spells.chains.now in
     let are_new : AreNew pool blocks = λ block held. (
@@ -94,11 +94,11 @@ volume_made old new name size block_size v group object_set r planned later obje
     let told = told_volume pool readings old.directory plain n new.directory (created group name size block_size) row_more (volume_is_part name good) (volume_with pool blocks) refl refl refl in
     let chains = it.adds later group objects pool readings blocks reading some (chains_stay.more planned later group objects old.changes pool readings more spells.chains) unused
     (record { kind = refl; created = refl; previous = refl; next = refl; clones = refl })
-    (new_numbers old group planned objects pool readings plain spells behind within) leads are_new (each_once group planned later blocks one) in
-    acts_with old group planned objects pool readings plain spells later new _ _ Head reading one_more chains
+    (new_numbers old group planned objects pool readings plain spells left behind within) leads are_new (each_once group planned later blocks one) in
+    acts_with old group planned objects pool readings plain spells left later new _ _ Head reading one_more chains
     (names_with pool _ n Head one_more readings old.directory plain spells.names reading new.directory row (created group name size block_size) it.row lacks refl is.0 good refl in_group
     (ap (λ k. replicate k 0) is.1) is.2 told)
-    it.next it.touched.lists
+    it.next it.bounds it.touched.lists
     (reach_with group planned later pool spells.chains.sound n unused blocks old.directory new.directory row it.row.at
     (λ block held. let birth = born_now group planned later blocks one block held in omega (arith, birth, some)) refl
     (not_new pool _ n Head one_more readings old.directory plain spells.names) it.row.placed one)

@@ -1,5 +1,5 @@
 -- The datasets of a set as a group begins with them.
-use Rattle.std.proofs.Common.{◌≡◌, ◌≤◌, ◌+◌, ◌-◌, ℕ, zero, suc, List, [], ◌∷◌, Option, None, sym, subst, arith}
+use Rattle.std.proofs.Common.{◌≡◌, ◌≤◌, ◌+◌, ◌-◌, ℕ, List, [], ◌∷◌, Option, None, zero, suc, sym, subst, arith}
 use Rattle.std.specs.List.{AllZip}
 use Rattle.block_pointer.specs.declared.block.Block.{Block}
 use Rattle.block_store.specs.Blocks.{Contents}
@@ -69,7 +69,7 @@ group_begins stored bound birth group set objects own blocks pool readings rows 
         volumes = named_in pool group readings rows plain.volumes names.volumes;
         chains = record { chains = names.chains.chains; branches = names.chains.branches; clones = names.chains.clones };
       });
-  fresh = λ number behind. record {
+  fresh = λ number behind within. record {
     no_object = nothing_behind stored birth set objects own blocks are number (omega (arith, behind, next, least));
     no_record = (none number).0;
     no_list = (none number).1;

@@ -1,5 +1,5 @@
 -- The datasets of a group with a clone more.
-use Rattle.std.proofs.Common.{◌≡◌, ◌+◌, ◌<◌, ◌≤◌, ℕ, Bool, true, false, List, [], Option, Some, None, Contains, cond, refl, sym, ap, subst, ◌∙◌}
+use Rattle.std.proofs.Common.{◌≡◌, ◌+◌, ◌<◌, ◌≤◌, ℕ, Bool, true, false, List, Option, Some, None, Contains, cond, refl, sym, ap, subst, ◌∙◌}
 use Rattle.block_pointer.specs.declared.block.Block.{Block}
 use Rattle.block_store.specs.Blocks.{Contents}
 use Rattle.block_store.specs.Steps.{AnswersAreTrue}
@@ -81,18 +81,19 @@ module _ (pool : Pool) (readings : ℕ → Reading) (rows : List DirectoryRow) (
       ap (λ (found : Option PlainVolume). with_clone group name found plain) leads.found ∙ ap (λ b. cond b (with_volume (plain_clone_of group name leads.v) plain) plain) is_one
 
 pub clone_made : ReachHasEachOnce → (before after : Store) (old new : GroupDatasets) (group : ℕ) (padded snapshot name : List ℕ) (row : DirectoryRow) (stored known : Contents) (objects : ℕ → Option Object)
-    (own : List Block) (blocks : ℕ → List Block) (pool : Pool) (readings : ℕ → Reading) (plain : PlainPool) → 4 < old.next → old.next + 2 ≤ numbers_end → IsDirectory old.directory
+    (own : List Block) (blocks : ℕ → List Block) (pool : Pool) (readings : ℕ → Reading) (plain : PlainPool) → 4 < old.next → old.next + 2 ≤ numbers_end
+    → old.next + 2 ≤ old.bounds.end → IsDirectory old.directory
     → IsNamed padded name → is_name_for Snapshot snapshot ≡ true → is_name name ≡ true → LacksName old.directory padded → Contains old.directory row → IsNamed row.name snapshot
     → IsCloned before after group row.object old padded new → Holds before stored → AreObjects stored (birth_of old.changes) (set_of old.changes) objects own blocks → AnswersAreTrue before after
     → SpellsGroup known group objects old pool readings plain → AreActed group objects known known old new pool (changed group plain (Clone snapshot name))
-clone_made law before after old new group padded snapshot name row stored known objects own blocks pool readings plain behind within order padded_is good good_name lacks held named cloned holds are honest spells =
+clone_made law before after old new group padded snapshot name row stored known objects own blocks pool readings plain behind within left order padded_is good good_name lacks held named cloned holds are honest spells =
     let n : ℕ = old.next in
     let origin : ℕ = row.object in
     let there = leads pool readings old.directory plain row snapshot order held named good spells.names in
     let is : IsSnapshot pool.datasets origin = row_is_snapshot pool readings old.directory plain row snapshot order held named good spells.names in
-    let unused : IsUnused pool.datasets n = next_unused old group known objects pool readings plain spells behind in
+    let unused : IsUnused pool.datasets n = next_unused old group known objects pool readings plain spells left behind in
     let one_more = one_with pool n (clone_of pool origin) unused refl in
-    let chains = cloned.adds stored known objects own blocks pool readings holds are honest spells.chains is unused (new_numbers old group known objects pool readings plain spells behind within) in
+    let chains = cloned.adds stored known objects own blocks pool readings holds are honest spells.chains is unused (new_numbers old group known objects pool readings plain spells left behind within) in
     let more : PlainVolume = plain_clone_of group name there.v in
     let row_more : IsRowMore pool readings old.directory plain n new.directory more = record {
       unused = unused;
@@ -109,7 +110,7 @@ clone_made law before after old new group padded snapshot name row stored known 
     let names = names_with pool _ n Head one_more readings old.directory plain spells.names (readings origin) new.directory (record { name = padded; object = n }) more cloned.row lacks refl padded_is
     good_name refl spells.chains.now there.names.array there.names.block_size told in
     subst (AreActed group objects known known old new pool) (sym (plain_cloned pool readings old.directory plain row snapshot order held named good spells.names group name))
-    (acts_with old group known objects pool readings plain spells known new _ _ Head (readings origin) one_more chains names cloned.next cloned.touched.lists
+    (acts_with old group known objects pool readings plain spells left known new _ _ Head (readings origin) one_more chains names cloned.next cloned.bounds cloned.touched.lists
     (same_reach law pool (with_dataset pool n (clone_of pool origin)) spells.chains.sound (MakeClone origin n) (is, unused) (refl, refl) refl (objects_of_rows old.directory)
     (objects_of_rows new.directory) spells.names.numbers names.numbers group known)
     (adds_none known))

@@ -1,24 +1,23 @@
 -- The datasets of a group once one was destroyed by its name.
-use Rattle.std.proofs.Common.{◌≡◌, ◌≢◌, ◌↔◌, ◌++◌, ◌∷◌, ◌≤◌, ℕ, Bool, true, false, List, [], length, Option, Some, None, Contains, inl, inr, refl, sym, ap, subst, ◌∙◌, arith}
+use Rattle.std.proofs.Common.{◌≡◌, ◌≢◌, ◌++◌, ◌∷◌, ◌≤◌, ℕ, Bool, true, false, List, [], Option, Some, None, Contains, refl, sym, ap, subst, ◌∙◌}
 use Rattle.std.specs.Prelude.{cond, filter, find, not, ◌||◌}
 use Rattle.block_pointer.specs.declared.block.Block.{Block}
 use Rattle.block_store.specs.Blocks.{Contents}
 use Rattle.dataset_chains.specs.Chains.{Reading, SpellsChains}
-use Rattle.dataset_changes.specs.declared.changes.DatasetChanges.{DatasetChanges}
 use Rattle.dataset_destroys.specs.Destroying.{IsDestroyed, MayDestroy}
 use Rattle.dataset_destroys.specs.Touched.{TouchesOwnLists}
 use Rattle.dead_list.specs.Datasets.{Pool, nothing}
 use Rattle.dead_list.specs.Reach.{ReachHasEachOnce}
 use Rattle.meta_objset.specs.declared.directory.DirectoryRow.{DirectoryRow}
-use Rattle.meta_objset.specs.Directory.{IsDirectory, IsWithout, LacksName}
+use Rattle.meta_objset.specs.Directory.{IsDirectory, IsWithout}
 use Rattle.meta_objset.specs.Names.{IsNamed}
 use Rattle.objset.specs.Objects.{Object}
 use Rattle.pool_model.specs.declared.volume.PlainVolume.{PlainVolume}
 use Rattle.pool_model.specs.Names.{same}
 use Rattle.pool_model.specs.Pools.{MayBeDestroyed, PlainPool, destroyed, has_clones, has_snapshots, volume_at, without}
 use Rattle.dataset_groups.specs.Demands.{IsNameThere}
-use Rattle.dataset_groups.specs.Destroys.{AreDestroyed, DestroysNamed, DestroysOne, IsRowGone, KeepsNamed}
-use Rattle.dataset_groups.specs.Groups.{SpellsGroup}
+use Rattle.dataset_groups.specs.Destroys.{AreDestroyed, IsRowGone, KeepsNamed}
+use Rattle.dataset_groups.specs.Groups.{IsWithin, SpellsGroup}
 use Rattle.dataset_groups.specs.Names.{NamesPool, NamesTellChains, objects_of_rows, reach_by}
 use Rattle.dataset_groups.specs.declared.datasets.GroupDatasets.{GroupDatasets}
 use Rattle.dataset_groups.proofs.Exchanges.{same_given}
@@ -30,7 +29,7 @@ use Rattle.dataset_groups.proofs.KnownBlocks.{reached_known}
 use Rattle.dataset_groups.proofs.MayGo.{may_destroy, told_destroyed}
 use Rattle.dataset_groups.proofs.NamedRows.{none_at}
 use Rattle.dataset_groups.proofs.OneLess.{IsOneLess, one_less}
-use Rattle.dataset_groups.proofs.Rows.{names_same, padded_same}
+use Rattle.dataset_groups.proofs.Rows.{padded_same}
 
 -- ---- no row has the name
 
@@ -95,7 +94,7 @@ without_one name plain no_snapshots no_clones =
     ap (λ b. cond (b || has_clones name plain) plain (without name plain)) no_snapshots ∙ ap (λ b. cond b plain (without name plain)) no_clones
 
 module _ (law : ReachHasEachOnce) (old new : GroupDatasets) (name : List ℕ) (row : DirectoryRow) (order : IsDirectory old.directory) (also : IsDirectory new.directory)
-    (are : IsWithout old.directory row.name new.directory) (next : new.next ≡ old.next) (held : Contains old.directory row) (named : IsNamed row.name name)
+    (are : IsWithout old.directory row.name new.directory) (numbers_are : (new.next ≡ old.next) × (new.bounds ≡ old.bounds)) (held : Contains old.directory row) (named : IsNamed row.name name)
     (group : ℕ) (stored : Contents) (objects : ℕ → Option Object) (pool : Pool) (readings : ℕ → Reading) (plain : PlainPool) (spells : SpellsGroup stored group objects old pool readings plain)
     (may_go : MayBeDestroyed (name ∷ []) plain) where
   pub may : MayDestroy pool row.object
@@ -120,8 +119,9 @@ module _ (law : ReachHasEachOnce) (old new : GroupDatasets) (name : List ℕ) (r
     spelled = record {
       chains = chains;
       names = names;
-      fresh = λ k le.
-          still_fresh stored group objects old.changes new.changes pool after readings row.object spells.chains chains less touched k (spells.fresh k (subst (λ n. n ≤ k) next le));
+      fresh = λ k le within.
+          still_fresh stored group objects old.changes new.changes pool after readings row.object spells.chains chains less touched k (spells.fresh k (subst (λ n. n ≤ k) numbers_are.0 le)
+          (subst (λ b. IsWithin b k) numbers_are.1 within));
       unmixed = still_unmixed stored group objects old.changes new.changes pool after readings row.object spells.chains chains less touched spells.unmixed;
     }
 

@@ -1,12 +1,10 @@
 -- The names of a pool with a dataset less.
-use Rattle.std.proofs.Common.{◌≡◌, ◌≢◌, ℕ, List, [], ◌∷◌, AllPairs, Contains, inl, inr, sym, ap, subst, ◌∙◌, arith}
+use Rattle.std.proofs.Common.{◌≡◌, ◌≢◌, ℕ, List, [], ◌∷◌, AllPairs, Contains, sym, ap, subst, ◌∙◌, arith}
 use Rattle.std.specs.List.{AllZip}
-use Rattle.std.proofs.lemmas.Bool.{cases_eq}
 use Rattle.std.proofs.lemmas.List.Elements.{All-contains}
 use Rattle.std.proofs.lemmas.List.Kept.{AllPairs-cons, AllPairs-filter}
 use Rattle.dataset_chains.specs.Chains.{Reading}
-use Rattle.dead_list.specs.Datasets.{Dataset, Pool, nothing}
-use Rattle.dead_list.specs.Reach.{AreNumbersOf}
+use Rattle.dead_list.specs.Datasets.{Pool, nothing}
 use Rattle.meta_objset.proofs.Edits.{pairs_head, pairs_tail}
 use Rattle.meta_objset.specs.declared.directory.DirectoryRow.{DirectoryRow}
 use Rattle.meta_objset.specs.Directory.{IsDirectory, IsWithout}
@@ -16,7 +14,7 @@ use Rattle.pool_model.specs.Pools.{PlainPool, without}
 use Rattle.dataset_groups.specs.Destroys.{KeepsNamed}
 use Rattle.dataset_groups.specs.Names.{IsOfKind, NamesPool, NamesTellChains, NamesVolume, objects_of_rows}
 use Rattle.dataset_groups.proofs.GoneRows.{keeps_row, left_are, one_named, zip_left}
-use Rattle.dataset_groups.proofs.ListParts.{all_from, first_or_later, is_first, is_later, nothing_in}
+use Rattle.dataset_groups.proofs.ListParts.{all_from, is_first, is_later}
 use Rattle.dataset_groups.proofs.MoreNumbers.{of_row}
 use Rattle.dataset_groups.proofs.OneLess.{IsOneLess}
 use Rattle.dataset_groups.proofs.WrittenVolumes.{object_held, one_row}

@@ -1,5 +1,5 @@
 -- What is reached once a dataset was destroyed.
-use Rattle.std.proofs.Common.{◌≡◌, ◌⊎◌, ◌↔◌, ℕ, zero, suc, ◌+◌, List, [], ◌∷◌, ◌++◌, Contains, Some, None, inl, inr, refl, sym, ap, subst, ◌∙◌, arith}
+use Rattle.std.proofs.Common.{◌≡◌, ◌⊎◌, ◌↔◌, ℕ, ◌+◌, List, [], ◌∷◌, ◌++◌, Contains, Some, None, inl, inr, refl, sym, ap, subst, ◌∙◌, arith}
 use Rattle.std.specs.List.{count_by}
 use Rattle.block_pointer.specs.declared.block.Block.{Block}
 use Rattle.block_store.specs.Blocks.{Contents}
@@ -7,7 +7,6 @@ use Rattle.dataset_destroys.specs.Destroying.{IsDestroyed, MayDestroy, destroy_o
 use Rattle.dead_list.specs.Blocks.{AreDistinct as AreOnce}
 use Rattle.dead_list.specs.Datasets.{AreFreed, Free, Head, IsReached, Kind, Pool}
 use Rattle.dead_list.specs.Datasets.{Snapshot as ASnapshot}
-use Rattle.dead_list.specs.Operations.{Makes, MayDo}
 use Rattle.dead_list.specs.Reach.{AreNumbersOf, ReachHasEachOnce, reach_of}
 use Rattle.dead_list.specs.Runs.{entered_by}
 use Rattle.dead_list.specs.Sound.{IsSound}

@@ -1,10 +1,10 @@
 -- Which records and dead lists there are once a dataset is destroyed.
-use Rattle.std.proofs.Common.{◌≡◌, ◌≢◌, ◌⊎◌, ℕ, List, Option, Some, None, inl, inr, refl, sym, ap, subst, ◌∙◌}
+use Rattle.std.proofs.Common.{◌≡◌, ◌≢◌, ℕ, List, Option, Some, None, inl, inr, refl, ap, subst, ◌∙◌}
 use Rattle.std.proofs.lemmas.Bool.{cases_eq}
 use Rattle.block_pointer.specs.declared.block.Block.{Block}
 use Rattle.block_store.specs.Blocks.{Contents}
 use Rattle.dataset_chains.specs.Chains.{Reading, SpellsChains}
-use Rattle.dataset_changes.specs.Over.{HasListNow, IsListNow, IsRecordNow, IsRecordOver}
+use Rattle.dataset_changes.specs.Over.{IsListNow, IsRecordNow, IsRecordOver}
 use Rattle.dataset_changes.specs.Results.{AreMixed}
 use Rattle.dataset_changes.specs.States.{list_at, record_at}
 use Rattle.dataset_changes.specs.declared.changes.DatasetChanges.{DatasetChanges}

@@ -28,7 +28,7 @@ use Rattle.volume.specs.Writing.{IsArrayWith}
 use Rattle.volume_rules.specs.Overlay.{after_writes}
 use Rattle.dataset_groups.specs.declared.datasets.GroupDatasets.{GroupDatasets}
 use Rattle.dataset_groups.specs.declared.writing.WrittenHead.{WrittenHead}
-use Rattle.dataset_groups.specs.Groups.{IsFresh, SpellsGroup}
+use Rattle.dataset_groups.specs.Groups.{IsFresh, IsWithin, SpellsGroup}
 use Rattle.dataset_groups.specs.Heads.{AreNewlyKnown, IsHeadWritten, IsWrittenTo, reading_with}
 use Rattle.dataset_groups.specs.Leaving.{AddsData}
 use Rattle.dataset_groups.specs.Names.{NamesVolume}
@@ -100,7 +100,7 @@ newly_on birth planned mid later added more first rest one two = record {
 pub record AreHeadsWritten (planned later : Contents) (group : ℕ) (objects : ℕ → Option Object) (old new : GroupDatasets) (pool after : Pool) (readings now : ℕ → Reading) (writes : List Write)
     (done : List WrittenHead) (gone : List Block) : Type 0 where
   pub chains : SpellsChains later group objects new.changes after now
-  pub fresh : (number : ℕ) → new.next ≤ number → IsFresh objects new.changes number
+  pub fresh : (number : ℕ) → new.next ≤ number → IsWithin new.bounds number → IsFresh objects new.changes number
   pub unmixed : ¬ AreMixed new.changes
   pub shapes : HaveSameShapes pool after
   pub next : (m : ℕ) → after.next m ≡ pool.next m
@@ -234,7 +234,7 @@ module _ (stored planned mid : Contents) (bound group : ℕ) (objects : ℕ → 
 
   module _ (later : Contents) (new : GroupDatasets) (before : Extends planned mid) (more : Extends mid later) (after : Pool) (left_too : List Block)
       (step : IsHeadWritten mid later group objects so_far.changes new.changes at after reads next.number array left_too)
-      (touched : TouchesHeads so_far.changes new.changes (next.number ∷ [])) (next_is : new.next ≡ so_far.next) where
+      (touched : TouchesHeads so_far.changes new.changes (next.number ∷ [])) (numbers_are : (new.next ≡ so_far.next) × (new.bounds ≡ so_far.bounds)) where
     abbrev reading : Reading
     reading = reading_with (reads next.number) array
 
@@ -336,8 +336,8 @@ module _ (stored planned mid : Contents) (bound group : ℕ) (objects : ℕ → 
     pub one_more : AreHeadsWritten planned later group objects old new pool after readings now writes (done ++ next ∷ []) (gone ++ left_too)
     one_more = record {
       chains = step.chains;
-      fresh = λ number le. still_fresh mid later group objects so_far.changes new.changes at after reads now next.number first.chains step.chains there still touched step.list number
-          (first.fresh number (subst (λ k. k ≤ number) next_is le));
+      fresh = λ number le within. still_fresh mid later group objects so_far.changes new.changes at after reads now next.number first.chains step.chains there still touched step.list number
+          (first.fresh number (subst (λ k. k ≤ number) numbers_are.0 le) (subst (λ b. IsWithin b number) numbers_are.1 within));
       unmixed = still_unmixed mid later group objects so_far.changes new.changes at after reads now next.number first.chains step.chains there still touched step.list first.unmixed;
       shapes = shapes_on pool at after first.shapes shapes_too;
       next = λ m. ap (λ (p : Pool). p.next m) step.made.new_is ∙ first.next m;

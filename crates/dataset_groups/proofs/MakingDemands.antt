@@ -21,6 +21,7 @@ use Rattle.pool_model.specs.declared.item.Change.TheVariants.{Clone, Create, Des
 use Rattle.pool_model.specs.Names.{name_of}
 use Rattle.volume.specs.Demands.{empty_set}
 use Rattle.dataset_groups.specs.declared.datasets.GroupDatasets.{GroupDatasets}
+use Rattle.dataset_groups.specs.declared.datasets.NumberBounds.{NumberBounds}
 use Rattle.dataset_groups.specs.Demands.{AreMade, HasActionDemands, HasChangeDemands, HasChangePlaces, HasMoreRows, HasVolume, IsActionRefused, IsMaking, IsMakingRefused, IsNameMade}
 use Rattle.dataset_groups.specs.Demands.{IsNameThere, IsObjectFor, IsOneMade, IsThereAlready, IsUnmade, MakesAll, MakesNamesOf, MakesOne}
 use Rattle.dataset_groups.specs.Touched.{TouchesChange}
@@ -70,13 +71,14 @@ rows_more before after row more = (
 
 -- one that has the next number, under a name
 pub one_made : (old new : GroupDatasets) (padded name : List ℕ) → IsNamed padded name → IsPlacedAmong old.directory (record { name = padded; object = old.next }) new.directory
-    → new.next ≡ old.next + 2 → IsOneMade old new name
-one_made old new padded name named placed next =
+    → new.next ≡ old.next + 2 → new.bounds ≡ old.bounds → IsOneMade old new name
+one_made old new padded name named placed next bounds =
     let row : DirectoryRow = record { name = padded; object = old.next } in
     let more : IsWith old.directory row new.directory = subst (IsWith old.directory row) (sym placed.placed) (row_added old.directory row placed.at) in
     record {
       names = names_with old.directory new.directory row name named more;
       next = next;
+      bounds = bounds;
       rows = ap length placed.placed ∙ length-insert old.directory placed.at row placed.within;
       kept = rows_more old.directory new.directory row more;
     }
@@ -177,6 +179,7 @@ made_more old between new made action so_far one =
     record {
       names = names_more old between new made action so_far one;
       next = omega (arith, before, after, len);
+      bounds = one.bounds ∙ so_far.bounds;
       rows = omega (arith, rows, row, len);
       kept = rows_on old.directory between.directory new.directory old.next between.next (omega (arith, before)) so_far.kept one.kept;
     }
@@ -197,6 +200,7 @@ makes_none store group making = record {
   names = record {
     names = λ name. (λ is. inl is, λ either. ⊎_elim (λ is. is) (λ was_made. absurd (nothing_made name was_made)) either);
     next = omega arith;
+    bounds = refl;
     rows = omega arith;
     kept = (λ row held. held, λ row held. inl held);
   };
@@ -265,14 +269,14 @@ module _ (first between : GroupDatasets) (made : List Action) (so_far : MakesNam
     why = why.why;
   }
 
-  making_behind : (mid new : Store) (group : ℕ) (change : Change) (refusal : Refusal) → IsMakingRefused mid new between.changes group between.directory [] between.next change refusal
-      → IsMakingRefused mid new first.changes group first.directory made first.next change refusal
+  making_behind : (mid new : Store) (group : ℕ) (change : Change) (refusal : Refusal) → IsMakingRefused mid new between.changes group between.directory [] between.next between.bounds.end change refusal
+      → IsMakingRefused mid new first.changes group first.directory made first.next first.bounds.end change refusal
   making_behind mid new group change refusal (inl memory) = inl memory
   making_behind mid new group change refusal (inr (inl bad)) = inr (inl bad)
   making_behind mid new group change refusal (inr (inr (makes, why))) =
       inr (inr (
         making_so_far first between made so_far change makes,
-        ⊎_elim (λ full. let next = so_far.next in let end = full.1 in inl (full.0, omega (arith, next, end))) (λ refused. inr (unmade_so_far mid new group change refusal refused)) why,
+        ⊎_elim (λ full. let next = so_far.next in let end = full.1 in let same = ap (λ (b : NumberBounds). b.end) so_far.bounds in inl (full.0, omega (arith, next, end, same))) (λ refused. inr (unmade_so_far mid new group change refusal refused)) why,
       ))
 
 pub taken_more : (actions : List Action) (i : ℕ) (action : Action) → i < length actions → action ≡ get_or actions i action → take (i + 1) actions ≡ take i actions ++ action ∷ []
@@ -286,8 +290,8 @@ at_and_rest actions i action low is =
 
 pub action_refused : (old mid new : Store) (group : ℕ) (first between : GroupDatasets) (actions : List Action) (i : ℕ) (action : Action) (refusal : Refusal) → i < length actions
     → action ≡ get_or actions i action → AreOfOneSet first.changes between.changes → OnlyReadsAndPlans old mid [] → MakesAll old mid group first between (take i actions)
-    → IsMakingRefused mid new between.changes group between.directory [] between.next action.change refusal
-    → IsActionRefused old new first.changes group first.directory first.next actions refusal
+    → IsMakingRefused mid new between.changes group between.directory [] between.next between.bounds.end action.change refusal
+    → IsActionRefused old new first.changes group first.directory first.next first.bounds.end actions refusal
 action_refused old mid new group first between actions i action refusal low is one_set before so_far why = record {
   first = take i actions;
   action = action;

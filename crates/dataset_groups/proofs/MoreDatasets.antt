@@ -1,15 +1,14 @@
 -- The datasets of a group with one more, or with none.
-use Rattle.std.proofs.Common.{◌≡◌, ◌⊎◌, ◌+◌, ◌<◌, ◌≤◌, ℕ, [], Option, sym, subst, arith}
+use Rattle.std.proofs.Common.{◌≡◌, ◌⊎◌, ◌+◌, ◌<◌, ◌≤◌, ℕ, [], Option, inl, sym, subst, arith}
 use Rattle.block_store.specs.Blocks.{Contents}
 use Rattle.dataset_chains.specs.Chains.{AreNewNumbers, Reading, SpellsChains}
 use Rattle.dataset_changes.specs.States.{list_at}
-use Rattle.dataset_changes.specs.declared.changes.DatasetChanges.{DatasetChanges}
 use Rattle.dead_list.specs.Datasets.{Kind, Pool, updated}
 use Rattle.dead_list.specs.Operations.{IsUnused}
 use Rattle.objset.specs.Objects.{Object}
 use Rattle.pool_model.specs.Pools.{PlainPool}
 use Rattle.dataset_groups.specs.Actions.{AreActed}
-use Rattle.dataset_groups.specs.Groups.{IsFresh, SpellsGroup}
+use Rattle.dataset_groups.specs.Groups.{IsFresh, IsWithin, SpellsGroup}
 use Rattle.dataset_groups.specs.Leaving.{AddsData, IsReachExchanged}
 use Rattle.dataset_groups.specs.Names.{NamesPool, reach_by}
 use Rattle.dataset_groups.specs.NewVolumes.{numbers_end}
@@ -31,13 +30,13 @@ passed_over datasets group known objects pool readings plain after same spells =
 }
 
 module _ (old : GroupDatasets) (group : ℕ) (known : Contents) (objects : ℕ → Option Object) (pool : Pool) (readings : ℕ → Reading) (plain : PlainPool)
-    (spells : SpellsGroup known group objects old pool readings plain) where
+    (spells : SpellsGroup known group objects old pool readings plain) (left : old.next + 2 ≤ old.bounds.end) where
   -- the next two numbers are free
   fresh_n : IsFresh objects old.changes old.next
-  fresh_n = spells.fresh old.next (omega arith)
+  fresh_n = spells.fresh old.next (omega arith) (inl (omega (arith, left)))
 
   fresh_list : IsFresh objects old.changes (old.next + 1)
-  fresh_list = spells.fresh (old.next + 1) (omega arith)
+  fresh_list = spells.fresh (old.next + 1) (omega arith) (inl (omega (arith, left)))
 
   pub next_unused : 4 < old.next → IsUnused pool.datasets old.next
   next_unused behind = fresh_unused known group objects old.changes pool readings spells.chains old.next (λ none. omega (arith, behind, none)) fresh_n
@@ -55,18 +54,18 @@ module _ (old : GroupDatasets) (group : ℕ) (known : Contents) (objects : ℕ �
   -- a dataset came with them
   pub acts_with : (later : Contents) (new : GroupDatasets) (after : Pool) (then_plain : PlainPool) (kind : Kind) (reading : Reading) → IsOneMore pool after old.next kind
       → SpellsChains later group objects new.changes after (updated readings old.next reading) → NamesPool after (updated readings old.next reading) new.directory then_plain
-      → new.next ≡ old.next + 2 → ((k : ℕ) → (list_at new.changes k ≡ list_at old.changes k) ⊎ (k ≡ old.next + 1))
+      → new.next ≡ old.next + 2 → new.bounds ≡ old.bounds → ((k : ℕ) → (list_at new.changes k ≡ list_at old.changes k) ⊎ (k ≡ old.next + 1))
       → IsReachExchanged group known later (reach_by pool old.directory) (reach_by after new.directory) [] → AddsData known later
       → AreActed group objects known later old new pool then_plain
-  acts_with later new after then_plain kind reading more chains names next touched exchanged adds = record {
+  acts_with later new after then_plain kind reading more chains names next bounds touched exchanged adds = record {
     after = after;
     readings = updated readings old.next reading;
     spells = record {
       chains = chains;
       names = names;
-      fresh = λ k le.
+      fresh = λ k le within.
           still_fresh known group objects old.changes pool readings spells.chains later new.changes after _ old.next kind more chains fresh_n fresh_list touched k (omega (arith, le, next))
-          (spells.fresh k (omega (arith, le, next)));
+          (spells.fresh k (omega (arith, le, next)) (subst (λ b. IsWithin b k) bounds within));
       unmixed = still_unmixed known group objects old.changes pool readings spells.chains later new.changes after _ old.next kind more chains fresh_n fresh_list touched spells.unmixed;
     };
     exchanged = exchanged;

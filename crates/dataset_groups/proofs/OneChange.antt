@@ -45,11 +45,12 @@ is_idle rows change there making = making.0 (inl there)
 
 -- what has the next number then
 pub makes_one : (before after : Store) (old new : GroupDatasets) (group : ℕ) (change : Change) (padded : List ℕ) → IsNamed padded (name_of change) → IsMaking old.directory [] change
-    → IsPlacedAmong old.directory (record { name = padded; object = old.next }) new.directory → new.next ≡ old.next + 2 → HasChangePlaces before after group change
+    → IsPlacedAmong old.directory (record { name = padded; object = old.next }) new.directory → new.next ≡ old.next + 2 → new.bounds ≡ old.bounds
+    → HasChangePlaces before after group change
     → MakesOne before after group old new change
-makes_one before after old new group change padded named making placed next places = inr (making, one_made old new padded (name_of change) named placed next, places)
+makes_one before after old new group change padded named making placed next bounds places = inr (making, one_made old new padded (name_of change) named placed next bounds, places)
 
 -- or why nothing was made
-pub not_made : (old new : Store) (changes : DatasetChanges) (group : ℕ) (rows : List DirectoryRow) (next : ℕ) (change : Change) (refusal : Refusal) → IsMaking rows [] change
-    → IsUnmade old new changes group rows next change refusal → IsMakingRefused old new changes group rows [] next change refusal
-not_made old new changes group rows next change refusal making unmade = inr (inr (making, inr unmade))
+pub not_made : (old new : Store) (changes : DatasetChanges) (group : ℕ) (rows : List DirectoryRow) (next end : ℕ) (change : Change) (refusal : Refusal) → IsMaking rows [] change
+    → IsUnmade old new changes group rows next change refusal → IsMakingRefused old new changes group rows [] next end change refusal
+not_made old new changes group rows next end change refusal making unmade = inr (inr (making, inr unmade))

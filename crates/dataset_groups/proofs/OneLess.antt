@@ -2,10 +2,10 @@
 use Rattle.std.proofs.Common.{◌≡◌, ◌≢◌, ◌≤◌, ℕ, List, inl, inr, refl, sym, ap, subst, ◌∙◌, arith}
 use Rattle.std.proofs.lemmas.Bool.{cases_eq}
 use Rattle.block_pointer.specs.declared.block.Block.{Block}
-use Rattle.dataset_destroys.specs.Destroying.{IsDestroyed, MayDestroy, operation_of}
+use Rattle.dataset_destroys.specs.Destroying.{IsDestroyed, operation_of}
 use Rattle.dead_list.specs.Datasets.{Dataset, Datasets, Free, Head, Kind, Pool, group_before, nothing, updated}
 use Rattle.dead_list.specs.Datasets.{Snapshot as ASnapshot}
-use Rattle.dead_list.specs.Operations.{Makes, MayDo, with_dataset, without_snapshot}
+use Rattle.dead_list.specs.Operations.{Makes, with_dataset, without_snapshot}
 use Rattle.dead_list.specs.Sound.{IsSound, until_kind}
 use Rattle.dead_list.proofs.Updates.{at_each, other_at, same_at}
 

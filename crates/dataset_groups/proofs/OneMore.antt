@@ -1,5 +1,5 @@
 -- A pool with a dataset more.
-use Rattle.std.proofs.Common.{◌≡◌, ◌≢◌, ℕ, sym, ap, ◌∙◌}
+use Rattle.std.proofs.Common.{◌≡◌, ◌≢◌, ℕ, ap, ◌∙◌}
 use Rattle.dead_list.specs.Datasets.{Dataset, Free, Kind, Pool, nothing}
 use Rattle.dead_list.specs.Operations.{IsUnused, with_dataset}
 use Rattle.dead_list.proofs.Updates.{other_at, same_at}

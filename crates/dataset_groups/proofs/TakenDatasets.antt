@@ -1,5 +1,5 @@
 -- The datasets of a group with a snapshot more.
-use Rattle.std.proofs.Common.{◌≡◌, ◌+◌, ◌<◌, ◌≤◌, ℕ, Bool, true, false, List, [], Option, Some, None, Contains, cond, refl, sym, ap, subst, ◌∙◌}
+use Rattle.std.proofs.Common.{◌≡◌, ◌+◌, ◌<◌, ◌≤◌, ℕ, Bool, true, false, List, Option, Some, None, Contains, cond, refl, sym, ap, subst, ◌∙◌}
 use Rattle.block_pointer.specs.declared.block.Block.{Block}
 use Rattle.block_store.specs.Blocks.{Contents}
 use Rattle.block_store.specs.Steps.{AnswersAreTrue}
@@ -83,18 +83,19 @@ module _ (pool : Pool) (readings : ℕ → Reading) (rows : List DirectoryRow) (
       ap (λ (found : Option PlainVolume). with_plain_snapshot group name found plain) leads.found ∙ ap (λ b. cond b plain (with_volume (snapshot_of group name leads.v) plain)) is_volume
 
 pub snapshot_made : ReachHasEachOnce → (before after : Store) (old new : GroupDatasets) (group : ℕ) (padded volume part : List ℕ) (row : DirectoryRow) (stored known : Contents) (objects : ℕ → Option Object)
-    (own : List Block) (blocks : ℕ → List Block) (pool : Pool) (readings : ℕ → Reading) (plain : PlainPool) → 4 < old.next → old.next + 2 ≤ numbers_end → IsDirectory old.directory
+    (own : List Block) (blocks : ℕ → List Block) (pool : Pool) (readings : ℕ → Reading) (plain : PlainPool) → 4 < old.next → old.next + 2 ≤ numbers_end
+    → old.next + 2 ≤ old.bounds.end → IsDirectory old.directory
     → IsNamed padded (snapshot_name volume part) → is_name volume ≡ true → LacksName old.directory padded → Contains old.directory row → IsNamed row.name volume
     → IsTaken before after group row.object old padded new → Holds before stored → AreObjects stored (birth_of old.changes) (set_of old.changes) objects own blocks → AnswersAreTrue before after
     → SpellsGroup known group objects old pool readings plain → AreActed group objects known known old new pool (changed group plain (Snapshot volume part))
-snapshot_made law before after old new group padded volume part row stored known objects own blocks pool readings plain behind within order padded_is good lacks held named taken holds are honest spells =
+snapshot_made law before after old new group padded volume part row stored known objects own blocks pool readings plain behind within left order padded_is good lacks held named taken holds are honest spells =
     let n : ℕ = old.next in
     let head : ℕ = row.object in
     let there = leads pool readings old.directory plain row volume order held named good spells.names in
     let is : IsHead pool.datasets head = row_is_head pool readings old.directory plain row volume order held named good spells.names in
-    let unused : IsUnused pool.datasets n = next_unused old group known objects pool readings plain spells behind in
+    let unused : IsUnused pool.datasets n = next_unused old group known objects pool readings plain spells left behind in
     let one_more = one_taken pool head n is unused in
-    let chains = taken.adds stored known objects own blocks pool readings holds are honest spells.chains is unused (new_numbers old group known objects pool readings plain spells behind within) in
+    let chains = taken.adds stored known objects own blocks pool readings holds are honest spells.chains is unused (new_numbers old group known objects pool readings plain spells left behind within) in
     let name : List ℕ = snapshot_name volume part in
     let more : PlainVolume = snapshot_of group name there.v in
     let row_more : IsRowMore pool readings old.directory plain n new.directory more = record {
@@ -112,7 +113,7 @@ snapshot_made law before after old new group padded volume part row stored known
     let names = names_with pool _ n ASnapshot one_more readings old.directory plain spells.names (readings head) new.directory (record { name = padded; object = n }) more taken.row lacks refl padded_is
     (good_snapshot volume part good) refl spells.chains.now there.names.array there.names.block_size told in
     subst (AreActed group objects known known old new pool) (sym (plain_taken pool readings old.directory plain row volume order held named good spells.names group part))
-    (acts_with old group known objects pool readings plain spells known new _ _ ASnapshot (readings head) one_more chains names taken.next taken.touched.touched.lists
+    (acts_with old group known objects pool readings plain spells left known new _ _ ASnapshot (readings head) one_more chains names taken.next taken.bounds taken.touched.touched.lists
     (same_reach law pool (with_snapshot pool head n) spells.chains.sound (TakeSnapshot head n) (is, unused) (refl, refl) refl (objects_of_rows old.directory) (objects_of_rows new.directory)
     spells.names.numbers names.numbers group known)
     (adds_none known))

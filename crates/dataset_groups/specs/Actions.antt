@@ -1,5 +1,5 @@
 -- What actions make of a pool's datasets.
-use Rattle.std.specs.Prelude.{ℕ, List, [], Option}
+use Rattle.std.specs.Prelude.{ℕ, [], Option}
 use Rattle.block_store.specs.Blocks.{Contents}
 use Rattle.dataset_chains.specs.Chains.{Reading}
 use Rattle.dead_list.specs.Datasets.{Pool}

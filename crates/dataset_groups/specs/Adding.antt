@@ -29,6 +29,7 @@ AddsVolume old new number r =
 pub record IsAdded (old : GroupDatasets) (name : List ℕ) (r : DatasetRecord) (new : GroupDatasets) : Type 0 where
   pub row : IsPlacedAmong old.directory (record { name = name; object = old.next }) new.directory
   pub next : new.next ≡ old.next + 2
+  pub bounds : new.bounds ≡ old.bounds
   pub adds : AddsVolume old.changes new.changes old.next r
   pub touched : TouchesOnly old.changes new.changes (λ one. one ≡ old.next) (λ one. one ≡ r.dead_list)
 
@@ -45,6 +46,7 @@ AddsSnapshot before after group head old new number =
 pub record IsTaken (before after : Store) (group head : ℕ) (old : GroupDatasets) (name : List ℕ) (new : GroupDatasets) : Type 0 where
   pub row : IsPlacedAmong old.directory (record { name = name; object = old.next }) new.directory
   pub next : new.next ≡ old.next + 2
+  pub bounds : new.bounds ≡ old.bounds
   pub adds : AddsSnapshot before after group head old.changes new.changes old.next
   pub touched : IsSnapshotTouched old.changes new.changes head old.next (old.next + 1)
 
@@ -61,5 +63,6 @@ AddsClone before after group origin old new number =
 pub record IsCloned (before after : Store) (group origin : ℕ) (old : GroupDatasets) (name : List ℕ) (new : GroupDatasets) : Type 0 where
   pub row : IsPlacedAmong old.directory (record { name = name; object = old.next }) new.directory
   pub next : new.next ≡ old.next + 2
+  pub bounds : new.bounds ≡ old.bounds
   pub adds : AddsClone before after group origin old.changes new.changes old.next
   pub touched : IsCloneTouched old.changes new.changes origin old.next (old.next + 1)

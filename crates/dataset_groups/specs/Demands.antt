@@ -24,7 +24,6 @@ use Rattle.volume.specs.Demands.{empty_set, HasPlacesFor, HasSetDemands, IsCreat
 use Rattle.volume.specs.Reading.{IsVolumeFound}
 use Rattle.dataset_groups.specs.declared.datasets.GroupDatasets.{GroupDatasets}
 use Rattle.dataset_groups.specs.declared.writing.WrittenHead.{WrittenHead}
-use Rattle.dataset_groups.specs.NewVolumes.{numbers_end}
 use Rattle.dataset_groups.specs.Touched.{TouchesMade}
 use Rattle.volume_rules.specs.GoodChanges.{is_good_making}
 
@@ -166,6 +165,7 @@ pub record IsOneMade (old new : GroupDatasets) (name : List ℕ) : Type 0 where
   pub names : (other : List ℕ) → IsNameThere new.directory other
       ↔ (IsNameThere old.directory other ⊎ (name ≡ other))
   pub next : new.next ≡ old.next + 2
+  pub bounds : new.bounds ≡ old.bounds
   pub rows : length new.directory ≡ length old.directory + 1
   pub kept : HasMoreRows old.directory old.next new.directory
 
@@ -181,6 +181,7 @@ pub record MakesNamesOf (old new : GroupDatasets) (made : List Action) : Type 0 
   pub names : (name : List ℕ) → IsNameThere new.directory name
       ↔ (IsNameThere old.directory name ⊎ IsNameMade made name)
   pub next : new.next ≡ old.next + 2 * length made
+  pub bounds : new.bounds ≡ old.bounds
   pub rows : length new.directory ≡ length old.directory + length made
   pub kept : HasMoreRows old.directory old.next new.directory
 
@@ -233,18 +234,18 @@ IsUnmade old new changes group rows next (Clone snapshot name) refusal =
 IsUnmade old new changes group rows next (Destroy name) refusal = ⊥
 
 -- why the change is not done, behind those that made a volume, a snapshot or a clone each: it is a destroy, or its names or sizes are not good,
--- or where it makes something, no two numbers are left, or what it makes was not made
+-- or where it makes something, no two numbers are left below the end, or what it makes was not made
 abbrev pub IsMakingRefused :
-    Store → Store → DatasetChanges → ℕ → List DirectoryRow → List Action → ℕ → Change → Refusal → Type 0
-IsMakingRefused old new changes group rows made next change refusal =
+    Store → Store → DatasetChanges → ℕ → List DirectoryRow → List Action → ℕ → ℕ → Change → Refusal → Type 0
+IsMakingRefused old new changes group rows made next end change refusal =
     (refusal ≡ NoMemory)
     ⊎ (((refusal ≡ BadConfig) × (is_good_making change ≡ false))
     ⊎ (IsMaking rows made change
-    × (((refusal ≡ NoSpace) × (numbers_end < next + 2 * length made + 2))
+    × (((refusal ≡ NoSpace) × (end < next + 2 * length made + 2))
     ⊎ IsUnmade old new changes group rows next change refusal)))
 
 -- the first actions were done, and then the next was refused
-pub record IsActionRefused (old new : Store) (changes : DatasetChanges) (group : ℕ) (rows : List DirectoryRow) (next : ℕ)
+pub record IsActionRefused (old new : Store) (changes : DatasetChanges) (group : ℕ) (rows : List DirectoryRow) (next end : ℕ)
     (actions : List Action) (refusal : Refusal) : Type 0 where
   pub first : List Action
   pub action : Action
@@ -255,4 +256,4 @@ pub record IsActionRefused (old new : Store) (changes : DatasetChanges) (group :
   pub mid : Store
   pub before : OnlyReadsAndPlans old mid []
   pub places : HavePlacesFor old mid (HasActionDemands old.spaces group) made
-  pub why : IsMakingRefused mid new changes group rows made next action.change refusal
+  pub why : IsMakingRefused mid new changes group rows made next end action.change refusal

@@ -59,6 +59,7 @@ pub record DestroysNamed (old new : GroupDatasets) (name : List ℕ) : Type 0 wh
   pub named : IsNamed row.name name
   pub rows : IsRowGone old.directory name new.directory
   pub next : new.next ≡ old.next
+  pub bounds : new.bounds ≡ old.bounds
   pub touched : IsDestroyTouched old.changes new.changes row.object
 
 -- or none has, and nothing changes

@@ -23,9 +23,6 @@ use model_disk::Disk;
 use pool_model::{Action, Change};
 use std::alloc::Global;
 
-/// The numbers of objects are below 32 * 128^5.
-pub(crate) const NUMBERS_END: u64 = 1 << 40;
-
 impl GroupDatasets {
     /// Does these actions, in order: makes volumes, takes snapshots of what volumes are by then, and makes clones of snapshots. A name that is
     /// there already is passed over, and so is a snapshot of a volume, or a clone of a snapshot, that isn't there. Each volume, snapshot and
@@ -42,9 +39,12 @@ impl GroupDatasets {
     ) -> Result<(), Refusal>
         requires born { 0 < group }
         requires behind { 4 < self.old.next }
+        requires end { self.old.bounds.end ≤ numbers_end }
         ensures steps { OnlyReadsAndPlans store.old store.new [] }
         ensures behind { 4 < self.new.next }
-        ensures within { self.old.next ≤ numbers_end → self.new.next ≤ numbers_end }
+        ensures within { self.old.next ≤ self.old.bounds.end
+            → self.new.next ≤ self.old.bounds.end }
+        ensures bounds { self.new.bounds ≡ self.old.bounds }
         ensures one_set { AreOfOneSet self.old.changes self.new.changes }
 
         // The datasets are those after the actions.
@@ -75,7 +75,7 @@ impl GroupDatasets {
             (MakesAll store.old store.new group self.old self.new actions.now) }
         ensures refused { IfErr result (λ refusal. (refusal ≡ Refusal.NoMemory)
             ⊎ IsActionRefused store.old store.new self.old.changes group self.old.directory
-            self.old.next actions.now refusal) }
+            self.old.next self.old.bounds.end actions.now refusal) }
     {
         for action in actions {
             self.act_one(store, alloc, group, &action.change)?;
@@ -93,9 +93,12 @@ impl GroupDatasets {
     ) -> Result<(), Refusal>
         requires born { 0 < group }
         requires behind { 4 < self.old.next }
+        requires end { self.old.bounds.end ≤ numbers_end }
         ensures steps { OnlyReadsAndPlans store.old store.new [] }
         ensures behind { 4 < self.new.next }
-        ensures within { self.old.next ≤ numbers_end → self.new.next ≤ numbers_end }
+        ensures within { self.old.next ≤ self.old.bounds.end
+            → self.new.next ≤ self.old.bounds.end }
+        ensures bounds { self.new.bounds ≡ self.old.bounds }
         ensures one_set { AreOfOneSet self.old.changes self.new.changes }
         ensures value { OnOk result ((stored planned : Contents) → Plans store.old stored planned
             → AnswersAreTrue store.old store.new
@@ -122,7 +125,7 @@ impl GroupDatasets {
             ⊎ TouchesChange self.old.changes self.new.changes self.old.directory self.old.next
             change.now) }
         ensures refused { IfErr result (IsMakingRefused store.old store.new self.old.changes group
-            self.old.directory [] self.old.next change.now) }
+            self.old.directory [] self.old.next self.old.bounds.end change.now) }
     {
         match change {
             Change::Create {

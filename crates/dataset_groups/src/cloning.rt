@@ -26,7 +26,6 @@ ghost use Rattle.dataset_groups.specs.Groups.{SpellsGroup};
 ghost use Rattle.dataset_groups.specs.NewVolumes.{numbers_end};
 ghost use Rattle.dataset_groups.specs.Touched.{TouchesChange};
 
-use crate::actions::NUMBERS_END;
 use crate::datasets::GroupDatasets;
 use block_store::{BlockStore, Refusal};
 use dataset_chains::{NewNumbers, clone};
@@ -52,9 +51,12 @@ impl GroupDatasets {
     ) -> Result<(), Refusal>
         requires born { 0 < group }
         requires behind { 4 < self.old.next }
+        requires end { self.old.bounds.end ≤ numbers_end }
         ensures reads { OnlyReadsBlocks store.old store.new [] }
         ensures behind { 4 < self.new.next }
-        ensures within { self.old.next ≤ numbers_end → self.new.next ≤ numbers_end }
+        ensures within { self.old.next ≤ self.old.bounds.end
+            → self.new.next ≤ self.old.bounds.end }
+        ensures bounds { self.new.bounds ≡ self.old.bounds }
         ensures one_set { AreOfOneSet self.old.changes self.new.changes }
         ensures value { OnOk result ((stored known : Contents) (objects : ℕ → Option Object)
             (own : List Block) (blocks : ℕ → List Block) (pool : Pool) (readings : ℕ → Reading)
@@ -80,7 +82,8 @@ impl GroupDatasets {
             ⊎ TouchesChange self.old.changes self.new.changes self.old.directory self.old.next
             (Clone snapshot.now name.now)) }
         ensures refused { IfErr result (IsMakingRefused store.old store.new self.old.changes group
-            self.old.directory [] self.old.next (Clone snapshot.now name.now)) }
+            self.old.directory [] self.old.next self.old.bounds.end
+            (Clone snapshot.now name.now)) }
     {
         let name = name_of_clone(alloc, snapshot, name)?;
         if self.directory.get(&name).is_some() {
@@ -89,7 +92,7 @@ impl GroupDatasets {
         let Some(origin) = self.object_of(snapshot) else {
             return Ok(());
         };
-        if self.next > NUMBERS_END - 2 {
+        if self.bounds.end.saturating_sub(self.next) < 2 {
             return Err(Refusal::NoSpace);
         }
         reach_has_each_block_once();
@@ -111,6 +114,7 @@ impl GroupDatasets {
         requires numbers { self.old.next + 2 ≤ numbers_end }
         ensures reads { OnlyReadsBlocks store.old store.new [] }
         ensures next { (self.old.next ≤ self.new.next) × (self.new.next ≤ self.old.next + 2) }
+        ensures bounds { self.new.bounds ≡ self.old.bounds }
         ensures one_set { AreOfOneSet self.old.changes self.new.changes }
         ensures cloned { OnOk result
             (IsCloned store.old store.new group origin self.old name.now self.new) }

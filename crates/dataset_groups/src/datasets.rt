@@ -9,6 +9,18 @@ use std::alloc::Global;
 /// The number of the first object behind the tables.
 const FIRST_OBJECT: u64 = 5;
 
+/// The numbers of objects are below 32 * 128^5.
+const NUMBERS_END: u64 = 1 << 40;
+
+/// Where the numbers end that new objects take: those from the next one on.
+#[derive(Debug, Clone, Copy)]
+pub struct NumberBounds {
+    /// New objects take numbers below this one.
+    pub end: u64,
+    /// Before the group no object had this number or a later one.
+    pub behind: u64,
+}
+
 /// What a transaction group makes of a pool's datasets so far.
 ///
 /// Where a method answers an error what it was to change is perhaps changed in part, and blocks may be planned that nothing has: these datasets
@@ -21,6 +33,8 @@ pub struct GroupDatasets {
     pub changes: DatasetChanges,
     /// The number of the next object that is made.
     pub next: u64,
+    /// Where these numbers end.
+    pub bounds: NumberBounds,
 }
 
 impl GroupDatasets {
@@ -45,6 +59,8 @@ impl GroupDatasets {
         ensures none { AreUntouched result.changes }
         ensures directory { result.directory ≡ directory }
         ensures next { result.next ≡ first_number set }
+        ensures bounds { (result.bounds.end ≡ numbers_end)
+            × (result.bounds.behind ≡ first_number set) }
         ensures behind { (4 < result.next) × (result.next ≤ numbers_end) }
 
         // Where the set's datasets fit one another, and the directory names them, the group begins with them.
@@ -61,6 +77,23 @@ impl GroupDatasets {
             directory,
             changes: DatasetChanges::new(alloc, set, birth),
             next,
+            bounds: NumberBounds {
+                end: NUMBERS_END,
+                behind: next,
+            },
         }
+    }
+
+    /// Has new objects take the numbers from `first` on and below `end`, as some of objects that are gone, in place of those behind all objects.
+    /// That no object has one of these is the caller's to see to, and that nothing was made so far.
+    pub fn number_from(&mut self, first: u64, end: u64)
+        ensures directory { self.new.directory ≡ self.old.directory }
+        ensures changes { self.new.changes ≡ self.old.changes }
+        ensures next { self.new.next ≡ first }
+        ensures bounds { (self.new.bounds.end ≡ end)
+            × (self.new.bounds.behind ≡ self.old.bounds.behind) }
+    {
+        self.next = first;
+        self.bounds.end = end;
     }
 }

@@ -1,5 +1,5 @@
 //! Datasets that a group destroys.
-ghost use Rattle.std.specs.Prelude.{◌≡◌, ◌≤◌, ◌↔◌, ◌++◌, ◌∷◌, [], ℕ, List, Option, Any, IsTrue, OnOk, IfOk, IfErr};
+ghost use Rattle.std.specs.Prelude.{◌≡◌, ◌↔◌, ◌++◌, ◌∷◌, [], ℕ, List, Option, Any, IsTrue, OnOk, IfOk, IfErr};
 ghost use Rattle.block_pointer.specs.declared.block.Block.{Block};
 ghost use Rattle.block_store.specs.Blocks.{Contents};
 ghost use Rattle.block_store.specs.Losses.{IsForLoss};
@@ -146,6 +146,7 @@ impl GroupDatasets {
         ensures order { IsDirectory self.old.directory × IsDirectory self.new.directory }
         ensures rows { IsWithout self.old.directory name.now self.new.directory }
         ensures others { (self.new.changes ≡ self.old.changes) × (self.new.next ≡ self.old.next) }
+        ensures bounds { self.new.bounds ≡ self.old.bounds }
     {
         let _rows = self.directory.rows();
         self.directory.remove(name);

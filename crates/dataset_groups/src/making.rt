@@ -1,6 +1,5 @@
 //! Volumes that a group makes.
-ghost use Rattle.std.specs.Prelude.{◌≡◌, ◌⊎◌, ◌+◌, ◌<◌, ◌≤◌, false, true, ℕ, List, [], Option, OnOk, IfErr};
-ghost use Rattle.block_pointer.specs.declared.block.Block.{Block};
+ghost use Rattle.std.specs.Prelude.{◌≡◌, ◌⊎◌, ◌+◌, ◌<◌, ◌≤◌, false, true, ℕ, [], Option, OnOk, IfErr};
 ghost use Rattle.block_store.specs.Blocks.{Contents, Extends};
 ghost use Rattle.block_store.specs.Plans.{Plans};
 ghost use Rattle.block_store.specs.Steps.{OnlyReadsAndPlans, AnswersAreTrue};
@@ -22,7 +21,6 @@ ghost use Rattle.dataset_groups.specs.Groups.{SpellsGroup};
 ghost use Rattle.dataset_groups.specs.NewVolumes.{numbers_end};
 ghost use Rattle.dataset_groups.specs.Touched.{TouchesNew};
 
-use crate::actions::NUMBERS_END;
 use crate::datasets::GroupDatasets;
 use crate::new_volume::NewVolume;
 use block_store::{BlockStore, Refusal};
@@ -47,9 +45,12 @@ impl GroupDatasets {
     ) -> Result<(), Refusal>
         requires born { 0 < group }
         requires behind { 4 < self.old.next }
+        requires end { self.old.bounds.end ≤ numbers_end }
         ensures steps { OnlyReadsAndPlans store.old store.new [] }
         ensures behind { 4 < self.new.next }
-        ensures within { self.old.next ≤ numbers_end → self.new.next ≤ numbers_end }
+        ensures within { self.old.next ≤ self.old.bounds.end
+            → self.new.next ≤ self.old.bounds.end }
+        ensures bounds { self.new.bounds ≡ self.old.bounds }
         ensures one_set { AreOfOneSet self.old.changes self.new.changes }
         ensures value { OnOk result ((stored planned : Contents) → Plans store.old stored planned
             → AnswersAreTrue store.old store.new
@@ -70,13 +71,14 @@ impl GroupDatasets {
         ensures touched { OnOk result ((self.new ≡ self.old)
             ⊎ TouchesNew self.old.changes self.new.changes self.old.next) }
         ensures refused { IfErr result (IsMakingRefused store.old store.new self.old.changes group
-            self.old.directory [] self.old.next (Create name.now size block_size)) }
+            self.old.directory [] self.old.next self.old.bounds.end
+            (Create name.now size block_size)) }
     {
         let new = NewVolume::of(name, size, block_size)?;
         if self.directory.get(&new.name).is_some() {
             return Ok(());
         }
-        if self.next > NUMBERS_END - 2 {
+        if self.bounds.end.saturating_sub(self.next) < 2 {
             return Err(Refusal::NoSpace);
         }
         let object_set = new.planned(store, alloc, group)?;
@@ -98,6 +100,7 @@ impl GroupDatasets {
         requires numbers { self.old.next + 2 ≤ numbers_end }
         requires list { (dataset.now).dead_list ≡ self.old.next + 1 }
         ensures one_set { AreOfOneSet self.old.changes self.new.changes }
+        ensures bounds { self.new.bounds ≡ self.old.bounds }
         ensures added { OnOk result (IsAdded self.old name.now dataset.now self.new) }
         ensures refused { IfErr result (λ refusal. (refusal ≡ Refusal.NoMemory)
             × (self.new.next ≡ self.old.next)) }

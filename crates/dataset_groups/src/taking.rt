@@ -28,7 +28,6 @@ ghost use Rattle.dataset_groups.specs.Groups.{SpellsGroup};
 ghost use Rattle.dataset_groups.specs.NewVolumes.{numbers_end};
 ghost use Rattle.dataset_groups.specs.Touched.{TouchesChange};
 
-use crate::actions::NUMBERS_END;
 use crate::datasets::GroupDatasets;
 use block_store::{BlockStore, Refusal};
 use dataset_chains::{NewNumbers, snapshot};
@@ -54,9 +53,12 @@ impl GroupDatasets {
     ) -> Result<(), Refusal>
         requires born { 0 < group }
         requires behind { 4 < self.old.next }
+        requires end { self.old.bounds.end ≤ numbers_end }
         ensures reads { OnlyReadsBlocks store.old store.new [] }
         ensures behind { 4 < self.new.next }
-        ensures within { self.old.next ≤ numbers_end → self.new.next ≤ numbers_end }
+        ensures within { self.old.next ≤ self.old.bounds.end
+            → self.new.next ≤ self.old.bounds.end }
+        ensures bounds { self.new.bounds ≡ self.old.bounds }
         ensures one_set { AreOfOneSet self.old.changes self.new.changes }
         ensures value { OnOk result ((stored known : Contents) (objects : ℕ → Option Object)
             (own : List Block) (blocks : ℕ → List Block) (pool : Pool) (readings : ℕ → Reading)
@@ -82,7 +84,8 @@ impl GroupDatasets {
             ⊎ TouchesChange self.old.changes self.new.changes self.old.directory self.old.next
             (Snapshot volume.now part.now)) }
         ensures refused { IfErr result (IsMakingRefused store.old store.new self.old.changes group
-            self.old.directory [] self.old.next (Snapshot volume.now part.now)) }
+            self.old.directory [] self.old.next self.old.bounds.end
+            (Snapshot volume.now part.now)) }
     {
         let name = row_name(alloc, volume, part)?;
         if self.directory.get(&name).is_some() {
@@ -91,7 +94,7 @@ impl GroupDatasets {
         let Some(head) = self.object_of(volume) else {
             return Ok(());
         };
-        if self.next > NUMBERS_END - 2 {
+        if self.bounds.end.saturating_sub(self.next) < 2 {
             return Err(Refusal::NoSpace);
         }
         reach_has_each_block_once();
@@ -113,6 +116,7 @@ impl GroupDatasets {
         requires numbers { self.old.next + 2 ≤ numbers_end }
         ensures reads { OnlyReadsBlocks store.old store.new [] }
         ensures next { (self.old.next ≤ self.new.next) × (self.new.next ≤ self.old.next + 2) }
+        ensures bounds { self.new.bounds ≡ self.old.bounds }
         ensures one_set { AreOfOneSet self.old.changes self.new.changes }
         ensures taken { OnOk result
             (IsTaken store.old store.new group head self.old name.now self.new) }

@@ -58,6 +58,7 @@ impl GroupDatasets {
         ensures steps { OnlyReadsAndPlans store.old store.new [] }
         ensures directory { self.new.directory ≡ self.old.directory }
         ensures next { self.new.next ≡ self.old.next }
+        ensures bounds { self.new.bounds ≡ self.old.bounds }
         ensures one_set { AreOfOneSet self.old.changes self.new.changes }
         ensures behind { OnOk result ((gone : List Block)
             × (freed.new.items ≡ freed.old.items ++ gone)) }
@@ -120,6 +121,7 @@ impl GroupDatasets {
         ensures steps { OnlyReadsAndPlans store.old store.new [] }
         ensures directory { self.new.directory ≡ self.old.directory }
         ensures next { self.new.next ≡ self.old.next }
+        ensures bounds { self.new.bounds ≡ self.old.bounds }
         ensures one_set { AreOfOneSet self.old.changes self.new.changes }
         ensures behind { OnOk result ((gone : List Block)
             × (freed.new.items ≡ freed.old.items ++ gone)) }

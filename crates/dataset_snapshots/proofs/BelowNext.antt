@@ -1,5 +1,5 @@
 -- Changes of which not all are of objects below the next number.
-use Rattle.std.proofs.Common.{◌≢◌, ◌⊎◌, inl, inr, ℕ, ◌<◌, ◌≤◌, Bool, IsTrue, List, [], ◌∷◌, Option, None, All}
+use Rattle.std.proofs.Common.{arith, ◌≢◌, ◌⊎◌, inl, inr, ℕ, ◌<◌, ◌≤◌, Bool, IsTrue, List, [], ◌∷◌, Option, None, All}
 use Rattle.std.specs.Prelude.{Any}
 use Rattle.std.proofs.lemmas.Bool.{cases_lt}
 use Rattle.std.proofs.lemmas.List.Elements.{All-cons, All-contains, All-nil}
@@ -36,11 +36,12 @@ some_behind next changes below all_so not = elim (below_or_not next changes) [
 
 -- the changes of a group's datasets all are, and no number is of both a record and a dead list
 pub not_misnumbered : (known : Contents) (group : ℕ) (objects : ℕ → Option Object) (datasets : GroupDatasets) (pool : Pool) (readings : ℕ → Reading) (plain : PlainPool)
-    → SpellsGroup known group objects datasets pool readings plain → ¬ AreMisnumbered datasets.changes datasets.next
-not_misnumbered known group objects datasets pool readings plain spells (inl mixed) = spells.unmixed mixed
-not_misnumbered known group objects datasets pool readings plain spells (inr (changes, are, behind)) =
+    (next : ℕ) → datasets.next ≤ next → datasets.bounds.behind ≤ next → SpellsGroup known group objects datasets pool readings plain → ¬ AreMisnumbered datasets.changes next
+not_misnumbered known group objects datasets pool readings plain next low after spells (inl mixed) = spells.unmixed mixed
+not_misnumbered known group objects datasets pool readings plain next low after spells (inr (changes, are, behind)) =
     let change = behind.1 in
-    let fresh = spells.fresh change.number behind.4 in
+    let high = behind.4 in
+    let fresh = spells.fresh change.number (omega (arith, low, high)) (inr (omega (arith, after, high))) in
     let touched = All-contains (λ (c : ObjectChange). IsRecordChanged (record_at datasets.changes c.number) ⊎ (list_at datasets.changes c.number ≢ None)) changes change are.touched
     (behind.0, behind.2, behind.3) in
     elim touched [

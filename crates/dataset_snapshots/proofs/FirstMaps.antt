@@ -43,7 +43,7 @@ use Rattle.dataset_snapshots.specs.Mapped.{AreCopied, HasMapsBehind}
 use Rattle.dataset_snapshots.specs.Pools.{SpellsPool}
 use Rattle.dataset_snapshots.specs.Reach.{reach_of}
 use Rattle.dataset_snapshots.proofs.ChangedRows.{changed_or_not, nothing_in}
-use Rattle.dataset_snapshots.proofs.Copied.{reach_copied}
+use Rattle.dataset_groups.proofs.Copied.{reach_copied}
 use Rattle.dataset_snapshots.proofs.FirstRoots.{first_given, first_may, lacks_maps, neither_of_table, nothing, table_has, tables_stay}
 use Rattle.dataset_snapshots.proofs.GroupReach.{IsRootGiven}
 use Rattle.dataset_snapshots.proofs.OtherObjects.{IsNeither, StaysForChains, chains_more, chains_over, neither_of_none}

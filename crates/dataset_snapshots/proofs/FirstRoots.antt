@@ -22,6 +22,7 @@ use Rattle.dataset_groups.specs.Demands.{AreMade, HasMoreRows, IsActionRefused, 
 use Rattle.dataset_groups.specs.Groups.{SpellsGroup}
 use Rattle.dataset_groups.specs.Leaving.{IsReachExchanged}
 use Rattle.dataset_groups.specs.Names.{NamesPool}
+use Rattle.dataset_groups.specs.NewVolumes.{numbers_end}
 use Rattle.dataset_groups.specs.Touched.{TouchesMade}
 use Rattle.dead_list.specs.Datasets.{Free, Pool, Snapshot}
 use Rattle.dead_list.specs.Datasets.{nothing as no_dataset}
@@ -50,10 +51,10 @@ use Rattle.vdev_label.specs.Plain.{PlainVdev}
 use Rattle.volume.proofs.Made.{no_objects}
 use Rattle.dataset_snapshots.specs.Demands.{AreMisnumbered, HasRootPlaces, IsRootRefused}
 use Rattle.dataset_snapshots.specs.FirstGroup.{AreFirstActionsRefused, AreFirstGroupChanges, AreFirstPlaced, AreFirstVolumes, AreTableChanges, AreWithFirstMaps, HasFirstPlaces, IsFirstRefused, IsWithTables, empty_meta}
-use Rattle.dataset_snapshots.proofs.Asking.{all_demands_in}
+use Rattle.dataset_groups.proofs.Asking.{all_demands_in}
 use Rattle.dataset_snapshots.proofs.BelowNext.{not_misnumbered}
 use Rattle.dataset_snapshots.proofs.ChangedRows.{changed_or_not, nothing_in}
-use Rattle.dataset_snapshots.proofs.Exchanges.{both_given, given_as}
+use Rattle.dataset_groups.proofs.Exchanges.{both_given, given_as}
 use Rattle.dataset_snapshots.proofs.MoreChanges.{changed_behind, changed_front, may_make}
 use Rattle.dataset_snapshots.proofs.OtherObjects.{IsNeither, StaysForChains, neither_of_none, neither_of_type}
 
@@ -155,15 +156,16 @@ module _ (old new : Store) (group : ℕ) (actions : List Action) (before : Group
   }
 
   -- or an action was refused
-  pub first_actions_refused : (refusal : Refusal) → (refusal ≡ NoMemory) ⊎ IsActionRefused old new before.changes group before.directory before.next actions refusal
+  pub first_actions_refused : (refusal : Refusal) → before.bounds.end ≡ numbers_end → (refusal ≡ NoMemory) ⊎ IsActionRefused old new before.changes group before.directory before.next before.bounds.end actions refusal
       → (refusal ≡ NoMemory) ⊎ AreFirstActionsRefused old new group actions refusal
-  first_actions_refused refusal (inl memory) = inl memory
-  first_actions_refused refusal (inr why) =
+  first_actions_refused refusal end_is (inl memory) = inl memory
+  first_actions_refused refusal end_is (inr why) =
       inr (
         before.changes,
         none,
-        subst (λ (rows : List DirectoryRow). IsActionRefused old new before.changes group rows 5 actions refusal) no_rows
-            (subst (λ n. IsActionRefused old new before.changes group before.directory n actions refusal) next_is why),
+        subst (λ (rows : List DirectoryRow). IsActionRefused old new before.changes group rows 5 numbers_end actions refusal) no_rows
+            (subst (λ n. IsActionRefused old new before.changes group before.directory n numbers_end actions refusal) next_is
+            (subst (λ end. IsActionRefused old new before.changes group before.directory before.next end actions refusal) end_is why)),
       )
 
 -- ---- the tables
@@ -370,10 +372,11 @@ first_volumes_refused old new group vdevs items actions refusal same (inr why) =
 
 -- what was made of sound datasets is of numbers below the next, and nothing has both a record and a dead list
 pub first_datasets_known : (known : Contents) (group : ℕ) (datasets : GroupDatasets) (pool : Pool) (readings : ℕ → Reading) (plain : PlainPool) (refusal : Refusal)
-    → SpellsGroup known group nothing datasets pool readings plain → (refusal ≡ NoMemory) ⊎ ((refusal ≡ BadPointer) × AreMisnumbered datasets.changes datasets.next)
+    → datasets.bounds.behind ≤ datasets.next → SpellsGroup known group nothing datasets pool readings plain → (refusal ≡ NoMemory) ⊎ ((refusal ≡ BadPointer) × AreMisnumbered datasets.changes datasets.next)
     → IsForRoom refusal ⊎ (refusal ≡ DiskFault)
-first_datasets_known known group datasets pool readings plain refusal spells (inl memory) = inl (inl memory)
-first_datasets_known known group datasets pool readings plain refusal spells (inr why) = absurd (not_misnumbered known group nothing datasets pool readings plain spells why.1)
+first_datasets_known known group datasets pool readings plain refusal behind spells (inl memory) = inl (inl memory)
+first_datasets_known known group datasets pool readings plain refusal behind spells (inr why) =
+    absurd (not_misnumbered known group nothing datasets pool readings plain datasets.next (omega arith) behind spells why.1)
 
 -- or what becomes of the records and dead lists can't be
 pub first_datasets_refused : (old mid : Store) (group : ℕ) (vdevs : List PlainVdev) (items : Entry) (datasets : GroupDatasets) (refusal : Refusal) → OnlyReadsAndPlans old mid []

@@ -26,9 +26,10 @@ use Rattle.dataset_snapshots.specs.Demands.{AreMappedRefused, AreWithMaps, HasGr
 use Rattle.dataset_groups.specs.Demands.{IsNameThere}
 use Rattle.dataset_groups.specs.Destroys.{AreDestroysRefused}
 use Rattle.dataset_snapshots.specs.Finding.{IsMetaFound, IsMetaRefused}
+use Rattle.dataset_snapshots.specs.Groups.{HasRoomFor}
 use Rattle.dataset_snapshots.specs.Opening.{IsBegunFound, IsGroupFound, IsGroupUnread, IsOneUnread, IsVolumeUnread, most_blocks}
 use Rattle.dataset_snapshots.specs.Writing.{IsWrittenBut}
-use Rattle.dataset_snapshots.proofs.Asking.{all_demands_in}
+use Rattle.dataset_groups.proofs.Asking.{all_demands_in}
 use Rattle.dnode.specs.declared.object_set.ObjectSetKind.TheVariants as kinds
 use Rattle.objset.specs.Changes.{copies_of}
 
@@ -116,6 +117,19 @@ pub names_kept : (old mid new : Store) (root : Block) (rows : List DirectoryRow)
 names_kept old mid new root rows group destroyed writes begun refusal reads found why =
     inr (inr (inr (record { set = begun.set; meta = found.meta; begun = begun.datasets; begins = found.begins; mid = mid; before = reads; why = why })))
 
+-- so it is of the names that these are
+pub names_unread : (old new : Store) (root : Block) (rows : List DirectoryRow) (group : ℕ) (names destroyed : List (List ℕ)) (writes : List Write) (refusal : Refusal) → names ≡ destroyed
+    → (refusal ≡ NoMemory) ⊎ IsGroupUnread old new root rows group names writes refusal → (refusal ≡ NoMemory) ⊎ IsGroupUnread old new root rows group destroyed writes refusal
+names_unread old new root rows group names destroyed writes refusal same why =
+    subst (λ (list : List (List ℕ)). (refusal ≡ NoMemory) ⊎ IsGroupUnread old new root rows group list writes refusal) same why
+
+pub begun_unread : (old new : Store) (root : Block) (rows : List DirectoryRow) (group : ℕ) (names destroyed : List (List ℕ)) (writes : List Write) (refusal : Refusal) → names ≡ destroyed
+    → (refusal ≡ NoMemory) ⊎ (IsMetaRefused old new [] (group - 1) root refusal ⊎ IsVolumeUnread old new (group - 1) root rows names writes refusal)
+    → (refusal ≡ NoMemory) ⊎ IsGroupUnread old new root rows group destroyed writes refusal
+begun_unread old new root rows group names destroyed writes refusal same (inl memory) = inl memory
+begun_unread old new root rows group names destroyed writes refusal same (inr (inl meta)) = inr (inl meta)
+begun_unread old new root rows group names destroyed writes refusal same (inr (inr why)) = names_unread old new root rows group names destroyed writes refusal same (inr (inr (inl why)))
+
 pub renamed_by : (rows kept : List DirectoryRow) (destroyed : List (List ℕ)) (renamed : Bool) → rows ≡ kept → (IsTrue renamed ↔ Any (IsNameThere rows) destroyed)
     → (IsTrue renamed ↔ Any (IsNameThere kept) destroyed)
 renamed_by rows kept destroyed renamed same is = subst (λ (list : List DirectoryRow). IsTrue renamed ↔ Any (IsNameThere list) destroyed) same is
@@ -123,9 +137,9 @@ renamed_by rows kept destroyed renamed same is = subst (λ (list : List Director
 -- ---- the group
 
 module _ (old first second new : Store) (root : Block) (rows : List DirectoryRow) (group : ℕ) (destroyed : List (List ℕ)) (items : Entry) (opened : Opened) (reads : OnlyReadsBlocks old first [])
-    (found : IsGroupFound old.spaces (group - 1) root rows destroyed items.writes opened) where
+    (found : IsGroupFound old.spaces (group - 1) root rows destroyed items.writes opened) (room : HasRoomFor opened.datasets (length items.actions)) where
   pub group_volumes_refused : (refusal : Refusal) → AreMappedRefused first new root.birth group opened items.actions refusal → IsGroupRefused old new root rows group destroyed items refusal
-  group_volumes_refused refusal why = inr (inr (record { opened = opened; found = found; mid = first; before = reads; why = inl why }))
+  group_volumes_refused refusal why = inr (inr (record { opened = opened; found = found; room = room; mid = first; before = reads; why = inl why }))
 
   pub group_changes_refused : (gone : List Block) (changes : List ObjectChange) (refusal : Refusal) → OnlyReadsAndPlans first second [] → HasMappedPlaces first second root.birth group opened items.actions gone changes
       → IsRootRefused second new opened.set root.birth group changes refusal → IsGroupRefused old new root rows group destroyed items refusal
@@ -133,6 +147,7 @@ module _ (old first second new : Store) (root : Block) (rows : List DirectoryRow
       inr (inr (record {
         opened = opened;
         found = found;
+        room = room;
         mid = first;
         before = reads;
         why = inr (record { mid = second; before = steps; gone = gone; all = changes; volumes = volumes; why = why });
@@ -172,6 +187,7 @@ module _ (old first second new : Store) (root : Block) (rows : List DirectoryRow
       (subst (λ (spaces : List VdevSpace). HavePlaces first.spaces (volumes.of_written ++ volumes.of_made) spaces) (sym now) volumes.places) root_has in record {
         opened = opened;
         found = found;
+        room = room;
         gone = gone;
         of_meta = of_meta;
         given_back = given_back;

@@ -1,6 +1,6 @@
 -- What a group is planned from, once its datasets are destroyed.
 use Rattle.std.specs.Prelude.{Any}
-use Rattle.std.proofs.Common.{◌≡◌, ◌⊎◌, ◌↔◌, Bool, IsTrue, false, true≢false, ℕ, ◌<◌, ◌-◌, List, [], ◌∷◌, All, Contains, inl, inr, sym, ap, subst, ◌∙◌, arith}
+use Rattle.std.proofs.Common.{◌≡◌, ◌↔◌, Bool, IsTrue, false, true≢false, ℕ, ◌<◌, ◌-◌, List, [], ◌∷◌, All, Contains, inl, inr, sym, ap, subst, ◌∙◌}
 use Rattle.std.proofs.lemmas.List.Elements.{All-contains}
 use Rattle.block_pointer.specs.declared.block.Block.{Block}
 use Rattle.block_store.specs.Blocks.{Contents}
@@ -74,6 +74,14 @@ next_stays old new name (inr one) = one.next
 pub next_left : (old new : GroupDatasets) (names : List (List ℕ)) → DestroysAll old new names → new.next ≡ old.next
 next_left old new [] same = ap (λ (d : GroupDatasets). d.next) same
 next_left old new (name ∷ names) (mid, one, rest) = next_left mid new names rest ∙ next_stays old mid name one
+
+bounds_stay : (old new : GroupDatasets) (name : List ℕ) → DestroysOne old new name → new.bounds ≡ old.bounds
+bounds_stay old new name (inl (none, same)) = ap (λ (d : GroupDatasets). d.bounds) same
+bounds_stay old new name (inr one) = one.bounds
+
+pub bounds_left : (old new : GroupDatasets) (names : List (List ℕ)) → DestroysAll old new names → new.bounds ≡ old.bounds
+bounds_left old new [] same = ap (λ (d : GroupDatasets). d.bounds) same
+bounds_left old new (name ∷ names) (mid, one, rest) = bounds_left mid new names rest ∙ bounds_stay old mid name one
 
 -- where no name is there nothing goes
 pub rows_same : (old new : GroupDatasets) (names : List (List ℕ)) → DestroysAll old new names → ¬ Any (IsNameThere old.directory) names → new.directory ≡ old.directory

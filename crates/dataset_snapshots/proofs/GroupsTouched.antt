@@ -1,6 +1,6 @@
 -- Which records and dead lists a group changed, and what its volumes ask.
 use Rattle.std.proofs.Common.{◌≡◌, ◌⊎◌, Bool, true, false, true≢false, inl, inr, ℕ, ◌+◌, ◌*◌, List, [], ◌∷◌, length, refl, sym, ap, subst, ◌∙◌, arith}
-use Rattle.std.specs.Prelude.{not, ◌==◌}
+use Rattle.std.specs.Prelude.{max, not, ◌==◌}
 use Rattle.std.proofs.lemmas.Bool.{eq-eqb, ne_eqb}
 use Rattle.block_store.proofs.Demands.{have_both}
 use Rattle.block_store.specs.Demands.{Demand}
@@ -12,8 +12,9 @@ use Rattle.block_store.specs.Steps.{OnlyReadsAndPlans}
 use Rattle.block_store.specs.Store.{Store}
 use Rattle.dataset_changes.specs.States.{AreOfOneSet}
 use Rattle.dataset_groups.specs.declared.datasets.GroupDatasets.{GroupDatasets}
+use Rattle.dataset_groups.specs.declared.datasets.NumberBounds.{NumberBounds}
 use Rattle.dataset_groups.specs.Demands.{AreAsked, AreMade, HasActionDemands, HasChangeDemands, HasHeadDemands, HasMoreRows, HavePlacesFor, IsActionRefused, MakesAll}
-use Rattle.dataset_groups.specs.Groups.{first_number}
+use Rattle.dataset_groups.specs.Groups.{first_number, next_behind}
 use Rattle.dataset_groups.specs.Touched.{TouchesHeads, TouchesMade}
 use Rattle.meta_objset.specs.declared.directory.DirectoryRow.{DirectoryRow}
 use Rattle.objset.specs.declared.changes.ObjectChange.{ObjectChange}
@@ -22,9 +23,9 @@ use Rattle.pool_model.specs.declared.item.Change.{Change}
 use Rattle.pool_model.specs.declared.item.Change.TheVariants.{Clone, Create, Destroy, Snapshot}
 use Rattle.volume.specs.Demands.{empty_set}
 use Rattle.dataset_snapshots.specs.declared.groups.Opened.{Opened}
-use Rattle.dataset_snapshots.specs.Demands.{AreDirectoryChanges, are_renamed, AreGroupChanges, AreGroupDatasets, AreMisnumbered, AreVolumesRefused, HasDatasetChanges, HasVolumePlaces}
+use Rattle.dataset_snapshots.specs.Demands.{AreDirectoryChanges, are_renamed, AreGroupChanges, AreGroupDatasets, AreMisnumbered, AreVolumesRefused, HasDatasetChanges, HasVolumePlaces, next_after}
 use Rattle.dataset_snapshots.specs.Groups.{objects_of}
-use Rattle.dataset_snapshots.proofs.Asking.{set_demands_in}
+use Rattle.dataset_groups.proofs.Asking.{set_demands_in}
 
 -- ---- the changes
 
@@ -92,9 +93,9 @@ change_asks old mid same group (Destroy name) demands none = none
 
 -- the volumes that are written to were placed, and then the actions are done
 module _ (old mid new : Store) (group : ℕ) (opened : Opened) (actions : List Action) (first last : GroupDatasets) (rows_are : first.directory ≡ opened.datasets.directory)
-    (next_is : first.next ≡ first_number opened.set) (heads : TouchesHeads opened.datasets.changes first.changes (objects_of opened))
+    (next_is : first.next ≡ opened.datasets.next) (bounds_are : first.bounds ≡ opened.datasets.bounds) (heads : TouchesHeads opened.datasets.changes first.changes (objects_of opened))
     (places : HavePlacesFor old mid (HasHeadDemands old.spaces group) opened.written.items) where
-  pub actions_refused : (refusal : Refusal) → OnlyReadsAndPlans old mid [] → (refusal ≡ NoMemory) ⊎ IsActionRefused mid new first.changes group first.directory first.next actions refusal
+  pub actions_refused : (refusal : Refusal) → OnlyReadsAndPlans old mid [] → (refusal ≡ NoMemory) ⊎ IsActionRefused mid new first.changes group first.directory first.next first.bounds.end actions refusal
       → AreVolumesRefused old new group opened actions refusal
   actions_refused refusal steps (inl memory) = inl memory
   actions_refused refusal steps (inr why) =
@@ -104,16 +105,20 @@ module _ (old mid new : Store) (group : ℕ) (opened : Opened) (actions : List A
         places = places;
         written = first.changes;
         heads = heads;
-        why = subst (λ (rows : List DirectoryRow). IsActionRefused mid new first.changes group rows (first_number opened.set) actions refusal) rows_are
-            (subst (λ (n : ℕ). IsActionRefused mid new first.changes group first.directory n actions refusal) next_is why);
+        why = subst (λ (rows : List DirectoryRow). IsActionRefused mid new first.changes group rows opened.datasets.next opened.datasets.bounds.end actions refusal) rows_are
+            (subst (λ (n : ℕ). IsActionRefused mid new first.changes group first.directory n opened.datasets.bounds.end actions refusal) next_is
+            (subst (λ (b : NumberBounds). IsActionRefused mid new first.changes group first.directory first.next b.end actions refusal) bounds_are why));
       })))
 
   module _ (one : AreOfOneSet opened.datasets.changes first.changes) (two : AreOfOneSet first.changes last.changes) (makes : MakesAll mid new group first last actions) where
     made_are : AreMade opened.datasets.directory [] actions makes.made
     made_are = subst (λ (rows : List DirectoryRow). AreMade rows [] actions makes.made) rows_are makes.are
 
-    last_next : last.next ≡ first_number opened.set + 2 * length makes.made
-    last_next = makes.names.next ∙ ap (λ (n : ℕ). n + 2 * length makes.made) next_is
+    last_next : opened.datasets.bounds.behind ≡ first_number opened.set → next_behind last ≡ next_after opened makes.made
+    last_next behind =
+        ap (λ (b : NumberBounds). max last.next b.behind) (makes.names.bounds ∙ bounds_are)
+        ∙ ap (λ (n : ℕ). max n opened.datasets.bounds.behind) (makes.names.next ∙ ap (λ (n : ℕ). n + 2 * length makes.made) next_is)
+        ∙ ap (max (opened.datasets.next + 2 * length makes.made)) behind
 
     -- those of the heads, and those that the actions made and changed
     datasets_are : AreGroupDatasets opened makes.made last.changes
@@ -122,15 +127,15 @@ module _ (old mid new : Store) (group : ℕ) (opened : Opened) (actions : List A
       written = first.changes;
       heads = heads;
       rows = last.directory;
-      kept = subst (λ (rows : List DirectoryRow). HasMoreRows rows (first_number opened.set) last.directory) rows_are
+      kept = subst (λ (rows : List DirectoryRow). HasMoreRows rows opened.datasets.next last.directory) rows_are
           (subst (λ (n : ℕ). HasMoreRows first.directory n last.directory) next_is makes.names.kept);
       touched = subst (λ (n : ℕ). TouchesMade first.changes last.changes last.directory n makes.made) next_is makes.touched;
     }
 
-    pub datasets_refused : (refusal : Refusal) → OnlyReadsAndPlans old new [] → (refusal ≡ NoMemory) ⊎ ((refusal ≡ BadPointer) × AreMisnumbered last.changes last.next)
-        → AreVolumesRefused old new group opened actions refusal
-    datasets_refused refusal steps (inl memory) = inl memory
-    datasets_refused refusal steps (inr (bad, mis)) =
+    pub datasets_refused : (refusal : Refusal) → opened.datasets.bounds.behind ≡ first_number opened.set → OnlyReadsAndPlans old new []
+        → (refusal ≡ NoMemory) ⊎ ((refusal ≡ BadPointer) × AreMisnumbered last.changes (next_behind last)) → AreVolumesRefused old new group opened actions refusal
+    datasets_refused refusal behind steps (inl memory) = inl memory
+    datasets_refused refusal behind steps (inr (bad, mis)) =
         inr (inr (inr (record {
           bad = bad;
           planned = steps;
@@ -138,17 +143,17 @@ module _ (old mid new : Store) (group : ℕ) (opened : Opened) (actions : List A
           made_are = made_are;
           datasets = last.changes;
           datasets_are = datasets_are;
-          mis = subst (AreMisnumbered last.changes) last_next mis;
+          mis = subst (AreMisnumbered last.changes) (last_next behind) mis;
         })))
 
-    pub volumes_have : (changes : List ObjectChange) (next : ℕ) (renamed : Bool) → next ≡ last.next → shapes_of mid.spaces ≡ shapes_of old.spaces
+    pub volumes_have : (changes : List ObjectChange) (next : ℕ) (renamed : Bool) → opened.datasets.bounds.behind ≡ first_number opened.set → next ≡ next_behind last → shapes_of mid.spaces ≡ shapes_of old.spaces
         → renamed ≡ are_renamed opened.renamed makes.made → HasDatasetChanges last renamed changes → HasVolumePlaces old new group opened actions changes next
-    volumes_have changes next renamed is same renamed_is changes_are =
+    volumes_have changes next renamed behind is same renamed_is changes_are =
         let asked = makes.places in
         record {
           made = makes.made;
           made_are = made_are;
-          next_is = is ∙ last_next;
+          next_is = is ∙ last_next behind;
           changes_are = group_changes opened last renamed makes.made changes datasets_are
               (makes.names.rows ∙ ap (λ (rows : List DirectoryRow). length rows + length makes.made) rows_are) renamed_is changes_are;
           of_written = places.0;

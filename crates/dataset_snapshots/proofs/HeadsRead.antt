@@ -21,6 +21,7 @@ use Rattle.dataset_changes.specs.declared.states.ListState.TheVariants as lists
 use Rattle.dataset_changes.specs.declared.states.RecordState.{RecordState}
 use Rattle.dataset_changes.specs.declared.states.RecordState.TheVariants as records
 use Rattle.dataset_groups.specs.declared.datasets.GroupDatasets.{GroupDatasets}
+use Rattle.dataset_groups.specs.Groups.{IsWithin}
 use Rattle.dataset_groups.specs.declared.writing.WrittenHead.{WrittenHead}
 use Rattle.dataset_groups.specs.Names.{NamesPool}
 use Rattle.dead_list_objects.specs.Lists.{dead_list_kind}
@@ -78,12 +79,13 @@ number_is stored birth set there own blocks m n r fits are same behind has =
 
 -- ---- the datasets, once a record was read
 
-module _ (old new : GroupDatasets) (n : ℕ) (found : DatasetRecord) (directory : new.directory ≡ old.directory) (next : new.next ≡ old.next)
+module _ (old new : GroupDatasets) (n : ℕ) (found : DatasetRecord) (directory : new.directory ≡ old.directory) (next : new.next ≡ old.next) (bounds : new.bounds ≡ old.bounds)
     (put : HasRecordPut old.changes n (Some (once_read (record_at old.changes n) found)) new.changes) (same_lists : HaveSameLists old.changes new.changes) where
   pub keeps_datasets : AreOfOneSet old.changes new.changes → KeepsDatasets old new
   keeps_datasets one_set = record {
     directory = directory;
     next = next;
+    bounds = bounds;
     one_set = one_set;
     touched = record { records = λ m. inl (read_at_most old.changes new.changes n found put m); lists = λ m. inl (same_lists m) };
   }
@@ -97,8 +99,8 @@ module _ (old new : GroupDatasets) (n : ℕ) (found : DatasetRecord) (directory 
       record {
         chains = read_on known group there pool readings old.changes new.changes n found put same_lists is spells.chains;
         names = subst (λ (rows : List DirectoryRow). NamesPool pool readings rows plain) (sym directory) spells.names;
-        fresh = λ number le.
-            let fresh = spells.fresh number (omega (arith, le, next)) in
+        fresh = λ number le within.
+            let fresh = spells.fresh number (omega (arith, le, next)) (subst (λ b. IsWithin b number) bounds within) in
             record {
               no_object = fresh.no_object;
               no_record = elim (cases_eq number n) [
@@ -131,6 +133,7 @@ pub kept_on : (old mid new : GroupDatasets) → KeepsDatasets old mid → KeepsD
 kept_on old mid new one two = record {
   directory = two.directory ∙ one.directory;
   next = two.next ∙ one.next;
+  bounds = two.bounds ∙ one.bounds;
   one_set = (two.one_set.0 ∙ one.one_set.0, two.one_set.1 ∙ one.one_set.1);
   touched = record {
     records = λ n. inl

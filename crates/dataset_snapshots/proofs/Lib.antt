@@ -1,4 +1,3 @@
-pub mod Asking
 pub mod BelowNext
 pub mod BlocksOnce
 pub mod Chained
@@ -7,14 +6,13 @@ pub mod ChainIndexes
 pub mod ChainWalks
 pub mod ChangedRows
 pub mod CloneRows
-pub mod Copied
 pub mod Datasets
-pub mod Exchanges
 pub mod FewBlocks
 pub mod FirstMaps
 pub mod FirstRoots
 pub mod FittingRecords
 pub mod FoundRanges
+pub mod GoneFirst
 pub mod GoodNames
 pub mod GroupDemands
 pub mod GroupReach
@@ -25,7 +23,6 @@ pub mod GroupsOpened
 pub mod GroupsTouched
 pub mod HeadsRead
 pub mod Holding
-pub mod KeptVolumes
 pub mod Losses
 pub mod LostHeads
 pub mod LostMaps
@@ -35,7 +32,6 @@ pub mod MetaPlaces
 pub mod MoreChanges
 pub mod NamedRows
 pub mod NextMaps
-pub mod Numbered
 pub mod OpenedRoots
 pub mod Origins
 pub mod OtherObjects
@@ -43,6 +39,7 @@ pub mod Pushing
 pub mod Reaching
 pub mod ReadRefusals
 pub mod Readings
+pub mod Renumbered
 pub mod Rows
 pub mod Standing
 pub mod Staying

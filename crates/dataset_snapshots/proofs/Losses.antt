@@ -92,17 +92,17 @@ unmade_lost old new changes group rows next (Clone snapshot name) refusal unclon
   | inr why ↦ chain_lost old new uncloned.far uncloned.last uncloned.origin _ refusal why is
 ]
 
-making_lost : (old new : Store) (changes : DatasetChanges) (group : ℕ) (rows : List DirectoryRow) (made : List Action) (next : ℕ) (change : Change) (refusal : Refusal)
-    → IsMakingRefused old new changes group rows made next change refusal → refusal ≡ DiskFault → IsBlockLost old new []
-making_lost old new changes group rows made next change refusal (inl memory) is = absurd (cc)
-making_lost old new changes group rows made next change refusal (inr (inl (bad, none))) is = absurd (cc)
-making_lost old new changes group rows made next change refusal (inr (inr (making, inl (space, full)))) is = absurd (cc)
-making_lost old new changes group rows made next change refusal (inr (inr (making, inr why))) is = unmade_lost old new changes group rows next change refusal why is
+making_lost : (old new : Store) (changes : DatasetChanges) (group : ℕ) (rows : List DirectoryRow) (made : List Action) (next end : ℕ) (change : Change) (refusal : Refusal)
+    → IsMakingRefused old new changes group rows made next end change refusal → refusal ≡ DiskFault → IsBlockLost old new []
+making_lost old new changes group rows made next end change refusal (inl memory) is = absurd (cc)
+making_lost old new changes group rows made next end change refusal (inr (inl (bad, none))) is = absurd (cc)
+making_lost old new changes group rows made next end change refusal (inr (inr (making, inl (space, full)))) is = absurd (cc)
+making_lost old new changes group rows made next end change refusal (inr (inr (making, inr why))) is = unmade_lost old new changes group rows next change refusal why is
 
-action_lost : (old new : Store) (changes : DatasetChanges) (group : ℕ) (rows : List DirectoryRow) (next : ℕ) (actions : List Action) (refusal : Refusal)
-    → IsActionRefused old new changes group rows next actions refusal → refusal ≡ DiskFault → IsBlockLost old new []
-action_lost old new changes group rows next actions refusal one is =
-    lost_later old one.mid new [] one.before (making_lost one.mid new changes group rows one.made next one.action.change refusal one.why is)
+action_lost : (old new : Store) (changes : DatasetChanges) (group : ℕ) (rows : List DirectoryRow) (next end : ℕ) (actions : List Action) (refusal : Refusal)
+    → IsActionRefused old new changes group rows next end actions refusal → refusal ≡ DiskFault → IsBlockLost old new []
+action_lost old new changes group rows next end actions refusal one is =
+    lost_later old one.mid new [] one.before (making_lost one.mid new changes group rows one.made next end one.action.change refusal one.why is)
 
 volumes_lost : (old new : Store) (group : ℕ) (opened : Opened) (actions : List Action) (refusal : Refusal) → AreVolumesRefused old new group opened actions refusal → refusal ≡ DiskFault
     → IsBlockLost old new []
@@ -110,7 +110,7 @@ volumes_lost old new group opened actions refusal (inl memory) is = absurd (cc)
 volumes_lost old new group opened actions refusal (inr (inl (inl memory))) is = absurd (cc)
 volumes_lost old new group opened actions refusal (inr (inl (inr unplaced))) is = head_lost old new opened.datasets.changes group opened.written.items refusal unplaced is
 volumes_lost old new group opened actions refusal (inr (inr (inl refused))) is =
-    lost_later old refused.mid new [] refused.before (action_lost refused.mid new refused.written group opened.datasets.directory _ actions refusal refused.why is)
+    lost_later old refused.mid new [] refused.before (action_lost refused.mid new refused.written group opened.datasets.directory _ _ actions refusal refused.why is)
 volumes_lost old new group opened actions refusal (inr (inr (inr mis))) is = absurd (let bad = mis.bad in cc)
 
 root_lost : (old new : Store) (set : ObjectSet) (before group : ℕ) (changes : List ObjectChange) (refusal : Refusal) → IsRootRefused old new set before group changes refusal → refusal ≡ DiskFault
@@ -152,7 +152,7 @@ first_maps_lost old new changes next refusal maps is = elim maps.why [
 
 pub losses_of_first_groups : LossesOfFirstGroups
 losses_of_first_groups old new group vdevs items refusal (inl memory) is = absurd (cc)
-losses_of_first_groups old new group vdevs items refusal (inr (inl (before, none, action))) is = action_lost old new before group [] 5 items.actions refusal action is
+losses_of_first_groups old new group vdevs items refusal (inr (inl (before, none, action))) is = action_lost old new before group [] 5 _ items.actions refusal action is
 losses_of_first_groups old new group vdevs items refusal (inr (inr (inl mis))) is = absurd (let bad = mis.bad in cc)
 losses_of_first_groups old new group vdevs items refusal (inr (inr (inr (inl maps)))) is =
     lost_later old maps.mid new [] maps.volumes.before (first_maps_lost maps.mid new maps.changes maps.next refusal maps.why is)

@@ -1,5 +1,6 @@
 -- A group's changes, with those of its space maps.
-use Rattle.std.proofs.Common.{◌≡◌, ◌≢◌, ◌⊎◌, ◌∷◌, [], ℕ, ◌+◌, ◌*◌, ◌<◌, ◌≤◌, List, Option, Some, None, Contains, inl, inr, sym, ap, subst, ◌∙◌, arith}
+use Rattle.std.specs.Prelude.{max}
+use Rattle.std.proofs.Common.{◌≡◌, ◌≢◌, ◌⊎◌, ◌∷◌, [], ℕ, ◌<◌, ◌≤◌, List, Option, Some, None, Contains, inl, inr, sym, ap, subst, ◌∙◌, arith}
 use Rattle.std.proofs.lemmas.Bool.{cases_eq, cases_lt}
 use Rattle.std.proofs.lemmas.List.Elements.{All-contains}
 use Rattle.block_pointer.specs.declared.block.Block.{Block}
@@ -60,9 +61,9 @@ of_map_or_not maps next number = elim (row_or_not maps number) [
 -- ---- a group's own changes
 
 -- behind a root's objects there are none
-pub unmade_from : (stored : Contents) (birth : ℕ) (root : Block) (pool : PlainPool) (is : SpellsPool stored birth root pool) (set : ObjectSet) (next count : ℕ)
-    → set ≡ is.set → next ≡ first_number set + 2 * count → (number : ℕ) → next ≤ number → is.objects number ≡ None
-unmade_from stored birth root pool is set next count same next_is number high =
+pub unmade_from : (stored : Contents) (birth : ℕ) (root : Block) (pool : PlainPool) (is : SpellsPool stored birth root pool) (set : ObjectSet) (next made : ℕ)
+    → set ≡ is.set → next ≡ max made (first_number set) → (number : ℕ) → next ≤ number → is.objects number ≡ None
+unmade_from stored birth root pool is set next made same next_is number high =
     none_behind stored root.birth is.set is.objects is.own is.blocks number is.are (let sizes : set.objects ≡ is.set.objects = ap (λ (s : ObjectSet). s.objects) same in omega (arith, high, next_is, sizes))
 
 module _ (objects : ℕ → Option Object) (spaces : List VdevSpace) (maps : AreMapsOf objects spaces filled) (changes : List ObjectChange) (next : ℕ) (next_of : IsNextOf changes next)

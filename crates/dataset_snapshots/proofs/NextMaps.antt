@@ -27,7 +27,7 @@ use Rattle.dataset_snapshots.specs.Mapped.{AreCopied, HasMapsBehind}
 use Rattle.dataset_snapshots.specs.Pools.{SpellsPool}
 use Rattle.dataset_snapshots.specs.Reach.{reach_of, volume_blocks_of}
 use Rattle.dataset_snapshots.proofs.ChangedRows.{all_from, is_later}
-use Rattle.dataset_snapshots.proofs.Copied.{reach_copied}
+use Rattle.dataset_groups.proofs.Copied.{reach_copied}
 use Rattle.dataset_snapshots.proofs.Reaching.{reach_known}
 use Rattle.block_store.specs.Releases.{AreReleased, copies_of_all}
 use Rattle.block_store.specs.Plans.{Plans}

@@ -34,7 +34,7 @@ use Rattle.dataset_snapshots.specs.Laws.{RootsSpellOnePool}
 use Rattle.dataset_snapshots.specs.Pools.{IsRecordKind, SpellsDataset}
 use Rattle.dataset_snapshots.specs.Reach.{reach_of, volume_blocks_of}
 use Rattle.dataset_snapshots.proofs.Chained.{one_kind, volumes_of}
-use Rattle.dataset_snapshots.proofs.KeptVolumes.{volume_blocks}
+use Rattle.dataset_groups.proofs.KeptVolumes.{volume_blocks}
 use Rattle.dataset_snapshots.proofs.Origins.{BranchAlike, origin_once}
 
 -- ---- datasets

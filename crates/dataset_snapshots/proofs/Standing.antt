@@ -19,7 +19,7 @@ use Rattle.dataset_snapshots.specs.Laws.{KeepsEach, ReachIsKnown, RootsStandOnTh
 use Rattle.dataset_snapshots.specs.Reach.{volume_blocks_of}
 use Rattle.dataset_snapshots.proofs.BlocksOnce.{numbered}
 use Rattle.dataset_snapshots.proofs.ChainWalks.{in_reach}
-use Rattle.dataset_snapshots.proofs.KeptVolumes.{HasVolumeBlocks, volume_blocks}
+use Rattle.dataset_groups.proofs.KeptVolumes.{HasVolumeBlocks, volume_blocks}
 use Rattle.dataset_snapshots.proofs.Reaching.{reach_known}
 
 -- ---- parts of what is kept

@@ -3,7 +3,7 @@ use Rattle.meta_objset.specs.Found.{AreMapsFound}
 use Rattle.meta_objset.specs.declared.space_maps.MetaslabMap.{MetaslabMap}
 use Rattle.pool_maps.specs.Plans.{AreSparing, OthersStay}
 use Rattle.pool_maps.specs.Refused.{IsPlanRefused as AreMapsUnplanned}
-use Rattle.std.specs.Prelude.{ℕ, ◌≡◌, ◌⊎◌, ◌+◌, ◌*◌, ◌≤◌, ◌-◌, Bool, true, false, List, [], ◌∷◌, ◌++◌, length, Any, Some}
+use Rattle.std.specs.Prelude.{ℕ, ◌≡◌, ◌⊎◌, ◌+◌, ◌*◌, ◌≤◌, ◌-◌, Bool, true, false, List, [], ◌∷◌, ◌++◌, length, max, Any, Some}
 use Rattle.block_pointer.specs.declared.block.Block.{Block}
 use Rattle.block_store.specs.declared.refusal.Refusal.{Refusal}
 use Rattle.block_store.specs.declared.refusal.Refusal.TheVariants.{NoMemory, NoSpace, BadPointer}
@@ -31,7 +31,7 @@ use Rattle.objset.specs.Refused.{IsChangeRefused}
 use Rattle.pool_model.specs.Pools.{Entry}
 use Rattle.pool_model.specs.declared.item.Action.{Action}
 use Rattle.dataset_snapshots.specs.declared.groups.Opened.{Opened}
-use Rattle.dataset_snapshots.specs.Groups.{objects_of}
+use Rattle.dataset_snapshots.specs.Groups.{HasRoomFor, objects_of}
 use Rattle.dataset_snapshots.specs.Opening.{IsGroupFound, IsGroupUnread}
 use Rattle.dnode.specs.declared.object_set.ObjectSetKind.TheVariants as kinds
 use Rattle.objset.specs.Changes.{copies_of}
@@ -96,6 +96,11 @@ IsRootRefused old new set before group changes refusal =
 
 -- ---- the group
 
+-- the first number behind all objects, once these were made
+abbrev pub next_after : Opened → List Action → ℕ
+next_after opened made =
+    max (opened.datasets.next + 2 * length made) (first_number opened.set)
+
 -- Of the records and dead lists as the group was opened those are changed that the heads have which are written to, and then those that these
 -- actions make and change, under rows that have come to those that there were.
 pub record AreGroupDatasets (opened : Opened) (made : List Action) (datasets : DatasetChanges) : Type 0 where
@@ -103,8 +108,8 @@ pub record AreGroupDatasets (opened : Opened) (made : List Action) (datasets : D
   pub written : DatasetChanges
   pub heads : TouchesHeads opened.datasets.changes written (objects_of opened)
   pub rows : List DirectoryRow
-  pub kept : HasMoreRows opened.datasets.directory (first_number opened.set) rows
-  pub touched : TouchesMade written datasets rows (first_number opened.set) made
+  pub kept : HasMoreRows opened.datasets.directory opened.datasets.next rows
+  pub touched : TouchesMade written datasets rows opened.datasets.next made
 
 -- The changes that a group makes of the set: that of the directory, where names come or go; and those that its records and dead lists come to.
 pub record AreGroupChanges (opened : Opened) (made : List Action) (changes : List ObjectChange) : Type 0 where
@@ -137,7 +142,7 @@ pub record HasVolumePlaces (old new : Store) (group : ℕ) (opened : Opened) (ac
     (changes : List ObjectChange) (next : ℕ) : Type 0 where
   pub made : List Action
   pub made_are : AreMade opened.datasets.directory [] actions made
-  pub next_is : next ≡ first_number opened.set + 2 * length made
+  pub next_is : next ≡ next_after opened made
   pub changes_are : AreGroupChanges opened made changes
   pub of_written : List Demand
   pub written_ask : AreAsked (HasHeadDemands old.spaces group) opened.written.items of_written
@@ -153,7 +158,8 @@ pub record AreActionsRefused (old new : Store) (group : ℕ) (opened : Opened) (
   pub places : HavePlacesFor old mid (HasHeadDemands old.spaces group) opened.written.items
   pub written : DatasetChanges
   pub heads : TouchesHeads opened.datasets.changes written (objects_of opened)
-  pub why : IsActionRefused mid new written group opened.datasets.directory (first_number opened.set) actions refusal
+  pub why : IsActionRefused mid new written group opened.datasets.directory opened.datasets.next
+      opened.datasets.bounds.end actions refusal
 
 -- all volumes were placed, and what becomes of their records and dead lists can't be
 pub record AreDatasetsRefused (old new : Store) (group : ℕ) (opened : Opened) (actions : List Action)
@@ -164,7 +170,7 @@ pub record AreDatasetsRefused (old new : Store) (group : ℕ) (opened : Opened) 
   pub made_are : AreMade opened.datasets.directory [] actions made
   pub datasets : DatasetChanges
   pub datasets_are : AreGroupDatasets opened made datasets
-  pub mis : AreMisnumbered datasets (first_number opened.set + 2 * length made)
+  pub mis : AreMisnumbered datasets (next_after opened made)
 
 -- why the volumes of a group were not placed
 abbrev pub AreVolumesRefused :
@@ -233,8 +239,7 @@ pub record HasGroupDemands (spaces : List VdevSpace) (born group : ℕ) (opened 
   pub mid : List VdevSpace
   pub places : HavePlaces spaces (of_written ++ of_made) mid
   pub all : List ObjectChange
-  pub with_maps : AreWithMaps mid opened.set born gone
-      (first_number opened.set + 2 * length made) changes all
+  pub with_maps : AreWithMaps mid opened.set born gone (next_after opened made) changes all
   pub of_root : List Demand
   pub root_asks : HasRootDemands spaces opened.set group all of_root
   pub is : demands ≡ of_written ++ of_made ++ of_root
@@ -245,6 +250,7 @@ pub record HasGroupPlaces (old new : Store) (root : Block) (rows : List Director
     (destroyed : List (List ℕ)) (items : Entry) (replaced : List Block) : Type 0 where
   pub opened : Opened
   pub found : IsGroupFound old.spaces (group - 1) root rows destroyed items.writes opened
+  pub room : HasRoomFor opened.datasets (length items.actions)
   pub gone : List Block
   pub of_meta : List Block
   pub given_back : replaced ≡ root ∷ gone ++ of_meta
@@ -268,6 +274,7 @@ pub record IsGroupUnplanned (old new : Store) (root : Block) (rows : List Direct
     (destroyed : List (List ℕ)) (items : Entry) (refusal : Refusal) : Type 0 where
   pub opened : Opened
   pub found : IsGroupFound old.spaces (group - 1) root rows destroyed items.writes opened
+  pub room : HasRoomFor opened.datasets (length items.actions)
   pub mid : Store
   pub before : OnlyReadsBlocks old mid []
   pub why : AreMappedRefused mid new root.birth group opened items.actions refusal

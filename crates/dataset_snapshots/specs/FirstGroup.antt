@@ -12,6 +12,7 @@ use Rattle.dataset_changes.specs.States.{AreUntouched, set_of}
 use Rattle.dataset_changes.specs.declared.changes.DatasetChanges.{DatasetChanges}
 use Rattle.dataset_groups.specs.declared.datasets.GroupDatasets.{GroupDatasets}
 use Rattle.dataset_groups.specs.Demands.{AreAsked, AreMade, HasActionDemands, HasMoreRows, HavePlacesFor, IsActionRefused}
+use Rattle.dataset_groups.specs.NewVolumes.{numbers_end}
 use Rattle.dataset_groups.specs.Touched.{TouchesMade}
 use Rattle.dnode.specs.declared.object_set.ObjectSet.{ObjectSet}
 use Rattle.dnode.specs.declared.object_set.ObjectSetKind.TheVariants as sets
@@ -135,7 +136,7 @@ pub record AreFirstDatasetsRefused (old new : Store) (group : ℕ) (actions : Li
 -- where nothing was made so far, an action was refused
 abbrev pub AreFirstActionsRefused : Store → Store → ℕ → List Action → Refusal → Type 0
 AreFirstActionsRefused old new group actions refusal =
-    (before : DatasetChanges) × AreUntouched before × IsActionRefused old new before group [] 5 actions refusal
+    (before : DatasetChanges) × AreUntouched before × IsActionRefused old new before group [] 5 numbers_end actions refusal
 
 -- and then the space maps were refused
 pub record AreFirstMapsRefused (old new : Store) (group : ℕ) (vdevs : List PlainVdev) (actions : List Action)

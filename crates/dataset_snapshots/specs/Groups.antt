@@ -1,5 +1,5 @@
 -- The root of a group.
-use Rattle.std.specs.Prelude.{ℕ, ◌≡◌, ◌⊎◌, ◌↔◌, ◌<◌, ◌≤◌, false, List, Contains, Option, None, All}
+use Rattle.std.specs.Prelude.{ℕ, ◌≡◌, ◌⊎◌, ◌↔◌, ◌+◌, ◌*◌, ◌<◌, ◌≤◌, false, List, Contains, Option, None, All}
 use Rattle.std.specs.List.Sorted.{IsStrictlyIncreasing}
 use Rattle.block_pointer.specs.declared.block.Block.{Block}
 use Rattle.block_store.specs.Blocks.{Contents}
@@ -7,6 +7,7 @@ use Rattle.dataset_chains.specs.Chains.{Reading}
 use Rattle.dataset_chains.specs.Standing.{HasChains}
 use Rattle.dataset_changes.specs.Over.{IsForList, IsForRecord}
 use Rattle.dataset_changes.specs.States.{birth_of, set_of}
+use Rattle.dataset_groups.specs.declared.datasets.GroupDatasets.{GroupDatasets}
 use Rattle.dataset_groups.specs.Groups.{SpellsGroup, first_number}
 use Rattle.dataset_groups.specs.Leaving.{IsReachExchanged}
 use Rattle.dataset_groups.specs.Names.{NamesPool, reach_by}
@@ -34,11 +35,29 @@ use Rattle.dataset_snapshots.specs.Writing.{IsWritten}
 abbrev pub objects_of : Opened → List ℕ
 objects_of opened = numbers_of opened.written.items
 
+-- new objects take the numbers behind all objects that there are
+pub record AreNumbersBehind (set : ObjectSet) (datasets : GroupDatasets) : Type 0 where
+  pub next : datasets.next ≡ first_number set
+  pub end : datasets.bounds.end ≡ numbers_end
+  pub behind : datasets.bounds.behind ≡ first_number set
+
+-- they take these, or some before them, behind the tables
+pub record HasNumbers (set : ObjectSet) (datasets : GroupDatasets) : Type 0 where
+  pub low : 4 < datasets.next
+  pub behind : datasets.bounds.behind ≡ first_number set
+  pub which : AreNumbersBehind set datasets
+      ⊎ ((datasets.next ≤ datasets.bounds.end) × (datasets.bounds.end ≤ set.objects))
+
+-- numbers are left behind all objects, or as many as so many datasets take
+abbrev pub HasRoomFor : GroupDatasets → ℕ → Type 0
+HasRoomFor datasets count =
+    (datasets.bounds.end ≡ numbers_end) ⊎ (datasets.next + 2 * count ≤ datasets.bounds.end)
+
 -- The volumes that the writes name are there, each once, in the order of their objects' numbers, which are below the set's last.
 pub record IsOpened (writes : List Write) (opened : Opened) : Type 0 where
   pub set : FitsObjectSet opened.set
   pub of_set : set_of opened.datasets.changes ≡ opened.set
-  pub next : opened.datasets.next ≡ first_number opened.set
+  pub numbers : HasNumbers opened.set opened.datasets
   pub once : IsStrictlyIncreasing (objects_of opened)
   pub within : All (λ number. number < opened.set.objects) (objects_of opened)
   pub each : All FitsHead opened.written.items

@@ -8,6 +8,7 @@ pub mod FirstGroup
 pub mod Groups
 pub mod Laws
 pub mod Mapped
+pub mod Numbering
 pub mod Opening
 pub mod Pools
 pub mod Ranges

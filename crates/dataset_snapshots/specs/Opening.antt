@@ -11,7 +11,6 @@ use Rattle.dataset_changes.specs.declared.changes.DatasetChanges.{DatasetChanges
 use Rattle.dataset_chains.specs.Touched.{TouchesOnly}
 use Rattle.dataset_groups.specs.Demands.{IsNameThere}
 use Rattle.dataset_groups.specs.Destroys.{AreDestroysRefused, DestroysAll}
-use Rattle.dataset_groups.specs.Groups.{first_number}
 use Rattle.dataset_groups.specs.declared.datasets.GroupDatasets.{GroupDatasets}
 use Rattle.dataset_groups.specs.declared.writing.WrittenHead.{WrittenHead}
 use Rattle.dataset_groups.specs.Writing.{numbers_of}
@@ -28,7 +27,7 @@ use Rattle.volume.specs.Writing.{AreBlocksOf, HasId, IsChanged, IsCovered, Needs
 use Rattle.dataset_snapshots.specs.declared.groups.Begun.{Begun}
 use Rattle.dataset_snapshots.specs.declared.groups.Opened.{Opened}
 use Rattle.dataset_snapshots.specs.Finding.{IsMetaFound, IsMetaRefused}
-use Rattle.dataset_snapshots.specs.Groups.{IsOpened, objects_of}
+use Rattle.dataset_snapshots.specs.Groups.{HasNumbers, IsOpened, objects_of}
 use Rattle.dataset_snapshots.specs.Writing.{HasRow, IsNone, IsVolumeIn, IsWrittenBut}
 
 -- these are the blocks that the writes to the row's volume change; where there are any its set was
@@ -108,7 +107,7 @@ pub record AreBegun (set : ObjectSet) (rows : List DirectoryRow) (begun : GroupD
   pub one_set : AreOfOneSet fresh begun.changes
   pub read : TouchesOnly fresh begun.changes IsNone IsNone
   pub directory : begun.directory ≡ rows
-  pub next : begun.next ≡ first_number set
+  pub numbers : HasNumbers set begun
 
 -- by the rows of the directory that is kept: the root was read, and the volumes that the writes
 -- name, no others, but for those that are destroyed

@@ -57,10 +57,11 @@ IsReadFrom stored birth objects writes rows head =
 abbrev pub IsNone : ℕ → Type 0
 IsNone number = ⊥
 
--- the directory and the next number are the same, of the same set, and records were read at most
+-- the directory and the numbers for new objects are the same, of the same set, and records were read at most
 pub record KeepsDatasets (old new : GroupDatasets) : Type 0 where
   pub directory : new.directory ≡ old.directory
   pub next : new.next ≡ old.next
+  pub bounds : new.bounds ≡ old.bounds
   pub one_set : AreOfOneSet old.changes new.changes
   pub touched : TouchesOnly old.changes new.changes IsNone IsNone
 

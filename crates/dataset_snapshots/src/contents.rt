@@ -1,5 +1,5 @@
 //! What an open keeps of a pool's root.
-ghost use Rattle.std.specs.Prelude.{◌≡◌, ◌≢◌, ◌≤◌, length, IfOk, IfErr};
+ghost use Rattle.std.specs.Prelude.{◌≢◌, ◌≤◌, length, IfOk, IfErr};
 ghost use Rattle.block_store.specs.Blocks.{Contents};
 ghost use Rattle.block_store.specs.declared.refusal.Refusal.TheVariants.{NoSpace};
 ghost use Rattle.block_store.specs.Steps.{OnlyReadsBlocks, AnswersAreTrue};
@@ -13,22 +13,22 @@ ghost use Rattle.dataset_snapshots.specs.Pools.{SpellsPool};
 ghost use Rattle.dataset_snapshots.specs.Reach.{meta_blocks_of};
 
 use crate::finding::directory_under;
+use crate::kept::KeptDirectory;
 use crate::naming::names_by;
 use crate::walks::walk_meta;
 use block_pointer::Block;
 use block_store::BlockStore;
-use meta_objset::Directory;
 use model_disk::Disk;
 use pool_maps::{FreeMetaslab, read_maps};
 use space_map_objects::Refusal;
 use std::alloc::Global;
 use volume_rules::NameIndex;
 
-/// What an open keeps of a pool's root: its directory, the names of its pool, the blocks of its meta object set, and what its space
-/// maps leave free.
+/// What an open keeps of a pool's root: its directory, with the numbers that no object has, the names of its pool, the blocks of its meta
+/// object set, and what its space maps leave free.
 #[derive(Debug, Drop)]
 pub struct RootContents {
-    pub directory: Directory,
+    pub directory: KeptDirectory,
     pub names: NameIndex,
     /// The root's block and those of the meta object set, each once.
     pub blocks: Vec<Block>,
@@ -80,11 +80,13 @@ pub fn contents_under<D: Disk + Drop>(
         → AnswersAreTrue store.old store.new → IsForLossOf refusal) }
 {
     let directory = directory_under(root, store, alloc, birth, missing)?;
-    let names = names_by(root, store, alloc, birth, &directory, missing)?;
+    let mut taken = Vec::new(alloc);
+    let names = names_by(root, store, alloc, birth, &directory, missing, &mut taken)?;
     let meta = walk_meta(root, store, alloc, birth, left, missing)?;
     let maps = read_maps(&meta.set, store, alloc, root.birth, missing)?;
+    let kept = KeptDirectory::opened(alloc, directory, taken, &maps, meta.set.objects)?;
     Ok(RootContents {
-        directory,
+        directory: kept,
         names,
         blocks: meta.blocks,
         maps,

@@ -30,6 +30,7 @@ ghost use Rattle.dataset_snapshots.specs.Pools.{SpellsPool};
 ghost use Rattle.dataset_snapshots.specs.Reach.{reach_of};
 
 use crate::groups::{MOST_NAMES, Made, are_below, plan_root};
+use crate::kept::KeptDirectory;
 use block_pointer::Block;
 use block_store::{BlockStore, Refusal};
 use dataset_groups::GroupDatasets;
@@ -48,7 +49,7 @@ use volume_rules::PartedActions;
 pub struct FirstRoot {
     pub root: Block,
     /// The directory under it.
-    pub directory: Directory,
+    pub directory: KeptDirectory,
 }
 
 /// Plans the first root of a pool, which had no volumes so far, after the transaction group `group`: the actions that
@@ -113,6 +114,7 @@ pub fn first_group<D: Disk + Drop>(
     let changes = first_maps(store, alloc, changes, next)?;
     let mut replaced = Vec::new(alloc);
     let root = plan_root(&EMPTY, store, alloc, &changes, group, group, &mut replaced)?;
+    let directory = KeptDirectory::new(alloc, directory);
     Ok(FirstRoot { root, directory })
 }
 
@@ -127,6 +129,7 @@ fn first_volumes<D: Disk + Drop>(
     ensures steps { OnlyReadsAndPlans store.old store.new [] }
     ensures behind { IfOk result (λ datasets.
         (4 < datasets.next) × (datasets.next ≤ numbers_end)) }
+    ensures bounds { IfOk result (λ datasets. datasets.bounds.behind ≤ datasets.next) }
     ensures value { IfOk result (λ datasets. (stored planned : Contents)
         → Plans store.old stored planned → AnswersAreTrue store.old store.new
         → (later : Contents) × Plans store.new stored later × Extends planned later
@@ -173,6 +176,7 @@ fn with_tables(datasets: GroupDatasets, alloc: Global, config: &Config) -> Resul
         directory,
         changes,
         next,
+        ..
     } = datasets;
     let changes = changes.into_changes(alloc)?;
     if !are_below(&changes, next) {

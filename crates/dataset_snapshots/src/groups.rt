@@ -31,6 +31,8 @@ ghost use Rattle.dataset_groups.specs.Names.{reach_by};
 ghost use Rattle.dataset_groups.specs.NewVolumes.{AreGoodChanges, numbers_end};
 ghost use Rattle.dataset_snapshots.specs.Finding.{IsMetaRefused};
 ghost use Rattle.dataset_snapshots.specs.Groups.{AreOfDatasets, IsBegun, IsBegunFrom, IsNextOf, IsOpened, IsOpenedFrom, IsSetOf, SpellsAfter};
+ghost use Rattle.dataset_snapshots.specs.Groups.{AreNumbersBehind, HasRoomFor};
+ghost use Rattle.dataset_groups.specs.Groups.{next_behind};
 ghost use Rattle.dataset_groups.specs.Leaving.{AddsData, AddsMeta, IsReachExchanged};
 ghost use Rattle.dataset_snapshots.specs.Mapped.{HasMapsBehind, HasMapsBy, StandsOnce};
 ghost use Rattle.dataset_snapshots.specs.Opening.{IsBegunFound, IsGroupFound, IsGroupUnread, IsVolumeUnread, most_blocks};
@@ -39,6 +41,8 @@ ghost use Rattle.dataset_snapshots.specs.Reach.{reach_of, volume_blocks_of};
 ghost use Rattle.objset.specs.Changes.{copies_of};
 
 use crate::finding::read_meta;
+use crate::kept::KeptDirectory;
+use crate::numbering::reuse_numbers;
 use crate::writing::{read_written, written_objects};
 use block_pointer::Block;
 use block_store::{BlockStore, Refusal};
@@ -60,7 +64,7 @@ pub struct NextRoot {
     /// The blocks that the root before led to and this one doesn't.
     pub replaced: Vec<Block>,
     /// The directory under this root.
-    pub directory: Directory,
+    pub directory: KeptDirectory,
 }
 
 /// What a group is planned from: the meta object set, its datasets under the names of its directory, without those that the group destroys, and
@@ -109,8 +113,9 @@ pub(crate) const MOST_NAMES: usize = 1 << 40;
 /// blocks is read. Each block that a write reaches is read, and then each of them is planned anew: so where one can't
 /// be read that is the answer, whether or not there is room. Of a volume without writes nothing is read but, where a
 /// snapshot is taken of it, its record and that of the snapshot before. Of a volume that is destroyed those blocks
-/// are read that were born after the snapshot before it, of a snapshot two dead lists. All changes of the meta object
-/// set are planned at once; its own block is new in each group.
+/// are read that were born after the snapshot before it, of a snapshot two dead lists. What is made takes numbers of
+/// objects that are gone, where as many in a row are free: the dnode of each of these numbers is read. All changes of
+/// the meta object set are planned at once; its own block is new in each group.
 ///
 /// `BadConfig` where a volume can't have its name or its sizes, or a snapshot its name; `BadPointer` where a volume
 /// that is to be destroyed has snapshots, or a snapshot clones. After an error blocks may be planned that no root
@@ -120,7 +125,7 @@ pub fn after_group<D: Disk + Drop>(
     store: &mut BlockStore<D>,
     alloc: Global,
     group: u64,
-    directory: &Directory,
+    directory: &KeptDirectory,
     parted: &PartedActions,
     items: &Pending,
 ) -> Result<NextRoot, Refusal>
@@ -168,8 +173,7 @@ pub fn after_group<D: Disk + Drop>(
 {
     // There are few vdevs, and so no volume has too many blocks.
     let _vdevs = store.vdev_count();
-    let destroyed = parted.destroyed();
-    let opened = open_group(root, store, alloc, group, directory, destroyed, items)?;
+    let opened = open_group(root, store, alloc, group, directory, parted, items)?;
     let set = opened.set;
     let born = root.birth;
     let mut gone = Vec::new(alloc);
@@ -178,10 +182,11 @@ pub fn after_group<D: Disk + Drop>(
     replaced.extend_from_slice(&gone)?;
     let changes = &made.changes;
     let next = plan_root(&set, store, alloc, changes, born, group, &mut replaced)?;
+    let directory = directory.after(alloc, made.directory, &made.changes)?;
     Ok(NextRoot {
         root: next,
         replaced,
-        directory: made.directory,
+        directory,
     })
 }
 
@@ -194,14 +199,15 @@ fn only(block: &Block, alloc: Global) -> Result<Vec<Block>, AllocError>
     Ok(blocks)
 }
 
-/// Reads what the group is planned from, by the directory under the root that is kept, and destroys the datasets of these names.
+/// Reads what the group is planned from, by the directory under the root that is kept, and destroys the datasets that `parted` does. New
+/// datasets take numbers again that are free, where as many are in a row as are made.
 fn open_group<D: Disk + Drop>(
     root: &Block,
     store: &mut BlockStore<D>,
     alloc: Global,
     group: u64,
-    kept: &Directory,
-    destroyed: &[Name],
+    kept: &KeptDirectory,
+    parted: &PartedActions,
     items: &Pending,
 ) -> Result<Opened, Refusal>
     requires born { 0 < group }
@@ -211,27 +217,32 @@ fn open_group<D: Disk + Drop>(
     ensures early { IfOk result (λ opened. root.now.birth < group) }
     ensures value { IfOk result (λ opened. (stored : Contents) (pool : PlainPool)
         → Holds store.old stored → (is : SpellsPool stored (group - 1) root.now pool)
-        → kept.now ≡ is.rows → MayBeDestroyed destroyed.now pool
+        → kept.now ≡ is.rows → MayBeDestroyed parted.now.destroyed pool
         → AnswersAreTrue store.old store.new
-        → IsOpenedFrom stored group (group - 1) root.now pool is destroyed.now items.now.writes
-        opened) }
+        → IsOpenedFrom stored group (group - 1) root.now pool is parted.now.destroyed
+        items.now.writes opened) }
     ensures known { IfErr result (λ refusal. (stored : Contents) (pool : PlainPool)
         → Holds store.old stored → (is : SpellsPool stored (group - 1) root.now pool)
-        → kept.now ≡ is.rows → MayBeDestroyed destroyed.now pool
+        → kept.now ≡ is.rows → MayBeDestroyed parted.now.destroyed pool
         → HasAtMost is.datasets most_blocks → AnswersAreTrue store.old store.new
         → IsForLoss refusal) }
     ensures found { IfOk result (IsGroupFound store.old.spaces (group - 1) root.now kept.now
-        destroyed.now items.now.writes) }
+        parted.now.destroyed items.now.writes) }
+    ensures room { IfOk result (λ opened.
+        HasRoomFor opened.datasets (length parted.now.made)) }
     ensures refused { IfErr result (λ refusal. (refusal ≡ Refusal.NoMemory)
-        ⊎ IsGroupUnread store.old store.new root.now kept.now group destroyed.now
-        items.now.writes refusal) }
+        ⊎ IsGroupUnread store.old store.new root.now kept.now group
+        parted.now.destroyed items.now.writes refusal) }
 {
+    let destroyed = parted.destroyed();
     let begun = begin_group(root, store, alloc, group - 1, kept, destroyed, items)?;
     let Begun {
         set,
         mut datasets,
         written,
     } = begun;
+    let made = parted.made().len();
+    reuse_numbers(&mut datasets, &set, store, alloc, root.birth, kept, made);
     let mut freed = Vec::new(alloc);
     let renamed = datasets.destroy_all(store, alloc, group, u64::MAX, destroyed, &mut freed)?;
     Ok(Opened {
@@ -250,7 +261,7 @@ fn begin_group<D: Disk + Drop>(
     store: &mut BlockStore<D>,
     alloc: Global,
     birth: u64,
-    kept: &Directory,
+    kept: &KeptDirectory,
     destroyed: &[Name],
     items: &Pending,
 ) -> Result<Begun, Refusal>
@@ -258,6 +269,7 @@ fn begin_group<D: Disk + Drop>(
     ensures begun { IfOk result IsBegun }
     ensures kind { IfOk result (λ begun. begun.set.kind ≡ sets.Meta) }
     ensures early { IfOk result (λ begun. root.now.birth ≤ birth) }
+    ensures numbers { IfOk result (λ begun. AreNumbersBehind begun.set begun.datasets) }
     ensures value { IfOk result (λ begun. (stored : Contents) (pool : PlainPool)
         → Holds store.old stored → (is : SpellsPool stored birth root.now pool)
         → kept.now ≡ is.rows → AnswersAreTrue store.old store.new
@@ -408,10 +420,10 @@ fn changes_of<D: Disk + Drop>(
 
 /// What became of the datasets: the changes of the objects of their records and dead lists, with the change of the directory in front where names
 /// came or went. `NoMemory`, also where the directory would have 2^40 names;
-/// `BadPointer` where one number has both a record and a dead list, and where one that is changed is no number below the next.
+/// `BadPointer` where one number has both a record and a dead list, and where one that is changed is behind all objects.
 fn with_directory(datasets: GroupDatasets, alloc: Global, renamed: bool) -> Result<Made, Refusal>
     requires behind { 4 < datasets.next }
-    requires within { datasets.next ≤ numbers_end }
+    requires within { next_behind datasets ≤ numbers_end }
     ensures numbers { IfOk result (λ made. All (λ change. (0 < change.number)
         × (change.number < 32 * 128 ^ 5)) made.changes.items) }
     ensures order { IfOk result (λ made.
@@ -419,16 +431,18 @@ fn with_directory(datasets: GroupDatasets, alloc: Global, renamed: bool) -> Resu
     ensures good { IfOk result (λ made. All (λ change. IsGoodChange change.change)
         made.changes.items) }
     ensures next { IfOk result (λ made. IsNextOf made.changes.items made.next) }
-    ensures next_is { IfOk result (λ made. made.next ≡ datasets.next) }
+    ensures next_is { IfOk result (λ made. made.next ≡ next_behind datasets) }
     ensures directory { IfOk result (λ made. made.directory ≡ datasets.directory) }
     ensures changes { IfOk result (λ made. HasDatasetChanges datasets renamed made.changes.items) }
     ensures refused { IfErr result (λ refusal. (refusal ≡ Refusal.NoMemory)
-        ⊎ ((refusal ≡ Refusal.BadPointer) × AreMisnumbered datasets.changes datasets.next)) }
+        ⊎ ((refusal ≡ Refusal.BadPointer)
+        × AreMisnumbered datasets.changes (next_behind datasets))) }
 {
+    let next = datasets.next.max(datasets.bounds.behind);
     let GroupDatasets {
         directory,
         changes,
-        next,
+        ..
     } = datasets;
     let mut changes = changes.into_changes(alloc)?;
     if !are_below(&changes, next) {

@@ -7,8 +7,10 @@ mod contents;
 mod finding;
 mod first_root;
 mod groups;
+mod kept;
 mod laws;
 mod naming;
+mod numbering;
 mod ranges;
 mod walks;
 mod writing;
@@ -18,6 +20,7 @@ pub use contents::{RootContents, contents_under};
 pub use finding::{Dataset, directory_under, find, find_in};
 pub use first_root::{FirstRoot, first_group};
 pub use groups::{NextRoot, after_group};
+pub use kept::KeptDirectory;
 pub use laws::{
     good_changes_may_be_made, losses_by_rows, losses_of_datasets, losses_of_first_groups,
     losses_of_groups, losses_of_ranges, reaches_lie_apart, replaced_of_groups_leave, roots_stay,

@@ -37,7 +37,7 @@ use volume_rules::{NameIndex, NewName, VolumeEntry, VolumeShape};
 
 /// The names of the pool whose root has this directory, at each the shape of its volume, and of a clone its snapshot. It reads the root
 /// and the record of each dataset. `BadPointer` where the block is no root of a pool, the object of a name no record of a dataset, or
-/// where the records don't fit one another in chains.
+/// where the records don't fit one another in chains. The numbers of the records and dead lists come behind those in `taken`.
 pub(crate) fn names_by<D: Disk + Drop>(
     root: &Block,
     store: &mut BlockStore<D>,
@@ -45,6 +45,7 @@ pub(crate) fn names_by<D: Disk + Drop>(
     birth: u64,
     directory: &Directory,
     missing: &[usize],
+    taken: &mut Vec<u64>,
 ) -> Result<NameIndex, Refusal>
     ensures reads { OnlyReadsBlocks store.old store.new missing.now }
     ensures value { IfOk result (λ names. (stored : Contents) (pool : PlainPool)
@@ -59,7 +60,15 @@ pub(crate) fn names_by<D: Disk + Drop>(
         → directory.now ≡ is.rows → AnswersAreTrue store.old store.new → IsForLoss refusal) }
 {
     let set = read_meta(root, store, alloc, birth, missing)?;
-    names_of(&set, directory.rows(), store, alloc, root.birth, missing)
+    names_of(
+        &set,
+        directory.rows(),
+        store,
+        alloc,
+        root.birth,
+        missing,
+        taken,
+    )
 }
 
 /// The names of rows, at each the shape of its volume, and of a clone its snapshot. `BadPointer` where the records don't fit one another
@@ -71,6 +80,7 @@ fn names_of<D: Disk + Drop>(
     alloc: Global,
     birth: u64,
     missing: &[usize],
+    taken: &mut Vec<u64>,
 ) -> Result<NameIndex, Refusal>
     requires fits { FitsObjectSet set.now }
     requires is { IsDirectory rows.now }
@@ -105,7 +115,7 @@ fn names_of<D: Disk + Drop>(
         let record = dataset.record;
         add_name(alloc, &mut names, row, shape_in(&record))?;
         let object = row.object;
-        add_record(&mut records, RowRecord { object, record })?;
+        add_record(&mut records, taken, RowRecord { object, record })?;
     }
     let Some(index) = chained_index(alloc, &records)? else {
         return Err(Refusal::BadPointer);
@@ -159,10 +169,16 @@ fn add_name(
     Ok(())
 }
 
-/// Adds the record of a row.
-fn add_record(records: &mut Vec<RowRecord>, one: RowRecord) -> Result<(), AllocError>
+/// Adds the record of a row, and to the numbers that are taken its own and that of its dead list.
+fn add_record(
+    records: &mut Vec<RowRecord>,
+    taken: &mut Vec<u64>,
+    one: RowRecord,
+) -> Result<(), AllocError>
     ensures { OnOk result (records.new.items ≡ records.old.items ++ one ∷ []) }
 {
+    taken.push(one.object)?;
+    taken.push(one.record.dead_list)?;
     records.push(one)?;
     Ok(())
 }

@@ -12,6 +12,7 @@ use Rattle.dataset_snapshots.specs.Reach.{reach_of}
 use Rattle.meta_objset.specs.declared.directory.DirectoryRow.{DirectoryRow}
 use Rattle.pool_model.specs.Pools.{Entry, PlainPool}
 use Rattle.volume_rules.specs.Parting.{Parted, parted_of, with_made}
+use Rattle.dataset_snapshots.specs.Demands.{IsGroupRefused}
 use Rattle.dataset_snapshots.specs.FirstGroup.{IsFirstRefused}
 use Rattle.block_store.specs.Places.{shapes_of}
 use Rattle.pool_commit.specs.Configs.{configs_from}
@@ -61,3 +62,11 @@ pub first_refused : (old new : Store) (kept : KeptGroup) (group : ℕ) (items : 
 first_refused old new kept group items parted refusal is none why =
     subst (λ (o : Option Block). IsNextRefused old new o kept.directory.value group items refusal) (sym none)
     (subst (λ (p : Parted). IsFirstRefused old new group (configs_from 100 (shapes_of old.spaces)) (with_made items p) refusal) is why)
+
+pub later_refused : (old new : Store) (kept : KeptGroup) (root : Block) (group : ℕ) (items : Entry) (parted : Parted) (rows : List DirectoryRow) (refusal : StoreRefusal)
+    → parted ≡ parted_of items.actions → kept.root ≡ Some root → rows ≡ kept.directory.value
+    → IsGroupRefused old new root rows group parted.destroyed (with_made items parted) refusal → IsNextRefused old new kept.root kept.directory.value group items refusal
+later_refused old new kept root group items parted rows refusal is some by why =
+    subst (λ (o : Option Block). IsNextRefused old new o kept.directory.value group items refusal) (sym some)
+    (subst (λ (p : Parted). IsGroupRefused old new root kept.directory.value group p.destroyed (with_made items p) refusal) is
+    (subst (λ (list : List DirectoryRow). IsGroupRefused old new root list group parted.destroyed (with_made items parted) refusal) by why))

@@ -16,7 +16,7 @@ use Rattle.block_store.specs.Uses.{CopiesLieOn, Passes}
 use Rattle.block_store.proofs.Planning.{same_marks}
 use Rattle.metaslab.specs.State.{is_in_use}
 use Rattle.dataset_snapshots.proofs.ChangedRows.{nothing_in}
-use Rattle.dataset_snapshots.proofs.Exchanges.{after_once}
+use Rattle.dataset_groups.proofs.Exchanges.{after_once}
 use Rattle.dataset_snapshots.proofs.Reaching.{reach_known}
 use Rattle.dataset_snapshots.proofs.Standing.{roots_stand}
 use Rattle.dataset_snapshots.specs.Laws.{KeepsEach}

@@ -23,6 +23,7 @@ use crate::stamp::Stamp;
 use crate::suspension::{lacks_disks, vdev_at};
 use block_pointer::Block;
 use block_store::{BlockStore, VdevConfig, VdevShape};
+use dataset_snapshots::KeptDirectory;
 use meta_objset::Directory;
 use model_disk::{Disk, DiskArray};
 use raidz_io::Vdev;
@@ -54,10 +55,11 @@ pub struct Commit<D: Disk + Drop> {
 }
 
 /// The directory of a pool with no root.
-pub(crate) fn no_directory(alloc: Global) -> Result<Arc<Directory, Global>, AllocError>
+pub(crate) fn no_directory(alloc: Global) -> Result<Arc<KeptDirectory, Global>, AllocError>
     ensures { IfOk result (λ directory. directory.value ≡ []) }
 {
-    Ok(Arc::new(alloc, Directory::new(alloc))?)
+    let directory = KeptDirectory::new(alloc, Directory::new(alloc));
+    Ok(Arc::new(alloc, directory)?)
 }
 
 /// The names of a pool with no volumes.

@@ -3,6 +3,7 @@ ghost use Rattle.std.specs.Prelude.{◌≡◌, None};
 ghost use Rattle.std.specs.Option.{option_copied};
 
 use block_pointer::Block;
+use dataset_snapshots::KeptDirectory;
 use meta_objset::Directory;
 use std::alloc::Global;
 use std::collections::VecDeque;
@@ -18,7 +19,7 @@ use volume_rules::NameIndex;
 pub struct KeptGroup {
     pub(crate) root: Option<Block>,
     pub(crate) names: Arc<NameIndex, Global>,
-    pub(crate) directory: Arc<Directory, Global>,
+    pub(crate) directory: Arc<KeptDirectory, Global>,
 }
 
 /// The last three committed groups.
@@ -61,11 +62,18 @@ impl KeptGroup {
         self.names.as_ref()
     }
 
+    /// The directory under its root, as it is kept.
+    pub(crate) fn kept_directory(&self) -> &KeptDirectory
+        ensures { result.now ≡ self.now.directory.value }
+    {
+        self.directory.as_ref()
+    }
+
     /// The directory under its root.
     pub(crate) fn directory(&self) -> &Directory
         ensures { result.now ≡ self.now.directory.value }
     {
-        self.directory.as_ref()
+        self.directory.as_ref().directory()
     }
 }
 

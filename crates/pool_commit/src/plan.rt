@@ -40,8 +40,7 @@ use crate::kept::{KeptGroup, Planned};
 use crate::refusal::Refusal;
 use block_pointer::Block as RootBlock;
 use block_store::BlockStore;
-use dataset_snapshots::{FirstRoot, after_group, first_group};
-use meta_objset::Directory;
+use dataset_snapshots::{FirstRoot, KeptDirectory, after_group, first_group};
 use model_disk::Disk;
 use std::alloc::{AllocError, Global};
 use std::sync::Arc;
@@ -88,7 +87,7 @@ fn first_root<D: Disk + Drop>(
 #[derive(Drop)]
 struct PlannedRoot {
     root: RootBlock,
-    directory: Directory,
+    directory: KeptDirectory,
     replaced: Vec<RootBlock>,
 }
 
@@ -131,7 +130,15 @@ fn root_after<D: Disk + Drop>(
     let parted = part(alloc, items.actions())?;
     match &last.root {
         Some(root) => {
-            let next = after_group(root, store, alloc, group, last.directory(), &parted, items)?;
+            let next = after_group(
+                root,
+                store,
+                alloc,
+                group,
+                last.kept_directory(),
+                &parted,
+                items,
+            )?;
             Ok(PlannedRoot {
                 root: next.root,
                 directory: next.directory,
@@ -168,10 +175,10 @@ fn names_after(
 
 /// A directory to be kept. Where it has the rows of the one before, that one is shared.
 fn directory_after(
-    last: &Arc<Directory, Global>,
+    last: &Arc<KeptDirectory, Global>,
     alloc: Global,
-    directory: Directory,
-) -> Result<Arc<Directory, Global>, AllocError>
+    directory: KeptDirectory,
+) -> Result<Arc<KeptDirectory, Global>, AllocError>
     ensures { IfOk result (λ after. after.value ≡ directory) }
 {
     if last.as_ref().rows() == directory.rows() {

@@ -19,8 +19,7 @@ use crate::stamp::Stamp;
 use crate::suspension::lacks_disks;
 use block_pointer::Block;
 use block_store::{BlockStore, found_in_use_are_stored};
-use dataset_snapshots::RootContents;
-use meta_objset::Directory;
+use dataset_snapshots::{KeptDirectory, RootContents};
 use model_disk::Disk;
 use pool_maps::load_maps;
 use std::alloc::{AllocError, Global};
@@ -31,7 +30,7 @@ use volume_rules::NameIndex;
 fn group_of(
     alloc: Global,
     root: Block,
-    directory: Directory,
+    directory: KeptDirectory,
     names: NameIndex,
 ) -> Result<KeptGroup, AllocError>
     ensures { IfOk result (IsGroupOf root directory names) }

@@ -122,7 +122,7 @@ read_stay objects spaces after maps shapes is = record {
   table = is.table;
   rows = rows_stay spaces after is.maps shapes is.rows;
   each = zip_weaker (λ (m : MetaslabMap). HasMapPlace spaces m.metaslab) (IsReadOf objects spaces) (IsReadOf objects after) is.maps maps
-      (λ row r there one. record { metaslab = one.metaslab; sectors = sectors_on spaces after row.metaslab r.free.sectors shapes there one.sectors; map = one.map })
+      (λ row r there one. record { metaslab = one.metaslab; object = one.object; sectors = sectors_on spaces after row.metaslab r.free.sectors shapes there one.sectors; map = one.map })
       is.rows.places is.each;
 }
 

@@ -46,6 +46,7 @@ HaveMaps objects spaces rows = All (λ row. HasMapFor (objects row.object) space
 -- the set is what the row's map leaves free of its metaslab
 pub record IsReadOf (objects : ℕ → Option Object) (spaces : List VdevSpace) (row : MetaslabMap) (read : FreeMetaslab) : Type 0 where
   pub metaslab : read.metaslab ≡ row.metaslab
+  pub object : read.object ≡ row.object
   pub sectors : HasSectors spaces row.metaslab.vdev read.free.sectors
   pub map : HasMap (objects row.object) read.free.sectors read.free
 
@@ -59,6 +60,7 @@ pub record AreReadMaps (objects : ℕ → Option Object) (spaces : List VdevSpac
 -- the same of what was found on the disks, whether or not the object set is whole
 pub record IsFreeFound (spaces : List VdevSpace) (set : ObjectSet) (birth : ℕ) (row : MetaslabMap) (read : FreeMetaslab) : Type 0 where
   pub metaslab : read.metaslab ≡ row.metaslab
+  pub object : read.object ≡ row.object
   pub sectors : HasSectors spaces row.metaslab.vdev read.free.sectors
   pub map : IsMapFound spaces set birth row.object read.free.sectors read.free
 

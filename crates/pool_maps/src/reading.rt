@@ -29,6 +29,8 @@ use std::alloc::{AllocError, Global};
 pub struct FreeMetaslab {
     /// The metaslab.
     pub metaslab: MetaslabPlace,
+    /// The number of the map's object.
+    pub object: u64,
     /// The sectors of it that the map leaves free.
     pub free: FreeSet,
 }
@@ -144,5 +146,9 @@ fn read_one<D: Disk + Drop>(
     let metaslab = row.metaslab;
     let sectors = store.shape(metaslab.vdev as usize).metaslab_sectors();
     let free = read_free_set(set, store, alloc, row.object, sectors, birth, missing)?;
-    Ok(FreeMetaslab { metaslab, free })
+    Ok(FreeMetaslab {
+        metaslab,
+        object: row.object,
+        free,
+    })
 }

@@ -1,5 +1,5 @@
 //! Reading lines.
-ghost use Rattle.std.specs.Prelude.{◌≡◌, ◌⊎◌, List, ℕ, IfOk, Ok, Err};
+ghost use Rattle.std.specs.Prelude.{◌≡◌, ◌⊎◌, IfOk, Ok, Err};
 ghost use Rattle.schedule_lines.specs.declared.command.Line.{Line};
 ghost use Rattle.schedule_lines.specs.Grammar.{Spells};
 ghost use Rattle.schedule_lines.specs.Reading.{Gives, pool_at, write_at, create_at, snapshot_at, clone_at, destroy_at, read_at, under_at, stop_at, numbers_at, reopen_at, command_at, line_of};

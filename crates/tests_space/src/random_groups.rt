@@ -1,5 +1,5 @@
-//! Groups that overwrite random blocks of volumes in a store that has room for little more, between snapshots, clones and destroys.
-use crate::stores::{Store, new_store, store_plan};
+//! Groups that overwrite random blocks of volumes in a store that has room for little more, between snapshots, clones, destroys and opens.
+use crate::stores::{Store, new_store, opened_again, store_plan};
 use crate::walked::{sectors_if_right, sectors_of};
 use block_store::Refusal;
 use dataset_snapshots::{FirstRoot, after_group, first_group};
@@ -320,17 +320,17 @@ fn random_next(
     Ok(next(before, store, alloc, &pipeline, in_use)?)
 }
 
-/// After how many of the random groups the space maps are right.
+/// After how many of so many random groups the space maps are right; the last root is that of the last group then.
 fn count_right(
+    last: &mut FirstRoot,
     store: &mut Store,
     alloc: Global,
     numbers: &mut Numbers,
     in_use: &mut InUse,
 ) -> Result<u64, Fail> {
-    let mut last = written(store, alloc, in_use)?;
     let mut count = 0u64;
-    for _ in 0..GROUPS {
-        last = random_next(&last, store, alloc, numbers, in_use)?;
+    for _ in 0..BETWEEN_OPENS {
+        *last = random_next(last, store, alloc, numbers, in_use)?;
         if let Some(reached) = sectors_if_right(&last.root, store, alloc)? {
             in_use.note(reached);
             count = count.saturating_add(1);
@@ -339,7 +339,8 @@ fn count_right(
     Ok(count)
 }
 
-/// The same in a new store, and how many sectors were in use at most.
+/// The same of all groups in a new store, and how many sectors were in use at most. The store is opened again now and then, from its disks
+/// and the last root alone.
 fn counted(alloc: Global, seed: u64) -> Result<(u64, u64), Fail> {
     let mut numbers = Numbers { state: seed };
     let mut in_use = InUse {
@@ -347,12 +348,26 @@ fn counted(alloc: Global, seed: u64) -> Result<(u64, u64), Fail> {
         most: 0,
     };
     let mut store = new_store(alloc)?;
-    let count = count_right(&mut store, alloc, &mut numbers, &mut in_use)?;
+    let mut last = written(&mut store, alloc, &mut in_use)?;
+    let mut count = 0u64;
+    for _ in 0..OPENS {
+        let right = count_right(&mut last, &mut store, alloc, &mut numbers, &mut in_use)?;
+        count = count.saturating_add(right);
+        let opened = opened_again(store, alloc, &last.root)?;
+        store = opened.store;
+        last.directory = opened.directory;
+        in_use.given_back = [0; 3];
+    }
     Ok((count, in_use.most))
 }
 
 /// How many groups there are in a row: five rows have 10,000.
-const GROUPS: u64 = 2000;
+const GROUPS: u64 = BETWEEN_OPENS * OPENS;
+
+/// After so many groups the store is opened again.
+const BETWEEN_OPENS: u64 = 25;
+
+const OPENS: u64 = 80;
 
 /// In each row so many sectors are in use at least once: 85 of 100.
 const NEARLY_ALL: u64 = 7000;

@@ -1,6 +1,9 @@
 //! A store in memory: one vdev of three disks, with two metaslabs before its meta region.
+use block_pointer::Block;
 use block_store::{BlockStore, VdevConfig};
+use dataset_snapshots::{KeptDirectory, contents_under};
 use model_disk::MemDisk;
+use pool_maps::load_maps;
 use raidz_map::Geometry;
 use std::alloc::Global;
 use std::test::Fail;
@@ -17,13 +20,37 @@ pub(crate) const METASLABS: u64 = 2;
 pub(crate) const SECTORS: u64 = 4096;
 
 pub(crate) fn new_store(alloc: Global) -> Result<Store, Fail> {
+    let disks = MemDisk::several(alloc, 3, DISK_BYTES)?;
+    store_over(alloc, disks)
+}
+
+/// A store over these disks, of which nothing is known.
+fn store_over(alloc: Global, disks: Vec<MemDisk>) -> Result<Store, Fail> {
     let vdev = VdevConfig {
         geometry: Geometry::new(3, 1, 9)?,
         metaslab_shift: 12,
         meta_slabs: 3,
     };
-    let disks = MemDisk::several(alloc, 3, DISK_BYTES)?;
     Ok(BlockStore::new(alloc, disks, &[vdev])?)
+}
+
+/// A store as it is opened, and the directory of its root.
+#[derive(Drop)]
+pub(crate) struct Opened {
+    pub store: Store,
+    pub directory: KeptDirectory,
+}
+
+/// A store over the same disks, opened by what is under the root alone.
+pub(crate) fn opened_again(store: Store, alloc: Global, root: &Block) -> Result<Opened, Fail> {
+    let mut store = store_over(alloc, store.into_disks())?;
+    let mut left = 100000u64;
+    let contents = contents_under(root, &mut store, alloc, root.birth, &mut left, &[])?;
+    if load_maps(&mut store, contents.maps) {
+        store.take_in(&contents.blocks)?;
+    }
+    let directory = contents.directory;
+    Ok(Opened { store, directory })
 }
 
 /// Makes the writes that are due, and takes the blocks of the plan as stored.

@@ -108,8 +108,13 @@ pub(crate) fn sectors_of(blocks: &[Block]) -> u64 {
     sectors
 }
 
+/// At most four tables, two space maps, and records and dead lists of two volumes, two snapshots and a clone are there at once, and a volume
+/// that is made anew as one is destroyed takes two numbers more.
+const MOST_NUMBERS: u64 = 19;
+
 /// How many sectors before the meta region blocks take that a root leads to. `None` where the maps under it don't leave free, of each
-/// metaslab there, all other sectors. Something is in use in each, so that each has a map.
+/// metaslab there, all other sectors, or where numbers of objects that are gone were not taken again. Something is in use in each, so that
+/// each has a map.
 pub(crate) fn sectors_if_right(
     root: &Block,
     store: &mut Store,
@@ -121,5 +126,6 @@ pub(crate) fn sectors_if_right(
     let maps = read_space_maps(&set, store, alloc, root.birth, &[])?;
     let count = count_right(&set, store, alloc, root.birth, &maps, &blocks)?;
     let are_right = count == METASLABS && maps.rows().len() as u64 == METASLABS;
-    Ok(are_right.then_some(sectors_of(&blocks)))
+    let are_few = set.objects <= MOST_NUMBERS;
+    Ok((are_right && are_few).then_some(sectors_of(&blocks)))
 }

@@ -35,7 +35,7 @@ fn outcomes(contents: &RootContents, alloc: Global) -> Result<[bool; 5], Fail> {
         kind: VolumeKind::Volume,
     };
     Ok([
-        has_rows(&contents.directory, &[(b'v', 5), (b'w', 7)]),
+        has_rows(contents.directory.rows(), &[(b'v', 5), (b'w', 7)]),
         shape_of(contents, alloc, b'v')? == Some(shape),
         shape_of(contents, alloc, b'u')?.is_none(),
         contents.blocks.len() == 12,

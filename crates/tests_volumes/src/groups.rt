@@ -2,7 +2,9 @@
 use crate::roots::{create_empty, find_letter, first_root};
 use crate::stores::{Store, new_store, store_plan};
 use block_pointer::Block;
-use dataset_snapshots::{NextRoot, Refusal, VolumeRange, after_group, directory_under, read_range};
+use dataset_snapshots::{
+    KeptDirectory, NextRoot, Refusal, VolumeRange, after_group, directory_under, read_range,
+};
 use pool_model::{Action, Bytes, Change, Item, Name, Write};
 use std::alloc::Global;
 use std::test::Fail;
@@ -88,6 +90,7 @@ pub(crate) fn planned(
 ) -> Result<NextRoot, Refusal> {
     let group = root.birth.saturating_add(1);
     let directory = directory_under(root, store, alloc, root.birth, &[])?;
+    let directory = KeptDirectory::new(alloc, directory);
     store.drop_plan(group);
     let items = pipeline.open_items();
     let parted = part(alloc, items.actions())?;

@@ -11,7 +11,7 @@ use block_store::BlockStore;
 use dataset_snapshots::{
     FirstRoot, NextRoot, Refusal, VolumeRange, after_group, directory_under, find_in, read_range_in,
 };
-use meta_objset::Directory;
+use meta_objset::{Directory, DirectoryRow};
 use model_disk::{Disk, DiskError, MemDisk};
 use pool_model::Name;
 use std::alloc::{AllocError, Global};
@@ -19,10 +19,10 @@ use std::test::Fail;
 use txg_pipeline::Pipeline;
 use volume_rules::part;
 
-/// Whether a directory has these rows: letters in order, each with its object.
-pub(crate) fn has_rows(directory: &Directory, rows: &[(u8, u64)]) -> bool {
-    let mut right = directory.rows().len() == rows.len();
-    for (row, (name, object)) in directory.rows().iter().zip(rows) {
+/// Whether these are the rows of a directory: letters in order, each with its object.
+pub(crate) fn has_rows(found: &[DirectoryRow], rows: &[(u8, u64)]) -> bool {
+    let mut right = found.len() == rows.len();
+    for (row, (name, object)) in found.iter().zip(rows) {
         right = right && row.name == name_of(*name) && row.object == *object;
     }
     right
@@ -31,7 +31,7 @@ pub(crate) fn has_rows(directory: &Directory, rows: &[(u8, u64)]) -> bool {
 /// Whether the directory under a root has these rows too.
 fn is_under(root: &Block, store: &mut Store, alloc: Global, rows: &[(u8, u64)]) -> bool {
     match directory_under(root, store, alloc, root.birth, &[]) {
-        Ok(directory) => has_rows(&directory, rows),
+        Ok(directory) => has_rows(directory.rows(), rows),
         Err(_) => false,
     }
 }
@@ -62,8 +62,8 @@ fn are_kept(store: &mut Store, alloc: Global) -> Result<[bool; 4], Fail> {
     let two = [(b'v', 5), (b'w', 7)];
     let three = [(b'u', 11), (b'v', 5), (b'w', 7)];
     Ok([
-        has_rows(&first.directory, &two),
-        has_rows(&next.directory, &three),
+        has_rows(first.directory.rows(), &two),
+        has_rows(next.directory.rows(), &three),
         is_under(&first.root, store, alloc, &two),
         is_under(&next.root, store, alloc, &three),
     ])
@@ -101,7 +101,15 @@ fn bytes_in<D: Disk + Drop>(
 fn object_in(next: &NextRoot, store: &mut Store, alloc: Global, name: u8) -> Result<u64, Refusal> {
     let name = Name::new(vec![in alloc; name; 1]?);
     let root = &next.root;
-    match find_in(root, store, alloc, root.birth, &next.directory, &name, &[])? {
+    match find_in(
+        root,
+        store,
+        alloc,
+        root.birth,
+        next.directory.directory(),
+        &name,
+        &[],
+    )? {
         Some(dataset) => Ok(dataset.object),
         None => Ok(0),
     }
@@ -116,7 +124,14 @@ fn bytes_of(
     offset: u64,
 ) -> Result<Vec<u8>, Refusal> {
     let name = Name::new(vec![in alloc; name; 1]?);
-    bytes_in(&next.root, store, alloc, &next.directory, &name, offset)
+    bytes_in(
+        &next.root,
+        store,
+        alloc,
+        next.directory.directory(),
+        &name,
+        offset,
+    )
 }
 
 /// Whether `v` reads as it is to after the write.
@@ -250,7 +265,14 @@ fn root_with_directory(
 
 /// Whether a range of a volume reads as zeros, by the directory that a root came with.
 fn is_zeros_in(first: &FirstRoot, store: &mut CountedStore, alloc: Global, name: &Name) -> bool {
-    match bytes_in(&first.root, store, alloc, &first.directory, name, FROM) {
+    match bytes_in(
+        &first.root,
+        store,
+        alloc,
+        first.directory.directory(),
+        name,
+        FROM,
+    ) {
         Ok(bytes) => is_after(&bytes, false),
         Err(_) => false,
     }

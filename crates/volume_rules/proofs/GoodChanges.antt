@@ -1,16 +1,13 @@
 -- Changes that are not refused.
-use Rattle.std.proofs.Common.{◌≡◌, ℕ, suc, ◌+◌, Bool, true, false, true≢false, List, [], ◌∷◌, length, take, Option, Some, None, refl, sym, ap, ◌∙◌, arith}
-use Rattle.std.specs.Prelude.{◌%◌, ◌^◌, ◌==◌, ◌&&◌, ◌||◌, cond, is_some, nat_le, nat_lt, not}
-use Rattle.std.specs.List.{position, position_or_len}
-use Rattle.std.proofs.lemmas.Bool.Decides.{nat_tests}
-use Rattle.std.proofs.lemmas.Option.{cond_some}
+use Rattle.std.proofs.Common.{◌≡◌, ℕ, Bool, true, false, true≢false, List, [], ◌∷◌, Option, Some, None, refl, sym}
+use Rattle.std.specs.Prelude.{◌%◌, ◌^◌, ◌==◌, ◌&&◌, is_some, nat_le, not}
 use Rattle.pool_model.specs.declared.item.Change.{Change}
 use Rattle.pool_model.specs.declared.item.Change.TheVariants.{Clone, Create, Destroy, Snapshot}
 use Rattle.pool_model.specs.declared.refusal.Refusal.TheVariants.{BadName, Exists, Misaligned, NoSuchName, OutOfRange}
 use Rattle.pool_model.specs.declared.volume.PlainVolume.{PlainVolume}
 use Rattle.pool_model.specs.declared.volume.VolumeKind.{VolumeKind}
 use Rattle.pool_model.specs.declared.volume.VolumeKind.TheVariants.{Volume, Snapshot as SnapshotKind}
-use Rattle.pool_model.specs.Names.{is_block_size, is_name, is_name_for, is_snapshot_name, snapshot_name, volume_part}
+use Rattle.pool_model.specs.Names.{is_block_size, is_name, is_name_for, snapshot_name}
 use Rattle.pool_model.specs.Pools.{PlainPool, is_snapshot, volume_at}
 use Rattle.pool_model.specs.Refusals.{first_cause, is_snapshot_there, is_volume, change_refusal}
 use Rattle.pool_model.proofs.Causes.{first_none, not_false}

@@ -17,7 +17,7 @@ ghost use Rattle.pool_model.specs.Flow.{flow_of, with_hold, without_hold, with_a
 ghost use Rattle.pool_model.specs.Machine.{with_flow, taken, dropped, committed_next, StepOf};
 ghost use Rattle.pool_model.specs.Sound.{IsSound};
 ghost use Rattle.volume_rules.specs.declared.index.NameIndex.{NameIndex};
-ghost use Rattle.volume_rules.specs.Shapes.{HaveSameShapes, shape_of};
+ghost use Rattle.volume_rules.specs.Shapes.{HaveSameShapes};
 ghost use Rattle.volume_rules.specs.Effects.{PendingTakeEffect};
 ghost use Rattle.volume_rules.specs.Sources.{base_name};
 ghost use Rattle.volume_rules.specs.Index.{Knows};

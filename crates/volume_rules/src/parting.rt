@@ -1,13 +1,12 @@
 //! What a group destroys of what was there before it, and what it makes that stays.
-ghost use Rattle.std.specs.Prelude.{◌≡◌, ℕ, true, IfOk, OnOk};
+ghost use Rattle.std.specs.Prelude.{◌≡◌, ℕ, true, fold, IfOk, OnOk};
 ghost use Rattle.std.specs.List.{AllByRecursion};
 ghost use Rattle.pool_model.specs.Names.{does_make};
 ghost use Rattle.pool_model.specs.Pools.{AreAscending, Entry, MayBeDestroyed, PlainPool, all_destroyed, applied, written};
 ghost use Rattle.volume_rules.specs.Effects.{TakeEffect};
 ghost use Rattle.volume_rules.specs.GoodChanges.{MakesGoodVolumes, is_good_making};
 ghost use Rattle.volume_rules.specs.NowMoves.{HasGoodNames};
-ghost use Rattle.volume_rules.specs.Parting.{destroyed_by, is_made, made_by, not_making, parted_of, with_action, with_destroy};
-ghost use Rattle.std.specs.Prelude.{fold};
+ghost use Rattle.volume_rules.specs.Parting.{destroyed_by, is_made, made_by, parted_of, with_action, with_destroy};
 
 use pool_model::{Action, Change, Name};
 use std::alloc::{AllocError, Global};

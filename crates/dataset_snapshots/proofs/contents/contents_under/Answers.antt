@@ -1,4 +1,4 @@
-use Rattle.std.proofs.Common.{inl, inr, ⊎_elim, List, sym, subst}
+use Rattle.std.proofs.Common.{inl, inr, ⊎_elim, List, refl, sym, subst, ◌∙◌}
 use Rattle.block_store.proofs.Steps.{reads_on}
 use Rattle.block_store.specs.Spaces.{VdevSpace}
 use Rattle.dnode_tree.proofs.FurtherReads.{true_before, true_after}
@@ -8,8 +8,11 @@ use Rattle.pool_maps.proofs.Staying.{short_maps_there}
 use Rattle.pool_maps.specs.Loads.{AreFreeFound, AreReadMaps, HaveMaps}
 use Rattle.pool_maps.specs.Maps.{AreRowsOf}
 use Rattle.space_map_objects.proofs.Unread.{lossy}
+use Rattle.space_map_objects.specs.declared.refusal.Refusal.TheVariants.{NoMemory}
 use Rattle.dataset_snapshots.specs.Contents.{AreNamesFound, IsRootUnread}
+use Rattle.dataset_snapshots.specs.Finding.{AreRowsFound}
 use Rattle.dataset_snapshots.specs.Reach.{IsMetaWalked}
+use Rattle.meta_objset.specs.declared.directory.DirectoryRow.{DirectoryRow}
 use Rattle.dataset_snapshots.proofs.Datasets.{are_of_root}
 use Rattle.dataset_snapshots.proofs.NamedRows.{needs_no_room}
 use Rattle.dataset_snapshots.proofs.OpenedRoots.{maps_no_room, of_read_no_room, unread_for}
@@ -131,6 +134,16 @@ returns-in_err-maps-clause-known g c =
     (subst (λ (spaces : List VdevSpace). AreRowsOf spaces mapped.maps.maps) unchanged mapped.maps.rows)
     (subst (λ (spaces : List VdevSpace). HaveMaps is.objects spaces mapped.maps.maps) unchanged (short_maps_there is.objects _ mapped.maps.maps mapped.maps.short)))
 
+-- ---- the numbers that are free
+
+pub returns-in_err-kept-clause-reads : goal.returns-in_err-kept-clause-reads
+returns-in_err-kept-clause-reads g c =
+    reads_on _ _ _ _ (reads_on _ _ _ _ (reads_on _ _ _ _ c.in_ok-directory.ensures.reads c.in_ok-names.ensures.reads) c.in_ok-meta.ensures.reads) c.in_ok-maps.ensures.reads
+
+pub returns-in_err-kept-clause-known : goal.returns-in_err-kept-clause-known
+returns-in_err-kept-clause-known g c =
+    passed_on _ NoMemory _ c.from_residual-in_err-kept.ensures.1 (λ stored pool held is mapped once long honest. inl refl)
+
 -- ---- all of them
 
 pub returns-clause-reads : goal.returns-clause-reads
@@ -151,7 +164,7 @@ returns-clause-value g c = λ stored pool held is honest.
     let meta = c.in_ok-meta.ensures.value stored pool (both.keeps stored held) is (true_after _ _ _ _ both third before_maps) in
     record {
       is = is;
-      rows = rows;
+      rows = c.in_ok-kept.ensures ∙ rows;
       names = c.in_ok-names.ensures.value stored pool (first.keeps stored held) is rows (true_after _ _ _ _ first second before);
       blocks = meta.1;
       maps = subst (λ (spaces : List VdevSpace). AreReadMaps is.objects spaces c.in_ok-maps.maps.items) (spaces_stay _ _ _ all)
@@ -166,8 +179,9 @@ returns-clause-found g c =
     let found = c.in_ok-directory.ensures.found in
     record {
       set = found.0;
-      directory = found.1;
-      names = subst (λ (spaces : List VdevSpace). AreNamesFound spaces c.args.birth c.args.root.now c.in_ok-directory.directory c.in_ok-names.names) (spaces_stay _ _ _ first) c.in_ok-names.ensures.found;
+      directory = subst (AreRowsFound c.args.store.now.spaces c.args.birth c.args.root.now found.0) (sym c.in_ok-kept.ensures) found.1;
+      names = subst (λ (rows : List DirectoryRow). AreNamesFound c.args.store.now.spaces c.args.birth c.args.root.now rows c.in_ok-names.names) (sym c.in_ok-kept.ensures)
+          (subst (λ (spaces : List VdevSpace). AreNamesFound spaces c.args.birth c.args.root.now c.in_ok-directory.directory c.in_ok-names.names) (spaces_stay _ _ _ first) c.in_ok-names.ensures.found);
       walked_set = c.in_ok-meta.meta.set;
       blocks = subst (λ (spaces : List VdevSpace). IsMetaWalked spaces c.args.birth c.args.root.now c.args.left.now c.walk_meta.new.left c.in_ok-meta.meta.set c.in_ok-meta.meta.blocks.items)
           (spaces_stay _ _ _ both) c.in_ok-meta.ensures.walked;

@@ -40,7 +40,7 @@ pub returns-in_err-directory-clause-known : goal.returns-in_err-directory-clause
 returns-in_err-directory-clause-known g c =
     passed_on _ _ _ c.from_residual-in_err-directory.ensures.1 (λ stored planned plans unused honest good.
     let volumes = c.in_ok-datasets.ensures.value stored planned plans honest in
-    first_datasets_known volumes.0 c.args.group c.in_ok-datasets.datasets volumes.3 volumes.4 _ _ volumes.5 c.in_err-directory.ensures.refused)
+    first_datasets_known volumes.0 c.args.group c.in_ok-datasets.datasets volumes.3 volumes.4 _ _ c.in_ok-datasets.ensures.bounds volumes.5 c.in_err-directory.ensures.refused)
 
 pub returns-in_err-directory-clause-refused : goal.returns-in_err-directory-clause-refused
 returns-in_err-directory-clause-refused g c =
@@ -126,7 +126,7 @@ returns-clause-value g c = λ stored planned plans unused honest.
       is.0,
       is.1,
       is.2,
-      c.in_ok-directory.ensures.directory ∙ is.3,
+      c.new-directory.ensures ∙ c.in_ok-directory.ensures.directory ∙ is.3,
       is.4,
     )
 

@@ -1,4 +1,4 @@
-use Rattle.std.proofs.Common.{[], List, ◌∙◌, refl, subst, arith}
+use Rattle.std.proofs.Common.{[], List, ◌∙◌, refl, ap, subst, arith}
 use Rattle.dataset_groups.specs.Leaving.{IsReachExchanged}
 use Rattle.dataset_groups.specs.Names.{reach_by}
 use Rattle.dnode_tree.proofs.Refusing.{passed_on}
@@ -6,6 +6,7 @@ use Rattle.meta_objset.specs.declared.directory.DirectoryRow.{DirectoryRow}
 use Rattle.pool_model.specs.Pools.{no_volumes}
 use Rattle.volume.proofs.Made.{no_objects}
 use Rattle.dataset_snapshots.specs.FirstGroup.{empty_meta}
+use Rattle.dataset_groups.specs.declared.datasets.NumberBounds.{NumberBounds}
 use Rattle.dataset_snapshots.proofs.FirstRoots.{chains_none, first_actions_refused, first_are, first_objects, names_none, no_datasets, no_readings, nothing}
 use Rattle.dataset_snapshots.proofs.first_root.first_volumes.Goals as goal
 
@@ -23,7 +24,7 @@ pub returns-in_err-act_all-clause-refused : goal.returns-in_err-act_all-clause-r
 returns-in_err-act_all-clause-refused g c =
     let before = c.new-datasets.ensures in
     passed_on _ _ _ c.from_residual.ensures.1
-    (first_actions_refused c.args.store.now c.act_all.new.store c.args.group c.args.actions.now c.new-datasets.result (before.directory ∙ c.new.ensures) before.next before.none _
+    (first_actions_refused c.args.store.now c.act_all.new.store c.args.group c.args.actions.now c.new-datasets.result (before.directory ∙ c.new.ensures) before.next before.none _ before.bounds.0
     c.in_err-act_all.ensures.refused)
 
 pub returns-clause-value : goal.returns-clause-value
@@ -51,3 +52,16 @@ returns-clause-places g c =
     let before = c.new-datasets.ensures in
     first_are c.args.store.now c.act_all.new.store c.args.group c.args.actions.now c.new-datasets.result (before.directory ∙ c.new.ensures) before.next before.none c.act_all.new.self before.of_set.0
     c.act_all.ensures.one_set c.in_ok-act_all.ensures.places
+
+pub returns-clause-behind : goal.returns-clause-behind
+returns-clause-behind g c =
+    let before = c.new-datasets.ensures in
+    let within = c.act_all.ensures.within (omega (arith, before.bounds.0)) in
+    (c.act_all.ensures.behind, omega (arith, within, before.bounds.0))
+
+pub returns-clause-bounds : goal.returns-clause-bounds
+returns-clause-bounds g c =
+    let before = c.new-datasets.ensures in
+    let made = c.in_ok-act_all.ensures.places in
+    let same = ap (λ (b : NumberBounds). b.behind) c.act_all.ensures.bounds in
+    omega (arith, before.bounds.1, before.next, made.names.next, same)

@@ -10,16 +10,14 @@ use Rattle.pool_model.specs.declared.item.Action.{Action}
 use Rattle.pool_model.specs.Pools.{applied}
 use Rattle.dnode.specs.declared.object_set.ObjectSet.{ObjectSet}
 use Rattle.block_pointer.specs.declared.block.Block.{Block}
-use Rattle.pool_model.specs.Pools.{MayBeDestroyed, PlainPool, all_destroyed}
+use Rattle.pool_model.specs.Pools.{PlainPool, all_destroyed}
 use Rattle.dataset_snapshots.specs.Reach.{volume_blocks_of}
 use Rattle.dataset_snapshots.proofs.GroupReach.{items_given, replaced_are, root_given}
 use Rattle.dataset_groups.specs.NewVolumes.{AreGoodChanges}
-use Rattle.dataset_snapshots.specs.Groups.{IsOpenedFrom}
-use Rattle.dataset_snapshots.specs.Opening.{IsGroupFound}
 use Rattle.volume_rules.specs.Parting.{with_made}
 use Rattle.objset.specs.Objects.{AreObjects}
 use Rattle.std.specs.Prelude.{AllPairs}
-use Rattle.std.proofs.Common.{ℕ, ◌<◌}
+use Rattle.std.proofs.Common.{◌<◌}
 use Rattle.block_store.specs.Places.{filled}
 use Rattle.block_store.specs.Spaces.{VdevSpace}
 use Rattle.block_store.specs.Store.{Store}
@@ -33,17 +31,13 @@ use Rattle.dataset_snapshots.proofs.GroupDemands.{group_changes_refused, group_h
 use Rattle.dataset_snapshots.proofs.groups.after_group.Goals as goal
 use Rattle.block_store.specs.declared.refusal.Refusal.TheVariants.{NoMemory}
 
--- the names that are destroyed are those that the parted actions have
-may_names : (names destroyed : List (List ℕ)) (pool : PlainPool) → names ≡ destroyed → MayBeDestroyed destroyed pool → MayBeDestroyed names pool
-may_names names destroyed pool same may = subst (λ (gone : List (List ℕ)). MayBeDestroyed gone pool) (sym same) may
-
 pub returns-in_err-opened-clause-steps : goal.returns-in_err-opened-clause-steps
 returns-in_err-opened-clause-steps g c = steps_read _ _ _ c.in_err-opened.ensures.reads
 
 pub returns-in_err-opened-clause-known : goal.returns-in_err-opened-clause-known
 returns-in_err-opened-clause-known g c =
     passed_on _ _ _ c.from_residual.ensures.1 (λ stored planned pool plans is same maps stands honest may good.
-    loss_in_plan _ (c.in_err-opened.ensures.known stored pool plans.held is same (may_names _ _ pool c.destroyed-destroyed.ensures may) (few_blocks c.args.store.now stored planned plans (omega (arith, c.vdev_count-vdevs.ensures.count, c.vdev_count-vdevs.ensures.few)) _ c.args.root.now pool is) honest))
+    loss_in_plan _ (c.in_err-opened.ensures.known stored pool plans.held is same may (few_blocks c.args.store.now stored planned plans (omega (arith, c.vdev_count-vdevs.ensures.count, c.vdev_count-vdevs.ensures.few)) _ c.args.root.now pool is) honest))
 
 pub mapped_changes-requires-clause-opened : goal.mapped_changes-requires-clause-opened
 mapped_changes-requires-clause-opened g c = (c.args.items.now.writes, c.in_ok-opened.ensures.opened)
@@ -62,8 +56,8 @@ returns-in_err-made-clause-known g c =
     let before = true_before old read mid c.mapped_changes.ensures.steps.reads honest in
     let after = true_after old read mid first.reads honest in
     let early = c.in_ok-opened.ensures.early in
-    c.in_err-made.ensures.known stored planned _ c.args.root.now pool _ (first.plans stored planned plans) is c.destroyed-destroyed.result.now refl (omega (arith, early)) c.in_ok-opened.ensures.opened
-    (c.in_ok-opened.ensures.value stored pool plans.held is same (may_names _ _ pool c.destroyed-destroyed.ensures may) before) (subst (λ (spaces : List VdevSpace). AreMapsOf is.objects spaces filled) unchanged maps.maps)
+    c.in_err-made.ensures.known stored planned _ c.args.root.now pool _ (first.plans stored planned plans) is c.args.parted.now.destroyed refl (omega (arith, early)) c.in_ok-opened.ensures.opened
+    (c.in_ok-opened.ensures.value stored pool plans.held is same may before) (subst (λ (spaces : List VdevSpace). AreMapsOf is.objects spaces filled) unchanged maps.maps)
     (subst (λ (spaces : List VdevSpace). StandsOnce spaces is) unchanged stands) after (subst AreGoodChanges (sym c.made.ensures) good))
 
 pub returns-clause-steps : goal.returns-clause-steps
@@ -86,8 +80,7 @@ returns-clause-value g c =
     let early = c.in_ok-opened.ensures.early in
     let below : c.args.root.now.birth < c.args.group = omega (arith, early) in
     let le : c.args.root.now.birth ≤ c.args.group = omega (arith, below) in
-    let from = subst (λ (names : List (List ℕ)). IsOpenedFrom stored c.args.group (c.args.group - 1) c.args.root.now pool is names c.args.items.now.writes c.in_ok-opened.opened) c.destroyed-destroyed.ensures
-    (c.in_ok-opened.ensures.value stored pool plans.held is same (may_names _ _ pool c.destroyed-destroyed.ensures may) (true_before old read mid second.reads so_far)) in
+    let from = c.in_ok-opened.ensures.value stored pool plans.held is same may (true_before old read mid second.reads so_far) in
     let changes = c.in_ok-made.ensures.value stored planned _ c.args.root.now pool _ (first.plans stored planned plans) is c.args.parted.now.destroyed refl below c.in_ok-opened.ensures.opened from
     (subst (λ (spaces : List VdevSpace). AreMapsOf is.objects spaces filled) unchanged maps.maps) (true_after old read mid first.reads so_far) in
     let are = subst (λ (s : ObjectSet). AreObjects stored c.args.root.now.birth s is.objects is.own is.blocks) (sym from.set) is.are in
@@ -98,14 +91,14 @@ returns-clause-value g c =
     let after : PlainPool = all_destroyed c.args.parted.now.destroyed pool in
     let set = root_given changes.0 made.0 c.args.group root c.in_ok-opened.opened.set is.set c.deref-2.result.now list is.objects is.own is.blocks made.4 c.deref-2.ensures.value
     c.in_ok-opened.ensures.kind from.set (made.3, made.6) in
-    let of_items = items_given planned changes.0 c.args.group is.objects list after (with_made c.args.items.now c.args.parted.now) c.made.result.now before gone c.in_ok-made.made.directory c.made.ensures
-    (changes.3, changes.4, changes.5) in
+    let of_items = items_given planned changes.0 c.args.group is.objects list after (with_made c.args.items.now c.args.parted.now) c.made.result.now before gone c.in_ok-directory.directory c.made.ensures
+    (changes.3, changes.4, changes.5 ∙ sym c.in_ok-directory.ensures) in
     let replaced_is = replaced_are c.args.root.now c.in_ok-replaced.replaced.items c.extend_from_slice.new.self.items gone c.deref.result.now made.4 c.plan_root.new.replaced.items
     c.in_ok-replaced.ensures c.in_ok-extend_from_slice.ensures.items c.deref.ensures.value made.5 in
     let places = subst (λ (cs : List ObjectChange). HasRootPlaces mid new c.in_ok-opened.opened.set c.args.group cs) c.deref-2.ensures.value c.in_ok-next.ensures.places in
     let same_before = root_places_same mid new c.in_ok-opened.opened.set c.args.group list places in
     group_value stored planned changes.0 made.0 (c.args.group - 1) c.args.group c.args.root.now root pool (applied c.args.group after (with_made c.args.items.now c.args.parted.now)) is maps.copied list
-    gone made.4 c.plan_root.new.replaced.items c.in_ok-made.made.directory mid new changes.1.held made.1 changes.2 made.2 of_items changes.6 set made.7 c.in_ok-next.ensures.born replaced_is changes.7 same_before
+    gone made.4 c.plan_root.new.replaced.items c.in_ok-directory.directory mid new changes.1.held made.1 changes.2 made.2 of_items changes.6 set made.7 c.in_ok-next.ensures.born replaced_is changes.7 same_before
 
 pub returns-in_err-next-clause-steps : goal.returns-in_err-next-clause-steps
 returns-in_err-next-clause-steps g c = steps_on _ _ _ _ (steps_on _ _ _ _ (steps_read _ _ _ c.in_ok-opened.ensures.reads) c.in_ok-made.ensures.steps) c.plan_root.ensures.steps
@@ -128,8 +121,7 @@ returns-in_err-next-clause-known g c =
     let early = c.in_ok-opened.ensures.early in
     let below : c.args.root.now.birth < c.args.group = omega (arith, early) in
     let le : c.args.root.now.birth ≤ c.args.group = omega (arith, below) in
-    let from = subst (λ (names : List (List ℕ)). IsOpenedFrom stored c.args.group (c.args.group - 1) c.args.root.now pool is names c.args.items.now.writes c.in_ok-opened.opened) c.destroyed-destroyed.ensures
-    (c.in_ok-opened.ensures.value stored pool plans.held is same (may_names _ _ pool c.destroyed-destroyed.ensures may) (true_before old read mid second.reads so_far)) in
+    let from = c.in_ok-opened.ensures.value stored pool plans.held is same may (true_before old read mid second.reads so_far) in
     let changes = c.in_ok-made.ensures.value stored planned _ c.args.root.now pool _ (first.plans stored planned plans) is c.args.parted.now.destroyed refl below c.in_ok-opened.ensures.opened from
     (subst (λ (spaces : List VdevSpace). AreMapsOf is.objects spaces filled) unchanged maps.maps) (true_after old read mid first.reads so_far) in
     let are = subst (λ (s : ObjectSet). AreObjects stored c.args.root.now.birth s is.objects is.own is.blocks) (sym from.set) is.are in
@@ -140,16 +132,16 @@ returns-in_err-next-clause-known g c =
 pub returns-in_err-opened-clause-refused : goal.returns-in_err-opened-clause-refused
 returns-in_err-opened-clause-refused g c =
     passed_on _ _ _ c.from_residual.ensures.1
-    (group_unread c.args.store.now c.open_group.new.store c.args.root.now c.args.directory.now c.args.group c.args.parted.now.destroyed (with_made c.args.items.now c.args.parted.now) c.destroyed-destroyed.result.now _ c.destroyed-destroyed.ensures c.in_err-opened.ensures.refused)
+    (group_unread c.args.store.now c.open_group.new.store c.args.root.now c.args.directory.now c.args.group c.args.parted.now.destroyed (with_made c.args.items.now c.args.parted.now) c.args.parted.now.destroyed _ refl c.in_err-opened.ensures.refused)
 
 pub returns-in_err-made-clause-refused : goal.returns-in_err-made-clause-refused
 returns-in_err-made-clause-refused g c =
     let opened = c.in_ok-opened.opened in
-    let found = subst (λ (names : List (List ℕ)). IsGroupFound c.args.store.now.spaces (c.args.group - 1) c.args.root.now c.args.directory.now names c.args.items.now.writes c.in_ok-opened.opened)
-    c.destroyed-destroyed.ensures c.in_ok-opened.ensures.found in
+    let found = c.in_ok-opened.ensures.found in
+    let room = c.in_ok-opened.ensures.room in
     IfErr-weaker c.from_residual-in_err-made.result _ _
     (λ refusal why.
-    group_volumes_refused c.args.store.now c.open_group.new.store c.open_group.new.store c.mapped_changes.new.store c.args.root.now c.args.directory.now c.args.group c.args.parted.now.destroyed (with_made c.args.items.now c.args.parted.now) opened c.in_ok-opened.ensures.reads found refusal
+    group_volumes_refused c.args.store.now c.open_group.new.store c.open_group.new.store c.mapped_changes.new.store c.args.root.now c.args.directory.now c.args.group c.args.parted.now.destroyed (with_made c.args.items.now c.args.parted.now) opened c.in_ok-opened.ensures.reads found room refusal
     (subst (λ (actions : List Action). AreMappedRefused c.open_group.new.store c.mapped_changes.new.store c.args.root.now.birth c.args.group opened actions refusal) c.made.ensures why))
     (passed_on _ _ _ c.from_residual-in_err-made.ensures.1 c.in_err-made.ensures.refused)
 
@@ -161,13 +153,13 @@ pub returns-clause-places : goal.returns-clause-places
 returns-clause-places g c =
     let opened = c.in_ok-opened.opened in
     let list : List ObjectChange = c.in_ok-made.made.changes.items in
-    let found = subst (λ (names : List (List ℕ)). IsGroupFound c.args.store.now.spaces (c.args.group - 1) c.args.root.now c.args.directory.now names c.args.items.now.writes c.in_ok-opened.opened)
-    c.destroyed-destroyed.ensures c.in_ok-opened.ensures.found in
+    let found = c.in_ok-opened.ensures.found in
+    let room = c.in_ok-opened.ensures.room in
     let gone : List Block = c.mapped_changes.new.gone.items in
     let behind = c.in_ok-next.ensures.behind in
     let volumes = subst (λ (actions : List Action). HasMappedPlaces c.open_group.new.store c.mapped_changes.new.store c.args.root.now.birth c.args.group opened actions gone list) c.made.ensures
     c.in_ok-made.ensures.places in
-    group_has c.args.store.now c.open_group.new.store c.mapped_changes.new.store c.plan_root.new.store c.args.root.now c.args.directory.now c.args.group c.args.parted.now.destroyed (with_made c.args.items.now c.args.parted.now) opened c.in_ok-opened.ensures.reads found gone behind.0 c.plan_root.new.replaced.items list
+    group_has c.args.store.now c.open_group.new.store c.mapped_changes.new.store c.plan_root.new.store c.args.root.now c.args.directory.now c.args.group c.args.parted.now.destroyed (with_made c.args.items.now c.args.parted.now) opened c.in_ok-opened.ensures.reads found room gone behind.0 c.plan_root.new.replaced.items list
     c.in_ok-made.ensures.steps volumes
     (subst (λ (cs : List ObjectChange). HasRootPlaces c.mapped_changes.new.store c.plan_root.new.store opened.set c.args.group cs) c.deref-2.ensures.value c.in_ok-next.ensures.places)
     (behind.1 ∙ ap (λ (bs : List Block). bs ++ behind.0) (c.in_ok-extend_from_slice.ensures.items ∙ ap (λ (bs : List Block). bs ++ c.deref.result.now) c.in_ok-replaced.ensures
@@ -177,14 +169,14 @@ pub returns-in_err-next-clause-refused : goal.returns-in_err-next-clause-refused
 returns-in_err-next-clause-refused g c =
     let opened = c.in_ok-opened.opened in
     let list : List ObjectChange = c.in_ok-made.made.changes.items in
-    let found = subst (λ (names : List (List ℕ)). IsGroupFound c.args.store.now.spaces (c.args.group - 1) c.args.root.now c.args.directory.now names c.args.items.now.writes c.in_ok-opened.opened)
-    c.destroyed-destroyed.ensures c.in_ok-opened.ensures.found in
+    let found = c.in_ok-opened.ensures.found in
+    let room = c.in_ok-opened.ensures.room in
     let gone : List Block = c.mapped_changes.new.gone.items in
     let volumes = subst (λ (actions : List Action). HasMappedPlaces c.open_group.new.store c.mapped_changes.new.store c.args.root.now.birth c.args.group opened actions gone list) c.made.ensures
     c.in_ok-made.ensures.places in
     IfErr-weaker c.from_residual-in_err-next.result _ _
     (λ refusal why.
-    group_changes_refused c.args.store.now c.open_group.new.store c.mapped_changes.new.store c.plan_root.new.store c.args.root.now c.args.directory.now c.args.group c.args.parted.now.destroyed (with_made c.args.items.now c.args.parted.now) opened c.in_ok-opened.ensures.reads found gone list refusal
+    group_changes_refused c.args.store.now c.open_group.new.store c.mapped_changes.new.store c.plan_root.new.store c.args.root.now c.args.directory.now c.args.group c.args.parted.now.destroyed (with_made c.args.items.now c.args.parted.now) opened c.in_ok-opened.ensures.reads found room gone list refusal
     c.in_ok-made.ensures.steps volumes
     (subst (λ (cs : List ObjectChange). IsRootRefused c.mapped_changes.new.store c.plan_root.new.store opened.set c.args.root.now.birth c.args.group cs refusal) c.deref-2.ensures.value why))
     (passed_on _ _ _ c.from_residual-in_err-next.ensures.1 c.in_err-next.ensures.refused)
@@ -199,3 +191,10 @@ returns-in_err-replaced-clause-known g c =
 pub returns-in_err-extend_from_slice-clause-known : goal.returns-in_err-extend_from_slice-clause-known
 returns-in_err-extend_from_slice-clause-known g c =
     passed_on _ NoMemory _ c.from_residual-in_err-extend_from_slice.ensures.1 (λ stored planned pool plans is same maps stands honest may good. inl (inl refl))
+
+pub returns-in_err-directory-clause-steps : goal.returns-in_err-directory-clause-steps
+returns-in_err-directory-clause-steps g c = steps_on _ _ _ _ (steps_on _ _ _ _ (steps_read _ _ _ c.in_ok-opened.ensures.reads) c.in_ok-made.ensures.steps) c.plan_root.ensures.steps
+
+pub returns-in_err-directory-clause-known : goal.returns-in_err-directory-clause-known
+returns-in_err-directory-clause-known g c =
+    passed_on _ NoMemory _ c.from_residual-in_err-directory.ensures.1 (λ stored planned pool plans is same maps stands honest may good. inl (inl refl))

@@ -1,10 +1,11 @@
-use Rattle.std.proofs.Common.{◌≡◌, ℕ, ◌↔◌, ◌<◌, List, [], All, Contains, sym, subst, ◌∙◌}
+use Rattle.std.proofs.Common.{◌≡◌, ℕ, ◌↔◌, ◌<◌, List, [], All, Contains, sym, ap, subst, ◌∙◌}
 use Rattle.std.specs.List.{AllZip}
 use Rattle.std.specs.List.Sorted.{IsStrictlyIncreasing}
 use Rattle.block_store.proofs.Steps.{reads_on}
 use Rattle.block_store.specs.Spaces.{VdevSpace}
 use Rattle.dataset_changes.specs.States.{set_of}
 use Rattle.dataset_groups.specs.declared.datasets.GroupDatasets.{GroupDatasets}
+use Rattle.dataset_groups.specs.declared.datasets.NumberBounds.{NumberBounds}
 use Rattle.dataset_groups.specs.Names.{NamesPool}
 use Rattle.dataset_groups.specs.Writing.{numbers_of}
 use Rattle.dnode.specs.declared.object_set.ObjectSet.{ObjectSet}
@@ -21,6 +22,7 @@ use Rattle.dataset_snapshots.proofs.Chained.{volumes_of}
 use Rattle.dataset_snapshots.proofs.GroupDemands.{volume_unread}
 use Rattle.dataset_snapshots.proofs.GroupsBegun.{numbers_within, set_unread, written_are}
 use Rattle.dataset_snapshots.proofs.ChangedRows.{all_from}
+use Rattle.dataset_snapshots.proofs.Renumbered.{has_numbers}
 use Rattle.dataset_snapshots.proofs.groups.begin_group.Goals as goal
 
 pub returns-in_err-set-clause-known : goal.returns-in_err-set-clause-known
@@ -116,6 +118,16 @@ returns-clause-value g c = λ stored pool held is same honest.
           (subst (λ (rows : List DirectoryRow). All (IsReadFrom stored birth is.objects writes rows) c.in_ok-written.written.items) (c.new-datasets.ensures.directory ∙ by_rows) read.0);
     }
 
+pub returns-clause-numbers : goal.returns-clause-numbers
+returns-clause-numbers g c =
+    let kept = c.in_ok-written.ensures.kept in
+    let new = c.new-datasets.ensures in
+    record {
+      next = kept.next ∙ new.next;
+      end = ap (λ (b : NumberBounds). b.end) kept.bounds ∙ new.bounds.0;
+      behind = ap (λ (b : NumberBounds). b.behind) kept.bounds ∙ new.bounds.1;
+    }
+
 pub returns-clause-found : goal.returns-clause-found
 returns-clause-found g c =
     let kept = c.in_ok-written.ensures.kept in
@@ -140,6 +152,6 @@ returns-clause-found g c =
         one_set = kept.one_set;
         read = kept.touched;
         directory = kept.directory ∙ (c.new-datasets.ensures.directory ∙ by_rows);
-        next = kept.next ∙ c.new-datasets.ensures.next;
+        numbers = has_numbers c.in_ok-set.set _ (returns-clause-numbers g c);
       };
     }

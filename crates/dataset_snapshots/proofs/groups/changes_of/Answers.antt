@@ -1,20 +1,27 @@
-use Rattle.std.proofs.Common.{◌≡◌, ◌++◌, ◌+◌, ◌*◌, length, ℕ, false, List, [], ⊎_elim, inl, inr, sym, ap, subst, ◌∙◌, arith}
+use Rattle.std.proofs.Common.{◌≡◌, ◌≤◌, ◌++◌, ◌+◌, ◌*◌, length, ℕ, false, List, [], ⊎_elim, inl, inr, sym, ap, subst, ◌∙◌, arith}
 use Rattle.std.proofs.lemmas.List.{append_assoc}
 use Rattle.std.specs.Prelude.{fold}
 use Rattle.std.proofs.lemmas.Result.{IfErr-weaker, IfOk-weaker}
 use Rattle.block_pointer.specs.declared.block.Block.{Block}
 use Rattle.block_store.proofs.Steps.{steps_none, steps_on, true_before, true_after}
 use Rattle.dataset_groups.specs.declared.datasets.GroupDatasets.{GroupDatasets}
+use Rattle.dataset_groups.specs.Groups.{next_behind}
 use Rattle.dataset_groups.specs.Leaving.{IsReachExchanged}
 use Rattle.dataset_groups.specs.Names.{reach_by}
+use Rattle.dataset_groups.specs.NewVolumes.{numbers_end}
+use Rattle.dataset_groups.specs.declared.datasets.NumberBounds.{NumberBounds}
+use Rattle.dnode.specs.ObjectSet.{FitsObjectSet}
+use Rattle.dnode.specs.declared.object_set.ObjectSet.{ObjectSet}
 use Rattle.dnode_tree.proofs.Refusing.{ok_both, passed_on}
 use Rattle.meta_objset.specs.declared.directory.DirectoryRow.{DirectoryRow}
 use Rattle.pool_model.specs.Pools.{PlainPool, all_destroyed, written}
 use Rattle.pool_model.specs.Pools.{changed as pool_changed}
 use Rattle.dataset_snapshots.specs.Demands.{are_renamed}
+use Rattle.dataset_snapshots.specs.Groups.{HasNumbers}
 use Rattle.dataset_snapshots.proofs.BelowNext.{not_misnumbered}
-use Rattle.dataset_snapshots.proofs.Copied.{adds_on}
-use Rattle.dataset_snapshots.proofs.Exchanges.{given_then, gone_first}
+use Rattle.dataset_groups.proofs.Copied.{adds_on}
+use Rattle.dataset_groups.proofs.Exchanges.{given_then}
+use Rattle.dataset_snapshots.proofs.GoneFirst.{gone_first}
 use Rattle.dataset_snapshots.proofs.GroupsLeft.{begun, left_by, objects_still}
 use Rattle.dataset_snapshots.proofs.GroupsTouched.{actions_refused, datasets_refused, idle_rows, renamed_so, renamed_then, volumes_have}
 use Rattle.dataset_snapshots.proofs.groups.changes_of.Given.{Over}
@@ -67,7 +74,7 @@ returns-in_err-act_all-clause-refused g c =
     let mid : GroupDatasets = c.write_all.new.self in
     passed_on _ _ _ c.from_residual-in_err-act_all.ensures.1
     (actions_refused c.args.store.now c.write_all.new.store c.act_all.new.store c.args.group c.args.opened c.args.actions.now mid c.act_all.new.self c.write_all.ensures.directory
-    (c.write_all.ensures.next ∙ opens.next) c.in_ok-write_all.ensures.touched c.in_ok-write_all.ensures.places _ c.write_all.ensures.steps c.in_err-act_all.ensures.refused)
+    c.write_all.ensures.next c.write_all.ensures.bounds c.in_ok-write_all.ensures.touched c.in_ok-write_all.ensures.places _ c.write_all.ensures.steps c.in_err-act_all.ensures.refused)
 
 pub returns-clause-steps : goal.returns-clause-steps
 returns-clause-steps g c = steps_on _ _ _ _ c.write_all.ensures.steps c.act_all.ensures.steps
@@ -126,8 +133,8 @@ returns-clause-known g c =
     (true_after c.args.store.now c.write_all.new.store c.act_all.new.store c.write_all.ensures.steps.reads honest) placed.5 in
     ⊎_elim (λ memory. inl (inl memory))
     (λ mis.
-    absurd (not_misnumbered made.0 group is.objects new made.3.after made.3.readings (fold (λ p a. pool_changed group p a.change) (fold written after writes) c.args.actions.now) made.3.spells
-    mis.1))
+    absurd (not_misnumbered made.0 group is.objects new made.3.after made.3.readings (fold (λ p a. pool_changed group p a.change) (fold written after writes) c.args.actions.now) (next_behind new)
+    (omega arith) (omega arith) made.3.spells mis.1))
     why) c.with_directory.ensures.refused
 
 pub returns-clause-places : goal.returns-clause-places
@@ -139,8 +146,8 @@ returns-clause-places g c =
     IfOk-weaker c.with_directory.result _ _
     (λ all both.
     volumes_have c.args.store.now c.write_all.new.store c.act_all.new.store c.args.group c.args.opened c.args.actions.now mid new c.write_all.ensures.directory
-    (c.write_all.ensures.next ∙ opens.next) c.in_ok-write_all.ensures.touched c.in_ok-write_all.ensures.places c.write_all.ensures.one_set c.act_all.ensures.one_set makes
-    all.changes.items all.next c.if-renamed.renamed both.1 c.write_all.ensures.steps.shapes (renamed_is g c) both.0)
+    c.write_all.ensures.next c.write_all.ensures.bounds c.in_ok-write_all.ensures.touched c.in_ok-write_all.ensures.places c.write_all.ensures.one_set c.act_all.ensures.one_set makes
+    all.changes.items all.next c.if-renamed.renamed opens.numbers.behind both.1 c.write_all.ensures.steps.shapes (renamed_is g c) both.0)
     (ok_both c.with_directory.result _ _ c.with_directory.ensures.changes c.with_directory.ensures.next_is)
 
 pub returns-clause-refused : goal.returns-clause-refused
@@ -152,6 +159,37 @@ returns-clause-refused g c =
     IfErr-weaker c.with_directory.result _ _
     (λ refusal why.
     datasets_refused c.args.store.now c.write_all.new.store c.act_all.new.store c.args.group c.args.opened c.args.actions.now mid new c.write_all.ensures.directory
-    (c.write_all.ensures.next ∙ opens.next) c.in_ok-write_all.ensures.touched c.in_ok-write_all.ensures.places c.write_all.ensures.one_set c.act_all.ensures.one_set makes refusal
+    c.write_all.ensures.next c.write_all.ensures.bounds c.in_ok-write_all.ensures.touched c.in_ok-write_all.ensures.places c.write_all.ensures.one_set c.act_all.ensures.one_set makes refusal opens.numbers.behind
     (steps_on c.args.store.now c.write_all.new.store c.act_all.new.store [] c.write_all.ensures.steps c.act_all.ensures.steps) why)
     c.with_directory.ensures.refused
+
+numbers_end_is : (set : ObjectSet) (datasets : GroupDatasets) → FitsObjectSet set → HasNumbers set datasets → (datasets.next ≤ datasets.bounds.end) × (datasets.bounds.end ≤ numbers_end)
+numbers_end_is set datasets fits has = elim has.which [
+  | inl behind ↦ (
+    let most = fits.1.within in let high = fits.0.0.highest in omega (arith, behind.next, behind.end, most, high),
+    omega (arith, behind.end),
+  )
+  | inr before ↦ (before.0, let most = fits.1.within in let high = fits.0.0.highest in omega (arith, before.1, most, high))
+]
+
+pub act_all-requires-clause-behind : goal.act_all-requires-clause-behind
+act_all-requires-clause-behind g c = let low = c.requires.opened.1.numbers.low in omega (arith, low, c.write_all.ensures.next)
+
+pub act_all-requires-clause-end : goal.act_all-requires-clause-end
+act_all-requires-clause-end g c =
+    let opens = c.requires.opened.1 in
+    let within = numbers_end_is c.args.opened.set c.args.opened.datasets opens.set opens.numbers in
+    let same = ap (λ (b : NumberBounds). b.end) c.write_all.ensures.bounds in
+    omega (arith, within.1, same)
+
+pub with_directory-requires-clause-within : goal.with_directory-requires-clause-within
+with_directory-requires-clause-within g c =
+    let opens = c.requires.opened.1 in
+    let within = numbers_end_is c.args.opened.set c.args.opened.datasets opens.set opens.numbers in
+    let end = ap (λ (b : NumberBounds). b.end) c.write_all.ensures.bounds in
+    let behind = ap (λ (b : NumberBounds). b.behind) (c.act_all.ensures.bounds ∙ c.write_all.ensures.bounds) in
+    let first = opens.numbers.behind in
+    let most = opens.set.1.within in
+    let high = opens.set.0.0.highest in
+    let last = c.act_all.ensures.within (omega (arith, within.0, end, c.write_all.ensures.next)) in
+    omega (arith, last, within.1, end, behind, first, most, high)

@@ -1,4 +1,4 @@
-use Rattle.std.proofs.Common.{◌++◌, length, List, [], inl, inr, sym, ap, subst, ◌∙◌, ⊎_elim, arith}
+use Rattle.std.proofs.Common.{◌++◌, List, [], inl, inr, sym, ap, subst, ◌∙◌, ⊎_elim, arith}
 use Rattle.block_pointer.specs.declared.block.Block.{Block}
 use Rattle.block_store.proofs.Steps.{steps_on, steps_read, true_before, true_after}
 use Rattle.block_store.specs.Spaces.{VdevSpace}
@@ -79,7 +79,7 @@ returns-in_err-changes-clause-known g c =
     λ them. IsReachExchanged c.args.group planned made.0 (volume_blocks_of is) (reach_by made.3.datasets made.3.rows) them in
     let given : Given c.deref.result.now = subst Given (sym (gone_is ∙ (made.5 ∙ ap (λ (front : List Block). front ++ made.4) c.requires.none))) made.6 in
     let now = maps_on is.objects old.spaces mid.spaces steps.shapes (have_filled old.spaces mid.spaces steps.filled) maps in
-    let unmade = unmade_from stored birth root pool is c.args.opened.set next (length volumes.made) from.set volumes.next_is in
+    let unmade = unmade_from stored birth root pool is c.args.opened.set next _ from.set volumes.next_is in
     let others = others_are is.objects mid.spaces now changes next c.in_ok-made.ensures.next unmade made.9 made.3.may in
     let released = sized_given_back mid stored made.0 c.deref.result.now c.args.group made.1 (gone_stored stored birth root pool is c.args.group planned made.0 _ _ given)
     (gone_once stored birth root pool is c.args.group planned made.0 _ _ given old mid stands) (gone_in_use stored birth root pool is c.args.group planned made.0 _ _ given old mid stands steps) c.are_sized.ensures in
@@ -102,7 +102,7 @@ returns-clause-value g c = λ stored planned birth root pool writes plans is des
     let Given : List Block → Type 0 =
     λ them. IsReachExchanged c.args.group planned made.0 (volume_blocks_of is) (reach_by made.3.datasets made.3.rows) them in
     let now = maps_on is.objects old.spaces mid.spaces steps.shapes (have_filled old.spaces mid.spaces steps.filled) maps in
-    let unmade = unmade_from stored birth root pool is c.args.opened.set next (length volumes.made) from.set volumes.next_is in
+    let unmade = unmade_from stored birth root pool is c.args.opened.set next _ from.set volumes.next_is in
     let others = others_are is.objects mid.spaces now changes next c.in_ok-made.ensures.next unmade made.9 made.3.may in
     let are = subst (λ n. AreObjects stored n c.args.opened.set is.objects is.own is.blocks) born (subst (λ (s : ObjectSet). AreObjects stored root.birth s is.objects is.own is.blocks) (sym from.set) is.are) in
     let planned_maps = c.in_ok-changes.ensures.value stored is.objects is.own is.blocks made.1.held are (true_after old mid new steps.reads honest) now others in

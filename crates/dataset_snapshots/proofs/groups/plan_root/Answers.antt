@@ -14,8 +14,8 @@ use Rattle.dnode.specs.declared.object_set.ObjectSetKind.{ObjectSetKind}
 use Rattle.dnode.specs.declared.object_set.ObjectSetKind.TheVariants.{Meta}
 use Rattle.objset.specs.declared.changes.SetCopies.{SetCopies}
 use Rattle.objset.specs.Changes.{HasNoRoom, changed, copies_of}
-use Rattle.dataset_snapshots.proofs.Copied.{adds_of_root}
-use Rattle.dataset_snapshots.proofs.Numbered.{none_behind, set_planned}
+use Rattle.dataset_groups.proofs.Copied.{adds_of_root}
+use Rattle.dataset_groups.proofs.Numbered.{none_behind, set_planned}
 use Rattle.dataset_snapshots.proofs.groups.plan_root.Goals as goal
 
 -- the meta object set has three copies

@@ -1,4 +1,5 @@
-use Rattle.std.proofs.Common.{◌≡◌, ◌<◌, List, ◌∷◌, Bool, true≢false, IsTrue, All, inr, refl, ap, subst, sym, ◌∙◌, arith}
+use Rattle.std.specs.Prelude.{Any}
+use Rattle.std.proofs.Common.{◌≡◌, ◌<◌, ◌≤◌, List, ◌∷◌, Bool, true≢false, IsTrue, All, inr, refl, ap, subst, sym, ◌∙◌}
 use Rattle.meta_objset.specs.declared.directory.DirectoryRow.{DirectoryRow}
 use Rattle.objset.specs.declared.changes.Change.{Change}
 use Rattle.objset.specs.declared.changes.ObjectChange.{ObjectChange}
@@ -9,14 +10,15 @@ use Rattle.dataset_snapshots.proofs.groups.with_directory.Goals.{then-renamed+in
 
 pub returns-then-not-are_below-clause-refused : goal.returns-then-not-are_below-clause-refused
 returns-then-not-are_below-clause-refused c =
-    let P : List ObjectChange → Type 0 = λ changes. All (λ change. change.number < c.args.datasets.next) changes in
+    let P : List ObjectChange → Type 0 = λ changes. All (λ change. change.number < c.max-next.result) changes in
     inr (
       refl,
       inr (
         c.in_ok-changes.changes.items,
         c.in_ok-changes.ensures.are,
-        some_behind c.args.datasets.next c.in_ok-changes.changes.items c.are_below.result (λ all. c.are_below.ensures.1 (subst P (sym c.deref.ensures.value) all))
-            (λ is. let wrong = subst (λ (b : Bool). IsTrue b) c.if-not-are_below.true is in cc),
+        subst (λ n. Any (λ (change : ObjectChange). n ≤ change.number) c.in_ok-changes.changes.items) c.max-next.ensures
+            (some_behind c.max-next.result c.in_ok-changes.changes.items c.are_below.result (λ all. c.are_below.ensures.1 (subst P (sym c.deref.ensures.value) all))
+            (λ is. let wrong = subst (λ (b : Bool). IsTrue b) c.if-not-are_below.true is in cc)),
       ),
     )
 

@@ -82,7 +82,7 @@ returns-clause-reads g c = reads_on _ _ _ _ c.in_ok-record.ensures.reads c.in_ok
 pub returns-clause-kept : goal.returns-clause-kept
 returns-clause-kept g c =
     let old : GroupDatasets = c.args.datasets.now in
-    keeps_datasets old (record { directory = old.directory; changes = c.record.new.self; next = old.next }) c.args.object c.in_ok-record.record refl refl c.in_ok-record.ensures.kept
+    keeps_datasets old (record { directory = old.directory; changes = c.record.new.self; next = old.next; bounds = old.bounds }) c.args.object c.in_ok-record.record refl refl refl c.in_ok-record.ensures.kept
     c.in_ok-record.ensures.lists c.in_ok-record.ensures.one_set
 
 pub returns-clause-value : goal.returns-clause-value
@@ -109,7 +109,7 @@ returns-clause-value g c = λ stored there own blocks held are honest over.
                   (volume_spelled stored c.args.birth there c.in-Some.row.now volume c.in_ok-record.record c.new-volume.result spelled same shape block) (true_after _ _ _ _ first second honest)),
             ),
       ),
-      keeps_group old (record { directory = old.directory; changes = c.record.new.self; next = old.next }) c.args.object c.in_ok-record.record refl refl c.in_ok-record.ensures.kept
+      keeps_group old (record { directory = old.directory; changes = c.record.new.self; next = old.next; bounds = old.bounds }) c.args.object c.in_ok-record.record refl refl refl c.in_ok-record.ensures.kept
           c.in_ok-record.ensures.lists there c.requires.unread value,
       is.0,
     )

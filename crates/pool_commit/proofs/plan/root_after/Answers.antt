@@ -16,7 +16,7 @@ use Rattle.volume_rules.specs.GoodChanges.{MakesGoodVolumes}
 use Rattle.volume_rules.specs.Parting.{Parted, made_by, parted_of, with_made}
 use Rattle.pool_commit.specs.Backs.{BeginsWithMaps, LeadsTo, LeavesMaps, SpellsRoot}
 use Rattle.pool_commit.specs.Directories.{SpellsBy}
-use Rattle.pool_commit.proofs.Directories.{first_refused, rows_led}
+use Rattle.pool_commit.proofs.Directories.{first_refused, later_refused, rows_led}
 use Rattle.pool_commit.proofs.Parted.{first_parted, may_parted, same_parted}
 use Rattle.pool_commit.proofs.plan.root_after.Given as given
 use Rattle.pool_commit.proofs.plan.root_after.Goals as goal
@@ -39,7 +39,7 @@ returns-in-Some-clause-value g c = λ stored planned pool before plans spells le
     let led = subst (λ (o : Option Block). LeadsTo stored (c.args.group - 1) o pool before) c.in-Some.is leads in
     let (is, maps, stands) = subst (λ (o : Option Block). BeginsWithMaps c.args.store.now.spaces stored (c.args.group - 1) o pool) c.in-Some.is begins in
     let one = roots_spell_one_pool stored (c.args.group - 1) (c.args.group - 1) c.in-Some.root pool pool led.0 is in
-    let by = rows_led stored (c.args.group - 1) c.args.last.now pool _ _ is spells c.in-Some.is c.directory.ensures in
+    let by = rows_led stored (c.args.group - 1) c.args.last.now pool _ _ is spells c.in-Some.is c.kept_directory.ensures in
     let items : Entry = c.args.items.now in
     let parted : c.in_ok-parted.parted ≡ parted_of items.actions = c.in_ok-parted.ensures ∙ ap parted_of c.actions.ensures in
     let may : MayBeDestroyed (c.in_ok-parted.parted).destroyed pool =
@@ -63,7 +63,7 @@ returns-in_err-next-in-Some-clause-known g c =
     passed_on _ _ _ c.from_residual-in_err-next-in-Some.ensures.1
     (λ stored planned pool plans spells begins honest good effects.
     let (is, maps, stands) = subst (λ (o : Option Block). BeginsWithMaps c.args.store.now.spaces stored (c.args.group - 1) o pool) c.in-Some.is begins in
-    let by = rows_led stored (c.args.group - 1) c.args.last.now pool _ _ is spells c.in-Some.is c.directory.ensures in
+    let by = rows_led stored (c.args.group - 1) c.args.last.now pool _ _ is spells c.in-Some.is c.kept_directory.ensures in
     let items : Entry = c.args.items.now in
     let parted : c.in_ok-parted.parted ≡ parted_of items.actions = c.in_ok-parted.ensures ∙ ap parted_of c.actions.ensures in
     let may : MayBeDestroyed (c.in_ok-parted.parted).destroyed pool =
@@ -109,3 +109,9 @@ returns-in_err-first-in-None-clause-refused g c =
     passed_on _ _ _ c.from_residual-in_err-first-in-None.ensures.1
     (first_refused c.args.store.now c.first_root.new.store c.args.last.now c.args.group c.args.items.now c.in_ok-parted.parted _ (c.in_ok-parted.ensures ∙ ap parted_of c.actions.ensures) c.in-None.is
     c.in_err-first-in-None.ensures.refused)
+
+pub returns-in_err-next-in-Some-clause-refused : goal.returns-in_err-next-in-Some-clause-refused
+returns-in_err-next-in-Some-clause-refused g c =
+    passed_on _ _ _ c.from_residual-in_err-next-in-Some.ensures.1
+    (later_refused c.args.store.now c.after_group.new.store c.args.last.now _ c.args.group c.args.items.now c.in_ok-parted.parted _ _
+    (c.in_ok-parted.ensures ∙ ap parted_of c.actions.ensures) c.in-Some.is c.kept_directory.ensures c.in_err-next-in-Some.ensures.refused)

@@ -12,6 +12,7 @@ returns-clause-value g c = λ stored objects own blocks held are honest.
     let map = c.in_ok-free.ensures.value stored objects own blocks held are honest in
     record {
       metaslab = refl;
+      object = refl;
       sectors = has_sectors c.args.store.now.spaces vdev free.sectors c.requires.place.space c.requires.place.found (map.2.leaves.0 ∙ size);
       map = own_map (objects c.args.row.now.object) sectors free map;
     }

@@ -1,4 +1,4 @@
-use Rattle.std.proofs.Common.{[], List, inr, refl, sym, subst, ◌∙◌, true≢false}
+use Rattle.std.proofs.Common.{◌≡◌, ◌≤◌, [], List, inr, refl, sym, subst, ◌∙◌, true≢false}
 use Rattle.std.specs.Prelude.{fold, take}
 use Rattle.std.proofs.lemmas.List.{take_all}
 use Rattle.block_store.proofs.Steps.{steps_none, steps_on, true_after, true_before}
@@ -8,6 +8,9 @@ use Rattle.pool_model.specs.declared.item.Action.{Action}
 use Rattle.pool_model.specs.Pools.{PlainPool, changed}
 use Rattle.dataset_groups.specs.Actions.{AreActed}
 use Rattle.dataset_groups.specs.Demands.{MakesAll}
+use Rattle.dataset_groups.specs.NewVolumes.{numbers_end}
+use Rattle.dataset_groups.specs.declared.datasets.GroupDatasets.{GroupDatasets}
+use Rattle.dataset_groups.specs.declared.datasets.NumberBounds.{NumberBounds}
 use Rattle.dataset_groups.proofs.AddedDatasets.{acts_none, acts_on}
 use Rattle.dataset_groups.proofs.MakingDemands.{action_refused, makes_more, makes_none, taken_more}
 use Rattle.dataset_groups.proofs.MakingSteps.{one_good, pool_more}
@@ -17,7 +20,9 @@ pub loop-action-init : goal.loop-action-init
 loop-action-init g c = record {
   steps = steps_none c.args.store.now [];
   behind = c.requires.behind;
+  end = c.requires.end;
   within = λ within. within;
+  bounds = refl;
   one_set = (refl, refl);
   value = λ stored planned plans honest. (
     planned,
@@ -51,13 +56,26 @@ returns-in_err-act_one-clause-known g c =
     (objects_on stored objects own blocks c.args.self.now.changes c.loop-action.self.changes so_far.one_set are)
     (true_after c.args.store.now c.loop-action.store c.act_one.new.store so_far.steps.reads honest) acted.spells)
 
+within_on : (old mid new : GroupDatasets) → mid.bounds ≡ old.bounds → (mid.next ≤ mid.bounds.end → new.next ≤ mid.bounds.end) → mid.next ≤ old.bounds.end → new.next ≤ old.bounds.end
+within_on old mid new same step so_far =
+    subst (λ (b : NumberBounds). new.next ≤ b.end) same (step (subst (λ (b : NumberBounds). mid.next ≤ b.end) (sym same) so_far))
+
+pub returns-in_err-act_one-clause-within : goal.returns-in_err-act_one-clause-within
+returns-in_err-act_one-clause-within g c = λ within.
+    within_on c.args.self.now c.loop-action.self c.act_one.new.self c.loop-action.invariant.bounds c.act_one.ensures.within (c.loop-action.invariant.within within)
+
+pub returns-in_err-act_one-clause-bounds : goal.returns-in_err-act_one-clause-bounds
+returns-in_err-act_one-clause-bounds g c = c.act_one.ensures.bounds ∙ c.loop-action.invariant.bounds
+
 pub loop-action-preserved : goal.loop-action-preserved
 loop-action-preserved g c =
     let so_far = c.loop-action.invariant in
     let steps = c.act_one.ensures.steps in record {
       steps = steps_on c.args.store.now c.loop-action.store c.act_one.new.store [] so_far.steps steps;
       behind = c.act_one.ensures.behind;
-      within = λ within. c.act_one.ensures.within (so_far.within within);
+      end = subst (λ (b : NumberBounds). b.end ≤ numbers_end) (sym c.act_one.ensures.bounds) so_far.end;
+      within = λ within. within_on c.args.self.now c.loop-action.self c.act_one.new.self so_far.bounds c.act_one.ensures.within (so_far.within within);
+      bounds = c.act_one.ensures.bounds ∙ so_far.bounds;
       one_set = one_set_on c.args.self.now.changes c.loop-action.self.changes c.act_one.new.self.changes so_far.one_set c.act_one.ensures.one_set;
       value = λ stored planned plans honest.
           let one = so_far.value stored planned plans (true_before c.args.store.now c.loop-action.store c.act_one.new.store steps.reads honest) in

@@ -1,4 +1,4 @@
-use Rattle.std.proofs.Common.{ℕ, ◌≤◌, ◌<◌, [], List, Option, take}
+use Rattle.std.proofs.Common.{◌≡◌, ℕ, ◌≤◌, ◌<◌, [], List, Option, take}
 use Rattle.std.specs.Prelude.{fold}
 use Rattle.block_pointer.specs.declared.block.Block.{Block}
 use Rattle.block_store.specs.Blocks.{Contents, Extends}
@@ -20,7 +20,9 @@ abbrev pub invariant-loop-action : goal.invariant-loop-action
 invariant-loop-action g l = record {
   steps : OnlyReadsAndPlans l.fn.store l.store [];
   behind : 4 < l.self.next;
-  within : l.fn.self.next ≤ numbers_end → l.self.next ≤ numbers_end;
+  end : l.self.bounds.end ≤ numbers_end;
+  within : l.fn.self.next ≤ l.fn.self.bounds.end → l.self.next ≤ l.fn.self.bounds.end;
+  bounds : l.self.bounds ≡ l.fn.self.bounds;
   one_set : AreOfOneSet l.fn.self.changes l.self.changes;
   value : (stored planned : Contents) → Plans l.fn.store stored planned → AnswersAreTrue l.fn.store l.store
       → (later : Contents) × Plans l.store stored later × Extends planned later

@@ -44,11 +44,12 @@ returns-clause-value g c =
     let lacks = c.get.ensures.none (is_none _ _ c.is_some.ensures c.if-is_some.false) in
     let has = row_of old.directory snapshot _ _ c.in-Some.is c.object_of.ensures.found in
     let names = good_names snapshot name c.in_ok-name.ensures.good in
-    let left : old.next + 2 ≤ numbers_end = omega arith in
+    let within : old.next + 2 ≤ numbers_end = omega arith in
+    let left : old.next + 2 ≤ old.bounds.end = omega arith in
     IfOk-weaker c.clone_as.result (λ done. IsCloned c.args.store.now c.clone_as.new.store c.args.group c.in-Some.origin old c.in_ok-name.name c.clone_as.new.self) _
     (λ done cloned stored known objects own blocks pool readings plain held are honest spells.
     clone_made c.reach_has_each_block_once.ensures c.args.store.now c.clone_as.new.store old c.clone_as.new.self c.args.group c.in_ok-name.name snapshot name has.0 stored known objects own blocks pool
-    readings plain c.requires.behind left c.object_of.ensures.order c.in_ok-name.ensures.named names.0 names.1 lacks has.1 has.2
+    readings plain c.requires.behind within left c.object_of.ensures.order c.in_ok-name.ensures.named names.0 names.1 lacks has.1 has.2
     (subst (λ h. IsCloned c.args.store.now c.clone_as.new.store c.args.group h old c.in_ok-name.name c.clone_as.new.self) (sym has.3) cloned) held are honest spells)
     c.clone_as.ensures.cloned
 
@@ -72,7 +73,7 @@ returns-clause-places g c =
     let making = is_making old.directory change c.in_ok-name.name c.in_ok-name.ensures.named lacks (is_row_there old.directory c.args.snapshot.now _ has) in
     IfOk-weaker c.clone_as.result (λ done. IsCloned c.args.store.now c.clone_as.new.store c.args.group c.in-Some.origin old c.in_ok-name.name c.clone_as.new.self) _
     (λ done cloned.
-    makes_one c.args.store.now c.clone_as.new.store old c.clone_as.new.self c.args.group change c.in_ok-name.name c.in_ok-name.ensures.named making cloned.row cloned.next
+    makes_one c.args.store.now c.clone_as.new.store old c.clone_as.new.self c.args.group change c.in_ok-name.name c.in_ok-name.ensures.named making cloned.row cloned.next cloned.bounds
     (spaces_stay c.args.store.now c.clone_as.new.store [] c.clone_as.ensures.reads))
     c.clone_as.ensures.cloned
 
@@ -85,6 +86,6 @@ returns-clause-refused g c =
     let making = is_making old.directory change c.in_ok-name.name c.in_ok-name.ensures.named lacks (is_row_there old.directory c.args.snapshot.now _ has) in
     IfErr-weaker c.clone_as.result _ _
     (λ refusal why.
-    not_made c.args.store.now c.clone_as.new.store old.changes c.args.group old.directory old.next change refusal making
+    not_made c.args.store.now c.clone_as.new.store old.changes c.args.group old.directory old.next old.bounds.end change refusal making
     (record { origin = c.in-Some.origin; is = inr has; far = old.changes; one_set = (refl, refl); last = why.0; why = why.1 }))
     c.clone_as.ensures.refused

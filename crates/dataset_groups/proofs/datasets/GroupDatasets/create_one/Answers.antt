@@ -47,16 +47,16 @@ returns-then-is_some-clause-places g c =
       refl,
     )
 
-pub returns-then-self-clause-steps : goal.returns-then-self-clause-steps
-returns-then-self-clause-steps g c = steps_none c.args.store.now []
+pub returns-then-saturating_sub-lt2-clause-steps : goal.returns-then-saturating_sub-lt2-clause-steps
+returns-then-saturating_sub-lt2-clause-steps g c = steps_none c.args.store.now []
 
 -- the name is new
 makes : (rows : List DirectoryRow) (name : List ℕ) (size block_size : ℕ) (v : NewVolume) → IsNewVolume name size block_size v → LacksName rows v.name
     → IsMaking rows [] (Create name size block_size)
 makes rows name size block_size v is lacks = is_making rows (Create name size block_size) v.name is.0 lacks tt
 
-pub returns-then-self-clause-refused : goal.returns-then-self-clause-refused
-returns-then-self-clause-refused g c =
+pub returns-then-saturating_sub-lt2-clause-refused : goal.returns-then-saturating_sub-lt2-clause-refused
+returns-then-saturating_sub-lt2-clause-refused g c =
     let lacks = c.get.ensures.none (is_none _ _ c.is_some.ensures c.if-is_some.false) in
     inr (inr (makes c.args.self.now.directory c.args.name.now c.args.size c.args.block_size c.in_ok-new.new c.in_ok-new.ensures.is lacks, inl (refl, omega arith)))
 
@@ -82,7 +82,8 @@ good_name name size block_size good = (both (is_name name) (is_good_size size bl
 pub returns-clause-value : goal.returns-clause-value
 returns-clause-value g c =
     let lacks = c.get.ensures.none (is_none _ _ c.is_some.ensures c.if-is_some.false) in
-    let left : c.args.self.now.next + 2 ≤ numbers_end = omega arith in
+    let within : c.args.self.now.next + 2 ≤ numbers_end = omega arith in
+    let left : c.args.self.now.next + 2 ≤ c.args.self.now.bounds.end = omega arith in
     on_ok_weaker c.add.result
     (λ added stored planned plans honest.
     let is = c.in_ok-object_set.ensures.value stored planned plans honest in (
@@ -91,7 +92,7 @@ returns-clause-value g c =
       is.2,
       λ objects pool readings plain spells.
           volume_made c.args.self.now c.add.new.self c.args.name.now c.args.size c.args.block_size c.in_ok-new.new c.args.group c.in_ok-object_set.object_set c.record-dataset.result planned is.0 objects
-          pool readings plain c.in_ok-new.ensures.is (good_name c.args.name.now c.args.size c.args.block_size c.in_ok-new.ensures.good) c.requires.born c.requires.behind left lacks added
+          pool readings plain c.in_ok-new.ensures.is (good_name c.args.name.now c.args.size c.args.block_size c.in_ok-new.ensures.good) c.requires.born c.requires.behind within left lacks added
           c.record-dataset.ensures.value is.2 is.3 is.4 is.5 spells,
     ))
     c.add.ensures.added
@@ -106,7 +107,7 @@ returns-clause-places g c =
     on_ok_weaker c.add.result
     (λ added.
     makes_one c.args.store.now c.planned.new.store c.args.self.now c.add.new.self c.args.group (Create c.args.name.now c.args.size c.args.block_size) c.in_ok-new.new.name is.0
-    (makes c.args.self.now.directory c.args.name.now c.args.size c.args.block_size c.in_ok-new.new is lacks) added.row added.next
+    (makes c.args.self.now.directory c.args.name.now c.args.size c.args.block_size c.in_ok-new.new is lacks) added.row added.next added.bounds
     (subst (λ n. HasNewPlaces c.args.store.now c.planned.new.store c.args.group n) is.2 c.in_ok-object_set.ensures.places))
     c.add.ensures.added
 

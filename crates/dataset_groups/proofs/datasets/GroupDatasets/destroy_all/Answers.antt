@@ -1,7 +1,6 @@
-use Rattle.std.proofs.Common.{◌≡◌, ◌↔◌, [], ◌∷◌, ◌++◌, ◌+◌, ℕ, false, true, List, drop, inl, inr, refl, sym, subst, arith}
+use Rattle.std.proofs.Common.{◌≡◌, ◌↔◌, [], ◌∷◌, ◌++◌, ◌+◌, ℕ, false, true, List, drop, refl, sym, subst, arith}
 use Rattle.std.specs.Prelude.{IsTrue, take}
 use Rattle.std.proofs.lemmas.List.{take_all}
-use Rattle.block_pointer.specs.declared.block.Block.{Block}
 use Rattle.block_store.proofs.Steps.{reads_none, reads_on, true_after, true_before}
 use Rattle.dataset_chains.proofs.Chained.{objects_on, one_set_on}
 use Rattle.dnode_tree.proofs.Refusing.{passed_on}

@@ -1,4 +1,4 @@
-use Rattle.std.proofs.Common.{[], Contains, inr, refl, sym, subst}
+use Rattle.std.proofs.Common.{◌≡◌, [], inr, refl, sym, subst}
 use Rattle.block_store.proofs.Steps.{reads_none}
 use Rattle.dataset_chains.specs.Chains.{SpellsChains}
 use Rattle.dataset_changes.specs.declared.changes.DatasetChanges.{DatasetChanges}
@@ -71,12 +71,13 @@ returns-clause-value g c = λ stored objects own blocks pool readings plain hold
     let named = subst (IsNamed row.name) c.as_slice.ensures c.in-Some.ensures.named in
     let order = c.remove_row.ensures.order in
     let others = c.remove_row.ensures.others in
-    let may_one = may law old new name row order.0 order.1 c.remove_row.ensures.rows others.1 c.in-Some-get.ensures.found named c.args.group stored objects pool readings plain spells may_go in
+    let numbers : (new.next ≡ old.next) × (new.bounds ≡ old.bounds) = (others.1, c.remove_row.ensures.bounds) in
+    let may_one = may law old new name row order.0 order.1 c.remove_row.ensures.rows numbers c.in-Some-get.ensures.found named c.args.group stored objects pool readings plain spells may_go in
     let done = c.in_ok-destroy.ensures.value stored objects own blocks pool readings holds are honest spells.chains may_one in
     let touched = c.in_ok-destroy.ensures.own_lists stored objects own blocks pool readings holds are honest spells.chains may_one in (
       done.0,
       done.1,
-      one_destroyed law old new name row order.0 order.1 c.remove_row.ensures.rows others.1 c.in-Some-get.ensures.found named c.args.group stored objects pool readings plain spells may_go done.2 done.0
+      one_destroyed law old new name row order.0 order.1 c.remove_row.ensures.rows numbers c.in-Some-get.ensures.found named c.args.group stored objects pool readings plain spells may_go done.2 done.0
           done.3 (subst (λ (changes : DatasetChanges). SpellsChains stored c.args.group objects changes done.2 readings) (sym others.0) done.4)
           (subst (λ (changes : DatasetChanges). TouchesOwnLists objects old.changes changes) (sym others.0) touched),
     )
@@ -94,5 +95,6 @@ returns-clause-which g c =
       named = named;
       rows = row_gone old.directory new.directory row.name c.args.name.now named c.remove_row.ensures.rows;
       next = others.1;
+      bounds = c.remove_row.ensures.bounds;
       touched = subst (λ (changes : DatasetChanges). IsDestroyTouched old.changes changes row.object) (sym others.0) c.in_ok-destroy.ensures.touched;
     })

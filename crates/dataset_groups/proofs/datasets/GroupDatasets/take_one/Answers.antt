@@ -42,11 +42,12 @@ returns-clause-value g c =
     let part = c.args.part.now in
     let lacks = c.get.ensures.none (is_none _ _ c.is_some.ensures c.if-is_some.false) in
     let has = row_of old.directory volume _ _ c.in-Some.is c.object_of.ensures.found in
-    let left : old.next + 2 ≤ numbers_end = omega arith in
+    let within : old.next + 2 ≤ numbers_end = omega arith in
+    let left : old.next + 2 ≤ old.bounds.end = omega arith in
     IfOk-weaker c.take.result (λ done. IsTaken c.args.store.now c.take.new.store c.args.group c.in-Some.head old c.in_ok-name.name c.take.new.self) _
     (λ done taken stored known objects own blocks pool readings plain held are honest spells.
     snapshot_made c.reach_has_each_block_once.ensures c.args.store.now c.take.new.store old c.take.new.self c.args.group c.in_ok-name.name volume part has.0 stored known objects own blocks pool
-    readings plain c.requires.behind left c.object_of.ensures.order c.in_ok-name.ensures.named (good_volume volume part c.in_ok-name.ensures.good) lacks has.1 has.2
+    readings plain c.requires.behind within left c.object_of.ensures.order c.in_ok-name.ensures.named (good_volume volume part c.in_ok-name.ensures.good) lacks has.1 has.2
     (subst (λ h. IsTaken c.args.store.now c.take.new.store c.args.group h old c.in_ok-name.name c.take.new.self) (sym has.3) taken) held are honest spells)
     c.take.ensures.taken
 
@@ -70,7 +71,7 @@ returns-clause-places g c =
     let making = is_making old.directory change c.in_ok-name.name c.in_ok-name.ensures.named lacks (is_row_there old.directory c.args.volume.now _ has) in
     IfOk-weaker c.take.result (λ done. IsTaken c.args.store.now c.take.new.store c.args.group c.in-Some.head old c.in_ok-name.name c.take.new.self) _
     (λ done taken.
-    makes_one c.args.store.now c.take.new.store old c.take.new.self c.args.group change c.in_ok-name.name c.in_ok-name.ensures.named making taken.row taken.next
+    makes_one c.args.store.now c.take.new.store old c.take.new.self c.args.group change c.in_ok-name.name c.in_ok-name.ensures.named making taken.row taken.next taken.bounds
     (spaces_stay c.args.store.now c.take.new.store [] c.take.ensures.reads))
     c.take.ensures.taken
 
@@ -83,6 +84,6 @@ returns-clause-refused g c =
     let making = is_making old.directory change c.in_ok-name.name c.in_ok-name.ensures.named lacks (is_row_there old.directory c.args.volume.now _ has) in
     IfErr-weaker c.take.result _ _
     (λ refusal why.
-    not_made c.args.store.now c.take.new.store old.changes c.args.group old.directory old.next change refusal making
+    not_made c.args.store.now c.take.new.store old.changes c.args.group old.directory old.next old.bounds.end change refusal making
     (record { head = c.in-Some.head; is = inr has; far = old.changes; one_set = (refl, refl); last = why.0; why = why.1 }))
     c.take.ensures.refused

@@ -27,6 +27,7 @@ writing-init g c = record {
   steps = steps_none c.args.store.now [];
   directory = refl;
   next = refl;
+  bounds = refl;
   one_set = (refl, refl);
   behind = ([], sym (append-nil c.args.freed.now.items));
   fits = subst (All FitsHead) (sym c.from_vec-left.ensures.items) c.requires.fits;
@@ -72,6 +73,7 @@ writing-preserved g c =
       steps = steps_on _ _ _ _ i.steps c.write.ensures.steps;
       directory = c.write.ensures.directory ∙ i.directory;
       next = c.write.ensures.next ∙ i.next;
+      bounds = c.write.ensures.bounds ∙ i.bounds;
       one_set = one_set_on c.args.self.now.changes c.writing.self.changes c.write.new.self.changes i.one_set c.write.ensures.one_set;
       behind =
           let more = c.in_ok-write.ensures.behind in (
@@ -111,7 +113,7 @@ writing-preserved g c =
               before.5 ++ step.3,
               freed_on c.args.freed.now.items before.5 step.3 c.writing.freed.items c.write.new.freed.items before.6 step.4,
               one_more stored planned mid bound c.args.group objects old so_far pool at readings reads plain writes heads done rest next before.5 spelled written is_next before.7
-                  step.0 new before.2 step.2 step.5 step.3 step.6 c.in_ok-write.ensures.touched c.write.ensures.next,
+                  step.0 new before.2 step.2 step.5 step.3 step.6 c.in_ok-write.ensures.touched (c.write.ensures.next, c.write.ensures.bounds),
             ),
       );
     }
@@ -124,6 +126,9 @@ returns-in_err-write-clause-directory g c = c.write.ensures.directory ∙ c.writ
 
 pub returns-in_err-write-clause-next : goal.returns-in_err-write-clause-next
 returns-in_err-write-clause-next g c = c.write.ensures.next ∙ c.writing.invariant.next
+
+pub returns-in_err-write-clause-bounds : goal.returns-in_err-write-clause-bounds
+returns-in_err-write-clause-bounds g c = c.write.ensures.bounds ∙ c.writing.invariant.bounds
 
 pub returns-in_err-write-clause-one_set : goal.returns-in_err-write-clause-one_set
 returns-in_err-write-clause-one_set g c =

@@ -25,6 +25,7 @@ invariant-writing g l = record {
   steps : OnlyReadsAndPlans l.fn.store l.store [];
   directory : l.self.directory ≡ l.fn.self.directory;
   next : l.self.next ≡ l.fn.self.next;
+  bounds : l.self.bounds ≡ l.fn.self.bounds;
   one_set : AreOfOneSet l.fn.self.changes l.self.changes;
   behind : (gone : List Block) × (l.freed.items ≡ l.fn.freed.items ++ gone);
   fits : All FitsHead l.left.items;
