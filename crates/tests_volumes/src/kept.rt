@@ -9,7 +9,8 @@ use crate::stores::{Store, new_store, store_of};
 use block_pointer::Block;
 use block_store::BlockStore;
 use dataset_snapshots::{
-    FirstRoot, NextRoot, Refusal, VolumeRange, after_group, directory_under, find_in, read_range_in,
+    FirstRoot, KeptDirectory, NextRoot, Refusal, VolumeRange, after_group, directory_under,
+    find_in, read_range_in,
 };
 use meta_objset::{Directory, DirectoryRow};
 use model_disk::{Disk, DiskError, MemDisk};
@@ -260,6 +261,7 @@ fn root_with_directory(
     }
     let root = first.root;
     let directory = directory_under(&root, store, alloc, 1, &[])?;
+    let directory = KeptDirectory::new(alloc, directory);
     Ok(FirstRoot { root, directory })
 }
 
