@@ -365,9 +365,9 @@ fn counted(alloc: Global, seed: u64) -> Result<(u64, u64), Fail> {
 const GROUPS: u64 = BETWEEN_OPENS * OPENS;
 
 /// After so many groups the store is opened again.
-const BETWEEN_OPENS: u64 = 25;
+const BETWEEN_OPENS: u64 = 125;
 
-const OPENS: u64 = 80;
+const OPENS: u64 = 16;
 
 /// In each row so many sectors are in use at least once: 85 of 100.
 const NEARLY_ALL: u64 = 7000;
