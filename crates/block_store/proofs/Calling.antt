@@ -1,5 +1,5 @@
 -- Device calls.
-use Rattle.std.proofs.Common.{ℕ, ◌≡◌, ◌⊎◌, inl, inr, ◌+◌, ◌<◌, ◌≤◌, false, List, ◌∷◌, length, Contains, Result, Ok, Err, OnOk, IfErr, is_ok, refl, sym, ap, subst, arith}
+use Rattle.std.proofs.Common.{ℕ, ◌≡◌, ◌⊎◌, inl, inr, ◌+◌, ◌<◌, ◌≤◌, false, List, ◌∷◌, length, Contains, Result, Ok, Err, OnOk, IfErr, refl, sym, ap, subst, arith}
 use Rattle.std.proofs.lemmas.Bool.{cases_eq}
 use Rattle.model_disk.specs.Call.{write_call, flush_call}
 use Rattle.model_disk.specs.Contents.{touches}
@@ -9,7 +9,7 @@ use Rattle.model_disk.proofs.LawLemmas.{written_bytes_stand, other_bytes_stay}
 use Rattle.raidz_io.specs.declared.writes.ColumnWrite.{ColumnWrite}
 use Rattle.raidz_io.specs.Elsewhere.{ChangesOnlyWritten}
 use Rattle.raidz_io.specs.Stands.{IsDone}
-use Rattle.block_store.specs.declared.device.FailedDisk.{FailedDisk}
+use Rattle.disk_set.specs.declared.device.FailedDisk.{FailedDisk}
 use Rattle.block_store.specs.Store.{Store, Spans, outs, outs_from, IsOutToo, GoesOut, Spares}
 use Rattle.raidz_io.proofs.Kept.{stands_while_kept}
 use Rattle.block_store.specs.Blocks.{Contents}
@@ -19,18 +19,11 @@ use Rattle.block_store.proofs.Lost.{LoseMore, lose_same, lose_one, same_group}
 use Rattle.block_store.proofs.Outs.{more_out, this_is_out}
 use Rattle.block_store.proofs.Writing.{Makes}
 
-pub same_write_call : {T E U F : Type 0} (result : Result T E) (other : Result U F) (at : ℕ) (bytes : List ℕ) → is_ok result ≡ is_ok other
-    → write_call result at bytes ≡ write_call other at bytes
-same_write_call (Ok x) (Ok y) at bytes same = refl
-same_write_call (Ok x) (Err e) at bytes same = absurd (cc)
-same_write_call (Err e) (Ok y) at bytes same = absurd (cc)
-same_write_call (Err e) (Err f) at bytes same = refl
-
-pub same_flush_call : {T E U F : Type 0} (result : Result T E) (other : Result U F) → is_ok result ≡ is_ok other → flush_call result ≡ flush_call other
-same_flush_call (Ok x) (Ok y) same = refl
-same_flush_call (Ok x) (Err e) same = absurd (cc)
-same_flush_call (Err e) (Ok y) same = absurd (cc)
-same_flush_call (Err e) (Err f) same = refl
+-- what is so of the disk that failed
+pub on_disk : (result : Result (Unit {0}) FailedDisk) (disk : ℕ) (P : ℕ → Type 0) → IfErr result (λ failed. failed.disk ≡ disk)
+    → IfErr result (λ failed. P failed.disk) → IfErr result (λ failed. P disk)
+on_disk (Ok x) disk P same holds = tt
+on_disk (Err e) disk P same holds = subst P same holds
 
 -- after a call on this disk those that were out are so, and this one too where the call failed
 pub outs_after : (old new : Store) (result : Result (Unit {0}) FailedDisk) (disk : ℕ) → OnOk result (new.out ≡ old.out)

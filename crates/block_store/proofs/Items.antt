@@ -42,7 +42,3 @@ never b is not = absurd (cc)
 
 pub below_count : (m n count at : ℕ) → m < n → count ≡ n → count ≤ at → m < at
 below_count m n count at less is reached = omega arith
-
--- the number of a disk that is there, where each has a flag
-pub has_flag : (disk flags starts : ℕ) → flags ≡ starts → disk < starts → disk < flags
-has_flag disk flags starts count there = omega arith

@@ -20,7 +20,6 @@ pub mod Outs
 pub mod Planning
 pub mod ReadingCopy
 pub mod ReadingLost
-pub mod ReadingOuts
 pub mod ReadingPlaces
 pub mod ReadingPointers
 pub mod ReadingSteps

@@ -1,8 +1,7 @@
 -- The disks that are lost for a birth.
-use Rattle.std.proofs.Common.{ℕ, zero, suc, ◌≡◌, ◌≢◌, inl, inr, ◌≤◌, Bool, true, false, cond, if◌then◌else◌, List, [], ◌∷◌, length, Contains, refl, sym, ap, subst, ◌∙◌, arith}
+use Rattle.std.proofs.Common.{ℕ, zero, suc, ◌≡◌, ◌≢◌, inl, inr, ◌≤◌, Bool, true, false, cond, if◌then◌else◌, List, [], ◌∷◌, Contains, refl, sym, ap, subst, ◌∙◌, arith}
 use Rattle.std.specs.Prelude.{nat_le, nat_lt, min, map, filter, slice_index, slice_set}
 use Rattle.std.proofs.lemmas.Bool.Decides.{nat_tests}
-use Rattle.std.proofs.lemmas.List.{length-map}
 use Rattle.raidz_io.proofs.Calls.{Contains-front, Contains-later, Contains-cases}
 use Rattle.block_store.specs.Store.{Store, Spans, is_out, IsOutToo, GoesOut, in_group, outs, outs_from, lost}
 use Rattle.block_store.proofs.Outs.{in_is_out, more_out}
@@ -67,32 +66,9 @@ lowered [] group disk = omega arith
 lowered (x ∷ xs) group zero = omega arith
 lowered (x ∷ xs) group (suc disk) = lowered xs group disk
 
-lowered_to : (since : List ℕ) (group disk : ℕ) → slice_index (map (min group) since) disk ≤ group
-lowered_to [] group disk = omega arith
-lowered_to (x ∷ xs) group zero = omega arith
-lowered_to (x ∷ xs) group (suc disk) = lowered_to xs group disk
-
 no_later : (test : Bool) (since : List ℕ) (group disk : ℕ) → slice_index (if test then map (min group) since else since) disk ≤ slice_index since disk
 no_later true since group disk = lowered since group disk
 no_later false since group disk = omega arith
-
-not_below : (a b : ℕ) → nat_lt a b ≡ false → b ≤ a
-not_below a b is = grind (arith, nat_tests)
-
-pub reached_in : (spans : Spans) (group : ℕ) → ((disk : ℕ) → slice_index spans.since disk ≤ spans.group)
-    → (disk : ℕ) → slice_index (in_group spans group).since disk ≤ group
-reached_in spans group reached disk = cases (nat_lt group spans.group) refl
-  where
-    cases : (test : Bool) → nat_lt group spans.group ≡ test → slice_index (if test then map (min group) spans.since else spans.since) disk ≤ group
-    cases true is = lowered_to spans.since group disk
-    cases false is = omega (arith, reached disk, not_below group spans.group is)
-
-pub length_in : (spans : Spans) (group : ℕ) → length (in_group spans group).since ≡ length spans.since
-length_in spans group = cases (nat_lt group spans.group)
-  where
-    cases : (test : Bool) → length (if test then map (min group) spans.since else spans.since) ≡ length spans.since
-    cases true = simp length-map
-    cases false = refl
 
 pub lose_in : (old new : Store) (group : ℕ) → new.out ≡ old.out → new.spans ≡ in_group old.spans group → LoseMore old new
 lose_in old new group out spans birth disk held =
@@ -109,13 +85,6 @@ set_other (x ∷ xs) zero zero v differ = absurd (differ refl)
 set_other (x ∷ xs) zero (suc k) v differ = refl
 set_other (x ∷ xs) (suc i) zero v differ = refl
 set_other (x ∷ xs) (suc i) (suc k) v differ = set_other xs i k v (λ same. differ (ap suc same))
-
-pub set_reached : (xs : List ℕ) (i k v bound : ℕ) → ((n : ℕ) → slice_index xs n ≤ bound) → v ≤ bound → slice_index (slice_set xs i v) k ≤ bound
-set_reached [] i k v bound all le = all k
-set_reached (x ∷ xs) zero zero v bound all le = le
-set_reached (x ∷ xs) zero (suc k) v bound all le = all (suc k)
-set_reached (x ∷ xs) (suc i) zero v bound all le = all zero
-set_reached (x ∷ xs) (suc i) (suc k) v bound all le = set_reached xs i k v bound (λ n. all (suc n)) le
 
 pub lose_one : (old new : Store) (disk : ℕ) → IsOutToo old.out disk new.out → GoesOut old disk new → LoseMore old new
 lose_one old new disk too gone birth other held = cases (is_out old.out disk) refl gone

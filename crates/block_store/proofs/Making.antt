@@ -5,7 +5,6 @@ use Rattle.std.proofs.lemmas.List.{drop_all, append-nil}
 use Rattle.std.proofs.lemmas.List.Elements.{All-push}
 use Rattle.std.specs.List.{slice_get, Contains}
 use Rattle.std.proofs.lemmas.Option.{slice_get_within, get_or_from_slice_get}
-use Rattle.std.specs.Prelude.{replicate, slice_index}
 use Rattle.model_disk.specs.Joint.{bytes_of}
 use Rattle.raidz_map.specs.declared.geometry.Geometry.{Geometry}
 use Rattle.raidz_io.specs.declared.writes.ColumnWrite.{ColumnWrite}
@@ -199,9 +198,8 @@ has_room starts first config shape count is =
 
 -- what is made is a store
 pub is_store : (store : Store) (configs : List VdevConfig) → AreShapes store.disks.starts 0 configs (shapes_of store.spaces) → length configs ≤ 8
-    → length store.disks.starts ≤ 2 ^ 64 → length store.out ≡ length store.disks.starts → length store.spans.since ≡ length store.disks.starts
-    → ((disk : ℕ) → slice_index store.spans.since disk ≤ store.spans.group) → store.due ≡ [] → IsStore store
-is_store store configs are few count out spans reached due =
+    → length store.disks.starts ≤ 2 ^ 64 → IsStore store
+is_store store configs are few count =
     let starts : List (List ℕ) = store.disks.starts in
     record {
       laid_out = record {
@@ -211,10 +209,6 @@ is_store store configs are few count out spans reached due =
         apart = λ v other space behind less found found'. are_apart starts 0 configs store.spaces v other space behind are less found found';
         few = omega (arith, same_count starts 0 configs store.spaces are, few);
       };
-      disks = out;
-      spans = spans;
-      reached = reached;
-      due = λ write among. let P : List ColumnWrite → Type 0 = λ xs. Contains xs write in absurd (omega (arith, (subst P due among).1));
     }
 
 -- nothing is placed anywhere
@@ -262,9 +256,3 @@ plans_nothing store due empty = record {
 -- an empty vdev more
 pub empty_more : (spaces : List VdevSpace) (space : VdevSpace) → AreEmpty spaces → IsEmpty space → AreEmpty (spaces ++ space ∷ [])
 empty_more spaces space before empty = All-push IsEmpty spaces space before empty
-
--- no disk is out since a group above 0
-pub none_since : (n disk : ℕ) → slice_index (replicate n 0) disk ≤ 0
-none_since zero disk = omega arith
-none_since (suc n) zero = omega arith
-none_since (suc n) (suc disk) = none_since n disk

@@ -1,9 +1,7 @@
 -- How a store is opened over disks that were used before.
-use Rattle.std.proofs.Common.{ℕ, zero, suc, ◌≡◌, ◌+◌, ◌<◌, ◌≤◌, ◌^◌, Some, List, [], ◌∷◌, ◌++◌, length, take, get_or, Contains, refl, sym, ap, subst, ◌∙◌, arith}
+use Rattle.std.proofs.Common.{ℕ, zero, suc, ◌≡◌, ◌+◌, ◌<◌, ◌≤◌, ◌^◌, Some, List, [], ◌∷◌, ◌++◌, length, take, get_or, refl, sym, ap, subst, ◌∙◌, arith}
 use Rattle.std.proofs.lemmas.List.{append-nil, length-map, take_more}
 use Rattle.std.specs.List.{slice_get}
-use Rattle.std.specs.Prelude.{slice_index}
-use Rattle.raidz_io.specs.declared.writes.ColumnWrite.{ColumnWrite}
 use Rattle.raidz_io.specs.Places.{HasRoom}
 use Rattle.raidz_io.proofs.Written.{same_some}
 use Rattle.block_store.specs.declared.shape.VdevShape.{VdevShape}
@@ -59,9 +57,8 @@ room_of starts shape count fits = record {
 
 -- what is opened is a store
 pub is_opened : (store : Store) (shapes : List VdevShape) → shapes_of store.spaces ≡ shapes → LieOn store.disks.starts 0 shapes → length shapes ≤ 8
-    → length store.disks.starts ≤ 2 ^ 64 → length store.out ≡ length store.disks.starts → length store.spans.since ≡ length store.disks.starts
-    → ((disk : ℕ) → slice_index store.spans.since disk ≤ store.spans.group) → store.due ≡ [] → IsStore store
-is_opened store shapes are lie few count out spans reached due =
+    → length store.disks.starts ≤ 2 ^ 64 → IsStore store
+is_opened store shapes are lie few count =
     let lies : LieOn store.disks.starts 0 (shapes_of store.spaces) = subst (LieOn store.disks.starts 0) (sym are) lie in
     let same_count : length (shapes_of store.spaces) ≡ length store.spaces = length-map store.spaces (λ (space : VdevSpace). space.shape) in
     record {
@@ -70,8 +67,4 @@ is_opened store shapes are lie few count out spans reached due =
         apart = λ v other space behind less found found'. lie_apart store.disks.starts 0 store.spaces v other space behind lies less found found';
         few = omega (arith, same_count, ap length are, few);
       };
-      disks = out;
-      spans = spans;
-      reached = reached;
-      due = λ write among. let P : List ColumnWrite → Type 0 = λ xs. Contains xs write in absurd (omega (arith, (subst P due among).1));
     }

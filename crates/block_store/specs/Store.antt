@@ -1,20 +1,16 @@
 -- A store of blocks, and what it holds.
-use Rattle.std.specs.Prelude.{ℕ, suc, ◌≡◌, ◌≤◌, ◌⊎◌, ◌||◌, ◌==◌, nat_le, nat_lt, min, Some, Bool, false, if◌then◌else◌, List, [], ◌∷◌, length, map, filter, slice_get, slice_index, slice_index_or, slice_set, Contains}
+use Rattle.std.specs.Prelude.{ℕ, ◌≡◌, ◌⊎◌, nat_le, nat_lt, Some, Bool, if◌then◌else◌, List, map, filter, slice_get, slice_index, Contains}
 use Rattle.model_disk.specs.Joint.{Disks, content}
 use Rattle.block_pointer.specs.declared.block.Block.{Block}
 use Rattle.block_pointer.specs.declared.dva.Dva.{Dva}
 use Rattle.block_pointer.specs.Copies.{dvas}
 use Rattle.raidz_io.specs.declared.vdev.Extent.{Extent}
 use Rattle.raidz_io.specs.declared.writes.ColumnWrite.{ColumnWrite}
-use Rattle.raidz_io.specs.Stands.{ExtentStands, IsColumnWrite, IsWithin}
+use Rattle.raidz_io.specs.Stands.{ExtentStands, IsColumnWrite}
+pub use Rattle.disk_set.specs.Outs.{Spans, is_out, IsOutToo, outs_from, in_group, spans_without}
 use Rattle.block_store.specs.Spaces.{VdevSpace}
 use Rattle.block_store.specs.Blocks.{Contents, IsWrittenAs}
 use Rattle.block_store.specs.Places.{Marks, filled, IsLaidOut, IsTaken, IsCopy, ArePlacesIn, ArePlacesApart}
-
--- Which blocks the disks that are out may lack. A plan is of a transaction group, and no block of it was born before that group.
-pub record Spans : Type 0 where
-  pub since : List ℕ  -- of each disk that is out, the first group whose blocks it may lack
-  pub group : ℕ  -- the group of the plan
 
 -- what a `BlockStore` shows
 pub record Store : Type 0 where
@@ -25,30 +21,12 @@ pub record Store : Type 0 where
   pub due : List ColumnWrite  -- the writes of the plan that are to be made, in order
   pub stray : Bool  -- whether a block may have taken places and then not have been planned
 
--- whether that disk is out
-abbrev pub is_out : List Bool → ℕ → Bool
-is_out out disk = slice_index_or out disk false
-
--- that disk is out too
-pub record IsOutToo (old : List Bool) (disk : ℕ) (new : List Bool) : Type 0 where
-  pub count : length new ≡ length old
-  pub disks : (other : ℕ) → is_out new other ≡ (is_out old other || (other == disk))
-
--- the numbers of those that are out, of disks from this number on
-abbrev pub outs_from : ℕ → List Bool → List ℕ
-outs_from first [] = []
-outs_from first (out ∷ rest) = if out then first ∷ outs_from (suc first) rest else outs_from (suc first) rest
-
 abbrev pub outs : Store → List ℕ
 outs store = outs_from 0 store.out
 
 -- the disks that are lost for a block that was born in that group: they are out since then, or since an earlier group
 abbrev pub lost : Store → ℕ → List ℕ
 lost store birth = filter (λ disk. nat_le (slice_index store.spans.since disk) birth) (outs store)
-
--- a plan of that group: where it is an earlier one than before, the disks that are out may lack its blocks too
-abbrev pub in_group : Spans → ℕ → Spans
-in_group spans group = record { group = group; since = if nat_lt group spans.group then map (min group) spans.since else spans.since }
 
 -- a block of the plan was born then: in the plan's group, or else the plan's group is an earlier one
 abbrev pub reaching : Spans → ℕ → Spans
@@ -57,7 +35,7 @@ reaching spans birth = if nat_lt birth spans.group then in_group spans birth els
 -- that disk may lack blocks from the plan's group on, if it was not out before; of the others nothing changes
 abbrev pub GoesOut : Store → ℕ → Store → Type 0
 GoesOut old disk new =
-    new.spans ≡ (if is_out old.out disk then old.spans else record { group = old.spans.group; since = slice_set old.spans.since disk old.spans.group })
+    new.spans ≡ spans_without old.out old.spans disk
 
 -- Each block that is known is what its pointer tells. Its copies lie apart, in places of their region that are in use.
 pub record ArePlaced (spaces : List VdevSpace) (marks : Marks) (contents : Contents) : Type 0 where
@@ -103,10 +81,6 @@ SparesBut write known old new =
     → ((k : ℕ) → IsColumnWrite extent k write → Contains absent write.disk)
     → ExtentStands (content old.disks) absent extent bytes → ExtentStands (content new.disks) absent extent bytes
 
--- the vdevs are on the disks, and what is due is on them too
+-- the vdevs are on the disks
 pub record IsStore (store : Store) : Type 0 where
   pub laid_out : IsLaidOut store.disks.starts store.spaces
-  pub disks : length store.out ≡ length store.disks.starts
-  pub spans : length store.spans.since ≡ length store.disks.starts
-  pub reached : (disk : ℕ) → slice_index store.spans.since disk ≤ store.spans.group
-  pub due : (write : ColumnWrite) → Contains store.due write → IsWithin store.disks.starts write

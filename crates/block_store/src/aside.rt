@@ -6,8 +6,9 @@ ghost use Rattle.block_store.specs.Elsewhere.{IsAside};
 ghost use Rattle.block_store.specs.Plans.{KeepsPlans};
 ghost use Rattle.block_store.specs.Store.{Keeps, KeepsStored, IsOutToo, GoesOut};
 
-use crate::device::{FailedDisk, blocks_beside_others};
+use crate::device::blocks_beside_others;
 use crate::store::BlockStore;
+use disk_set::FailedDisk;
 use model_disk::Disk;
 
 impl<D: Disk + Drop> BlockStore<D> {
@@ -35,7 +36,6 @@ impl<D: Disk + Drop> BlockStore<D> {
         ensures plans { KeepsPlans self.old self.new }
     {
         blocks_beside_others();
-        let answer = self.disks.write_at(disk, offset, bytes);
-        self.note(disk, answer.is_ok())
+        self.set.write_at(disk, offset, bytes)
     }
 }

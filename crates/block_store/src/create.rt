@@ -11,11 +11,11 @@ use crate::refusal::Refusal;
 use crate::shape::VdevShape;
 use crate::space::VdevMetaslabs;
 use crate::store::BlockStore;
+use disk_set::DiskSet;
 use model_disk::{Disk, DiskArray};
 use raidz_io::{DATA_START, Vdev};
 use raidz_map::{Geometry, SECTOR_BYTES};
 use std::alloc::{AllocError, Global};
-use std::collections::VecDeque;
 
 /// The most vdevs that a store may have.
 pub(crate) const MAX_VDEVS: usize = 8;
@@ -175,14 +175,10 @@ impl<D: Disk + Drop> BlockStore<D> {
         let disks = DiskArray::new(disks);
         let spaces = spaces_of(alloc, &disks, vdevs)?;
         let out = vec![in alloc; false; disks.len()]?;
-        let since = vec![in alloc; 0; disks.len()]?;
+        let set = DiskSet::new(alloc, disks, out)?;
         Ok(BlockStore {
-            disks,
+            set,
             spaces,
-            out,
-            since,
-            group: 0,
-            due: VecDeque::new(alloc),
             stray: false,
             cursors: Cursors::new(),
         })
@@ -194,6 +190,6 @@ impl<D: Disk + Drop> BlockStore<D> {
         ensures calls { (which : ℕ)
             → log_of (map D.calls result.items) which ≡ calls_on which self.disks.calls }
     {
-        self.disks.into_disks()
+        self.set.into_array().into_disks()
     }
 }

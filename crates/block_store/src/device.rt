@@ -1,5 +1,5 @@
 //! The device calls of a plan.
-ghost use Rattle.std.specs.Prelude.{◌≡◌, ◌<◌, ◌∷◌, ℕ, length, is_ok, OnOk, IfErr};
+ghost use Rattle.std.specs.Prelude.{◌≡◌, ◌<◌, ◌∷◌, length, OnOk, IfErr};
 ghost use Rattle.model_disk.specs.Call.{write_call, flush_call};
 ghost use Rattle.model_disk.specs.Joint.{on};
 ghost use Rattle.raidz_io.specs.declared.writes.ColumnWrite.{ColumnWrite};
@@ -9,18 +9,12 @@ ghost use Rattle.block_store.specs.Plans.{KeepsPlans, SparesAllBut};
 ghost use Rattle.block_store.specs.Store.{Keeps, KeepsStored, IsOutToo, GoesOut, Spares};
 
 use crate::store::BlockStore;
+use disk_set::FailedDisk;
 use model_disk::Disk;
 use raidz_io::{
     apart_extents_share_no_byte, done_while_others_are_written, other_vdevs_share_no_byte,
     stands_while_kept, stands_while_others_are_written, stands_with_more_absent, writes_are_apart,
 };
-
-/// A write or a flush of this disk failed, and it is out.
-#[derive(Debug, Clone, Copy, PartialEq, Eq, Drop, thiserror::Error)]
-#[error("disk {disk} failed a write or a flush")]
-pub struct FailedDisk {
-    pub disk: usize,
-}
 
 /// What holds of blocks that are written beside others.
 pub(crate) fn blocks_beside_others()
@@ -58,11 +52,7 @@ impl<D: Disk + Drop> BlockStore<D> {
         ensures spares { SparesAllBut self.old self.new }
     {
         blocks_beside_others();
-        let Some(write) = self.due.pop_front() else {
-            return Ok(());
-        };
-        let answer = self.disks.write_at(write.disk, write.offset, write.bytes());
-        self.note(write.disk, answer.is_ok())
+        self.set.write_next()
     }
 
     /// Flushes a disk. Where this fails, it is out from then on.
@@ -87,32 +77,6 @@ impl<D: Disk + Drop> BlockStore<D> {
         ensures plans { KeepsPlans self.old self.new }
     {
         blocks_beside_others();
-        let answer = self.disks.flush(disk);
-        self.note(disk, answer.is_ok())
-    }
-
-    /// Notes that a disk is out, where a call on it failed.
-    pub(crate) fn note(&mut self, disk: usize, answered: bool) -> Result<(), FailedDisk>
-        requires out { disk < length self.old.out }
-        requires since { disk < length self.old.spans.since }
-        ensures disks { self.new.disks ≡ self.old.disks }
-        ensures spaces { self.new.spaces ≡ self.old.spaces }
-        ensures due { self.new.due ≡ self.old.due }
-        ensures ok { is_ok result ≡ answered }
-        ensures out { OnOk result (self.new.out ≡ self.old.out) }
-        ensures failed { IfErr result (λ failed. failed.disk ≡ disk) }
-        ensures out_too { IfErr result (λ failed. IsOutToo self.old.out disk self.new.out) }
-        ensures spans { OnOk result (self.new.spans ≡ self.old.spans) }
-        ensures stray { self.new.stray ≡ self.old.stray }
-        ensures gone { IfErr result (λ failed. GoesOut self.old disk self.new) }
-    {
-        if answered {
-            return Ok(());
-        }
-        if !self.out[disk] {
-            self.since[disk] = self.group;
-        }
-        self.out[disk] = true;
-        Err(FailedDisk { disk })
+        self.set.flush(disk)
     }
 }

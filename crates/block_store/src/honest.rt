@@ -10,6 +10,6 @@ impl<D: HonestDisk + Drop> BlockStore<D> {
     pub fn answers_are_true(&self)
         ensures { (n : ℕ) → AreHonestSince n self.now.disks.starts self.now.disks.calls }
     {
-        self.disks.are_honest();
+        self.set.are_honest();
     }
 }

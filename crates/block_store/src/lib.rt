@@ -22,7 +22,6 @@ mod store;
 
 pub use block::{Asked, CopyCount, NewBlock};
 pub use create::{MAX_METASLAB_SHIFT, MIN_METASLAB_SHIFT, VdevConfig, sectors_for_blocks};
-pub use device::FailedDisk;
 pub use laws::{
     blocks_lie_in_sectors, fewer_are_held, fewer_are_planned, found_are_held,
     found_in_use_are_stored, losses_are_not_tolerable, places_spare, reads_spare,

@@ -1,5 +1,5 @@
 //! Blocks that are on the disks already, as a pool is opened.
-ghost use Rattle.std.specs.Prelude.{◌≡◌, ◌⊎◌, ◌↔◌, ◌+◌, ◌<◌, ◌≤◌, ℕ, Bool, false, List, [], length, replicate, OnOk, OnErr, IfOk, IfErr, IsTrue, Contains};
+ghost use Rattle.std.specs.Prelude.{◌≡◌, ◌⊎◌, ◌↔◌, ◌+◌, ◌<◌, ◌≤◌, ℕ, Bool, false, [], length, replicate, OnOk, OnErr, IfOk, IfErr, IsTrue, Contains};
 ghost use Rattle.std.specs.Bool.{OnTrue, OnFalse};
 ghost use Rattle.block_pointer.specs.declared.block.Block.{Block};
 ghost use Rattle.block_pointer.specs.Copies.{dvas};
@@ -23,9 +23,9 @@ use crate::shape::VdevShape;
 use crate::space::VdevMetaslabs;
 use crate::store::BlockStore;
 use block_pointer::{Block, Dva};
+use disk_set::DiskSet;
 use model_disk::{Disk, DiskArray};
 use std::alloc::{AllocError, Global};
-use std::collections::VecDeque;
 
 /// Whether the disk is of an allowed size, and has so many sectors for blocks.
 fn has_sectors<D: Disk + Drop>(disks: &DiskArray<D>, disk: usize, sectors: u64) -> bool
@@ -142,14 +142,10 @@ impl<D: Disk + Drop> BlockStore<D> {
         }
         let spaces = empty_spaces(alloc, shapes)?;
         let out = Vec::from_slice(alloc, out)?;
-        let since = vec![in alloc; 0; disks.len()]?;
+        let set = DiskSet::new(alloc, disks, out)?;
         Ok(BlockStore {
-            disks,
+            set,
             spaces,
-            out,
-            since,
-            group: 0,
-            due: VecDeque::new(alloc),
             stray: false,
             cursors: Cursors::new(),
         })
@@ -159,7 +155,7 @@ impl<D: Disk + Drop> BlockStore<D> {
     pub fn into_array(self) -> DiskArray<D>
         ensures { result ≡ self.disks }
     {
-        self.disks
+        self.set.into_array()
     }
 }
 

@@ -1,5 +1,5 @@
 //! Plans of blocks that are to be written.
-ghost use Rattle.std.specs.Prelude.{◌≡◌, false, true, ◌≤◌, ◌<◌, ◌+◌, ◌*◌, ◌^◌, ◌⊎◌, filter, map, min, nat_lt, if◌then◌else◌, not, length, [], ◌++◌, OnOk, OnErr, IfOk, IfErr};
+ghost use Rattle.std.specs.Prelude.{◌≡◌, false, true, ◌≤◌, ◌<◌, ◌+◌, ◌*◌, ◌⊎◌, filter, not, length, [], ◌++◌, OnOk, OnErr, IfOk, IfErr};
 ghost use Rattle.block_pointer.specs.Block.{FitsBlock};
 ghost use Rattle.block_pointer.specs.Copies.{dvas};
 ghost use Rattle.raidz_io.specs.Places.{CanHold, IsOnDisks};
@@ -72,25 +72,6 @@ fn drop_plans(spaces: &mut Vec<VdevMetaslabs>)
     }
 }
 
-/// Each disk that is out may lack blocks from that group on, where it is earlier than the plan's.
-fn lower(since: &mut Vec<u64>, before: u64, group: u64)
-    ensures { since.new.items
-        ≡ (if nat_lt group before then map (min group) since.old.items else since.old.items) }
-{
-    if group < before {
-        lower_all(since, group);
-    }
-}
-
-/// Each is at most that group.
-fn lower_all(since: &mut Vec<u64>, group: u64)
-    ensures { since.new.items ≡ map (min group) since.old.items }
-{
-    for disk in 0..since.len() {
-        since[disk] = group.min(since[disk]);
-    }
-}
-
 impl<D: Disk + Drop> BlockStore<D> {
     /// Begins a plan of a transaction group, and drops the one before it. Nothing is due. It takes no memory. A disk that fails from then on
     /// may lack blocks that were born in that group or later.
@@ -129,7 +110,7 @@ impl<D: Disk + Drop> BlockStore<D> {
             → Stores self.old stored → Plans self.new stored stored }
         ensures keeps { Keeps self.old self.new }
     {
-        self.due.clear();
+        self.set.drop_due();
         self.stray = false;
         drop_plans(&mut self.spaces);
     }
@@ -144,8 +125,7 @@ impl<D: Disk + Drop> BlockStore<D> {
         ensures spans { self.new.spans ≡ in_group self.old.spans group }
         ensures keeps { Keeps self.old self.new }
     {
-        lower(&mut self.since, self.group, group);
-        self.group = group;
+        self.set.enter(group);
     }
 
     /// A block of the plan is born then.
@@ -160,7 +140,7 @@ impl<D: Disk + Drop> BlockStore<D> {
         ensures keeps { Keeps self.old self.new }
         ensures plans { KeepsPlans self.old self.new }
     {
-        if birth < self.group {
+        if birth < self.set.group() {
             self.enter(birth);
         }
     }
@@ -179,6 +159,7 @@ impl<D: Disk + Drop> BlockStore<D> {
             → self.old.due ≡ [] → Stores self.new planned }
         ensures keeps { Keeps self.old self.new }
     {
+        self.set.is_sound();
         keep_plans(&mut self.spaces);
     }
 
@@ -275,7 +256,7 @@ impl<D: Disk + Drop> BlockStore<D> {
         ensures err_due { OnErr result (self.new.due ≡ self.old.due) }
     {
         let places = self.choose_places(new.property.sectors, copies.count())?;
-        let mut writes = self.writes_at(alloc, places.as_slice(), new.property.sectors, bytes)?;
+        let writes = self.writes_at(alloc, places.as_slice(), new.property.sectors, bytes)?;
         let block = Block {
             copies: copies_at(places.as_slice()),
             property: new.property,
@@ -283,7 +264,7 @@ impl<D: Disk + Drop> BlockStore<D> {
             fill: new.fill,
             checksum: Sha256::digest(bytes),
         };
-        self.due.append(&mut writes)?;
+        self.set.add_due(writes)?;
         Ok(block)
     }
 

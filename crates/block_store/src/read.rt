@@ -1,7 +1,6 @@
 //! Reads of blocks.
 ghost use Rattle.std.specs.Prelude.{◌≡◌, ◌⊎◌, ◌++◌, ◌*◌, ◌↔◌, ◌<◌, ℕ, List, Some, IsTrue, IfOk, IfErr, OnOk, length};
 ghost use Rattle.sha2.specs.Sha256.{sha256};
-ghost use Rattle.model_disk.specs.Joint.{Disks};
 ghost use Rattle.block_pointer.specs.Copies.{dvas};
 ghost use Rattle.raidz_io.specs.Reads.{OnlyReads, AreUntouched, IsHonestSince};
 ghost use Rattle.block_store.specs.Blocks.{Contents};
@@ -18,7 +17,7 @@ use block_pointer::{Block, Copies, Dva};
 use model_disk::Disk;
 use model_disk::laws::parts_are_honest;
 use raidz_io::{reads_keep_contents, stands_while_kept, stands_with_more_absent};
-use std::alloc::{AllocError, Global};
+use std::alloc::Global;
 
 impl<D: Disk + Drop> BlockStore<D> {
     /// The bytes of a block, with the disks that are named taken as missing. The copies are tried in order, each with
@@ -70,7 +69,7 @@ impl<D: Disk + Drop> BlockStore<D> {
         if !self.is_readable(block, asked) {
             return Err(Refusal::BadPointer);
         }
-        let absent = self.absent(alloc, missing)?;
+        let absent = self.set.absent(alloc, missing)?;
         let places = places_of(block.copies);
         self.read_places(alloc, places.as_slice(), block, absent.as_slice())
     }
@@ -149,20 +148,6 @@ impl<D: Disk + Drop> BlockStore<D> {
         }
     }
 
-    /// The disks that are out, and those that are named.
-    fn absent(&self, alloc: Global, missing: &[usize]) -> Result<Vec<usize>, AllocError>
-        ensures { IfOk result (λ absent. absent.items ≡ outs self.now ++ missing.now) }
-    {
-        let mut absent = Vec::new(alloc);
-        for (disk, is_out) in self.out.iter().enumerate() {
-            if *is_out {
-                absent.push(disk)?;
-            }
-        }
-        absent.extend_from_slice(missing)?;
-        Ok(absent)
-    }
-
     /// Reads the copies in order, until one is read.
     fn read_places(
         &mut self,
@@ -205,7 +190,10 @@ impl<D: Disk + Drop> BlockStore<D> {
             self.old.disks self.new.disks result }
     {
         let extent = self.extent_at(places[i], block.property.sectors);
-        match extent.read_checked(&mut self.disks, alloc, absent, &block.checksum) {
+        match self
+            .set
+            .read_checked(alloc, extent, absent, &block.checksum)
+        {
             Ok(bytes) => Ok(bytes),
             Err(raidz_io::Refusal::NoMemory) => Err(Refusal::NoMemory),
             Err(raidz_io::Refusal::DiskFault) => Err(Refusal::DiskFault),

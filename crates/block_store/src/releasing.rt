@@ -71,7 +71,7 @@ impl<D: Disk + Drop> BlockStore<D> {
         ensures keeps { Keeps self.old self.new }
     {
         self.enter(group);
-        self.due.clear();
+        self.set.drop_due();
         self.stray = false;
         settle_each(&mut self.spaces, group)
     }

@@ -7,9 +7,8 @@ ghost use Rattle.block_store.specs.Store.{is_out};
 use crate::cursor::Cursors;
 use crate::shape::VdevShape;
 use crate::space::VdevMetaslabs;
-use model_disk::{Disk, DiskArray};
-use raidz_io::ColumnWrite;
-use std::collections::VecDeque;
+use disk_set::DiskSet;
+use model_disk::Disk;
 use std::marker::Model;
 
 /// Blocks on the vdevs of a pool, and a plan of those that are to be written.
@@ -23,14 +22,9 @@ use std::marker::Model;
 /// failed: the write that failed is of a block of the plan.
 #[derive(Drop)]
 pub struct BlockStore<D: Disk + Drop> {
-    pub(crate) disks: DiskArray<D>,
+    /// The disks, which of them are out, and the writes of the plan that are due.
+    pub(crate) set: DiskSet<D>,
     pub(crate) spaces: Vec<VdevMetaslabs>,
-    pub(crate) out: Vec<bool>,
-    /// Of each disk that is out, the first transaction group whose blocks it may lack.
-    pub(crate) since: Vec<u64>,
-    /// No block of the plan was born before that group.
-    pub(crate) group: u64,
-    pub(crate) due: VecDeque<ColumnWrite>,
     /// Whether a block may have taken places and then not have been planned: these are in use until the plan is dropped.
     pub(crate) stray: bool,
     pub(crate) cursors: Cursors,
@@ -42,20 +36,20 @@ impl<D: Disk + Drop> Model for BlockStore<D> {
     ghost Value = { Store };
 
     ghost view = { λ s. record {
-      disks = s.disks;
+      disks = s.set.disks;
       spaces = s.spaces.items;
-      out = s.out.items;
-      spans = record { since = s.since.items; group = s.group };
-      due = s.due.items;
+      out = s.set.out;
+      spans = s.set.spans;
+      due = s.set.due;
       stray = s.stray;
     } };
 
     ghost invariant = { λ s. IsStore (record {
-      disks = s.disks;
+      disks = s.set.disks;
       spaces = s.spaces.items;
-      out = s.out.items;
-      spans = record { since = s.since.items; group = s.group };
-      due = s.due.items;
+      out = s.set.out;
+      spans = s.set.spans;
+      due = s.set.due;
       stray = s.stray;
     }) };
 }
@@ -66,7 +60,7 @@ impl<D: Disk + Drop> BlockStore<D> {
         ensures starts { result ≡ length self.now.disks.starts }
         ensures out { result ≡ length self.now.out }
     {
-        self.disks.len()
+        self.set.len()
     }
 
     /// How many bytes a disk has.
@@ -74,14 +68,14 @@ impl<D: Disk + Drop> BlockStore<D> {
         requires { disk < length self.now.disks.starts }
         ensures { result ≡ length (bytes_of self.now.disks.starts disk) }
     {
-        self.disks.size(disk)
+        self.set.size(disk)
     }
 
     /// Whether a disk is out: it failed a write or a flush.
     pub fn is_out(&self, disk: usize) -> bool
         ensures { result ≡ is_out self.now.out disk }
     {
-        self.out.get(disk).copied().unwrap_or(false)
+        self.set.is_out(disk)
     }
 
     /// Of a disk that is out, the first transaction group whose blocks it may lack. What was stored before that group is
@@ -91,10 +85,7 @@ impl<D: Disk + Drop> BlockStore<D> {
             ≡ (if is_out self.now.out disk then Some
             (slice_index self.now.spans.since disk) else None) }
     {
-        if !self.is_out(disk) {
-            return None;
-        }
-        Some(self.since.get(disk).copied().unwrap_or(0))
+        self.set.out_since(disk)
     }
 
     /// How many vdevs there are.
@@ -136,6 +127,6 @@ impl<D: Disk + Drop> BlockStore<D> {
     pub fn due_count(&self) -> usize
         ensures { result ≡ length self.now.due }
     {
-        self.due.len()
+        self.set.due_count()
     }
 }

@@ -13,7 +13,7 @@ use Rattle.block_store.specs.declared.shape.VdevShape.{VdevShape}
 use Rattle.block_store.specs.Spaces.{VdevSpace}
 use Rattle.block_store.specs.Places.{shapes_of}
 use Rattle.pool_model.specs.View.{Vdev, counted, disks_of, lost_in, is_tolerable}
-use Rattle.pool_commit.specs.declared.kept.SlotWrite.{SlotWrite}
+use Rattle.disk_set.specs.declared.behind.SlotWrite.{SlotWrite}
 use Rattle.pool_commit.specs.Config.{shown, vdevs_of}
 use Rattle.pool_commit.specs.HasDisks.{AreBelow, AreSlotsBelow}
 use Rattle.pool_commit.specs.Slots.{slots_of_disk, all_slots}

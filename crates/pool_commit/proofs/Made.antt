@@ -18,7 +18,7 @@ use Rattle.pool_model.specs.Flow.{counted_on}
 use Rattle.pool_model.specs.Machine.{due_write}
 use Rattle.pool_commit.specs.Calls.{disk_call, plan_call, fault_call, unread_call, told_since, made_between, faults_between, unread_between, GrewTo, IsWrite, IsFlushed, which_call, called_between}
 use Rattle.pool_commit.specs.Calls.{DiskCall}
-use Rattle.pool_commit.specs.declared.kept.SlotWrite.{SlotWrite}
+use Rattle.disk_set.specs.declared.behind.SlotWrite.{SlotWrite}
 use Rattle.pool_commit.specs.Making.{flushes_left, slots_left, writes_left, IsFlushPhase, IsSameStore, MadeCalls, FailedCall, FlushesMove, FlushesMoveBut}
 
 late : (m n : ℕ) → m ≤ n → nat_le m n ≡ true

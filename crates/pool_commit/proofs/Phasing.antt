@@ -6,9 +6,9 @@ use Rattle.raidz_io.specs.declared.writes.ColumnWrite.{ColumnWrite}
 use Rattle.block_store.specs.Store.{Store}
 use Rattle.pool_model.specs.declared.step.Phase.TheVariants.{BlocksFlush, Slots, SlotsFlush}
 use Rattle.pool_model.specs.View.{View, DueCall}
-use Rattle.pool_commit.specs.declared.kept.Behind.{Behind}
+use Rattle.disk_set.specs.declared.behind.Behind.{Behind}
 use Rattle.pool_commit.specs.declared.kept.Planned.{Planned}
-use Rattle.pool_commit.specs.declared.kept.SlotWrite.{SlotWrite}
+use Rattle.disk_set.specs.declared.behind.SlotWrite.{SlotWrite}
 use Rattle.pool_commit.specs.Backs.{left_calls}
 use Rattle.pool_commit.specs.Making.{writes_left, behind_left, flushes_left, slots_left, FailedCall, FlushesMove, FlushesMoveBut, KeepsContent, SlotsMove, SlotsMoveBut}
 use Rattle.pool_commit.specs.Progress.{LeftOut}

@@ -41,8 +41,8 @@ use Rattle.dnode_tree.specs.Freeing.{AreOnlyIn}
 use Rattle.dnode_tree.specs.Rewriting.{AreDistinct}
 use Rattle.dnode_tree.proofs.SameBlocks.{same_as, found}
 use Rattle.dnode_tree.proofs.SameBlocks.{counted as counted_in}
-use Rattle.pool_commit.specs.declared.kept.Behind.{Behind}
-use Rattle.pool_commit.specs.declared.kept.SlotWrite.{SlotWrite}
+use Rattle.disk_set.specs.declared.behind.Behind.{Behind}
+use Rattle.disk_set.specs.declared.behind.SlotWrite.{SlotWrite}
 use Rattle.pool_commit.specs.Backs.{Backs, AreDueBehind, BeginsWithMaps, HasMaps, LeavesMaps, IsPlanOf, IsUberblockOf, LeadsTo, kept_pool, left_calls, SpellsGroup}
 use Rattle.pool_commit.specs.Making.{writes_left, slots_left, flushes_left}
 use Rattle.pool_commit.specs.Slots.{slots_of_disk, all_slots}

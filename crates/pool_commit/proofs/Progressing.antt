@@ -24,10 +24,10 @@ use Rattle.pool_model.proofs.Plans.{same_elements, all_append}
 use Rattle.pool_commit.specs.declared.device.Progress.{Progress}
 use Rattle.pool_commit.specs.declared.device.Progress.TheVariants.{Moved, Done, Dropped}
 use Rattle.block_pointer.specs.declared.block.Block.{Block}
-use Rattle.pool_commit.specs.declared.kept.Behind.{Behind}
+use Rattle.disk_set.specs.declared.behind.Behind.{Behind}
 use Rattle.pool_commit.specs.declared.kept.Kept.{Kept}
 use Rattle.pool_commit.specs.declared.kept.Planned.{Planned}
-use Rattle.pool_commit.specs.declared.kept.SlotWrite.{SlotWrite}
+use Rattle.disk_set.specs.declared.behind.SlotWrite.{SlotWrite}
 use Rattle.pool_commit.specs.declared.stamp.Stamp.{Stamp}
 use Rattle.pool_commit.specs.Backs.{Backs, IsPlanOf, IsToFlush, PlansReach, SpellsKept, StoresReach, kept_pool, left_calls, pool_after, SpellsGroup}
 use Rattle.pool_commit.specs.Calls.{disk_call, made_between, faults_between, unread_between, called_between, IsFlushed}

@@ -15,7 +15,7 @@ use Rattle.uberblock_ring.specs.Place.{slot_at}
 use Rattle.uberblock_ring.specs.Slot.{slot_bytes, slot_number}
 use Rattle.uberblock_ring.specs.Uberblock.{Fits}
 use Rattle.uberblock_ring.specs.declared.uberblock.Uberblock.{Uberblock}
-use Rattle.pool_commit.specs.declared.kept.SlotWrite.{SlotWrite}
+use Rattle.disk_set.specs.declared.behind.SlotWrite.{SlotWrite}
 use Rattle.pool_commit.specs.Making.{KeepsContent, SlotsMove, SlotsMoveBut}
 use Rattle.pool_commit.specs.Slots.{place_of, ShowsIn}
 use Rattle.pool_commit.proofs.Made.{MadeOne}

@@ -19,9 +19,9 @@ use Rattle.pool_model.specs.View.{View, DueCall, Due, is_planned, is_kept, disks
 use Rattle.volume_rules.specs.Index.{Knows}
 use Rattle.pool_commit.specs.declared.kept.Kept.{Kept}
 use Rattle.pool_commit.specs.declared.kept.KeptGroup.{KeptGroup}
-use Rattle.pool_commit.specs.declared.kept.Behind.{Behind}
+use Rattle.disk_set.specs.declared.behind.Behind.{Behind}
 use Rattle.pool_commit.specs.declared.kept.Planned.{Planned}
-use Rattle.pool_commit.specs.declared.kept.SlotWrite.{SlotWrite}
+use Rattle.disk_set.specs.declared.behind.SlotWrite.{SlotWrite}
 use Rattle.pool_commit.specs.declared.stamp.Stamp.{Stamp}
 use Rattle.pool_commit.specs.Calls.{IsFlushed}
 use Rattle.pool_commit.specs.Config.{vdevs_of}

@@ -6,9 +6,9 @@ use Rattle.block_pointer.specs.Property.{FitsProperty}
 use Rattle.block_pointer.specs.declared.dva.Dva.{Dva}
 use Rattle.uberblock_ring.specs.Uberblock.{IsNumber, IsRoot}
 use Rattle.uberblock_ring.specs.declared.uberblock.Uberblock.{Uberblock}
-use Rattle.pool_commit.specs.declared.kept.Behind.{Behind}
+use Rattle.disk_set.specs.declared.behind.Behind.{Behind}
 use Rattle.pool_commit.specs.declared.kept.Planned.{Planned}
-use Rattle.pool_commit.specs.declared.kept.SlotWrite.{SlotWrite}
+use Rattle.disk_set.specs.declared.behind.SlotWrite.{SlotWrite}
 
 -- all of these are among so many
 abbrev pub AreBelow : ℕ → List ℕ → Type 0

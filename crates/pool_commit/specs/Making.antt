@@ -11,8 +11,8 @@ use Rattle.pool_model.specs.Flow.{counted_on}
 use Rattle.model_disk.specs.Joint.{content}
 use Rattle.pool_model.specs.Machine.{due_write, is_flush}
 use Rattle.uberblock_ring.specs.declared.uberblock.Uberblock.{Uberblock}
-use Rattle.pool_commit.specs.declared.kept.Behind.{Behind}
-use Rattle.pool_commit.specs.declared.kept.SlotWrite.{SlotWrite}
+use Rattle.disk_set.specs.declared.behind.Behind.{Behind}
+use Rattle.disk_set.specs.declared.behind.SlotWrite.{SlotWrite}
 use Rattle.pool_commit.specs.Calls.{disk_call, made_between, faults_between, unread_between, called_between, GrewTo, IsFlushed}
 use Rattle.pool_commit.specs.Slots.{IsShownOrDue}
 

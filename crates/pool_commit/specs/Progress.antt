@@ -1,5 +1,5 @@
 -- How far device calls bring a plan.
-use Rattle.std.specs.Prelude.{ℕ, suc, ◌≡◌, ◌+◌, ◌<◌, ◌^◌, Contains, List, [], ◌∷◌, ◌++◌, length, map, filter, not, ◌==◌, ◌⊎◌, true, false, Option, Some, None}
+use Rattle.std.specs.Prelude.{ℕ, suc, ◌≡◌, ◌+◌, ◌<◌, ◌^◌, Contains, List, [], ◌∷◌, ◌++◌, length, map, ◌⊎◌, true, false, Option, Some, None}
 use Rattle.std.specs.List.{AllByRecursion}
 use Rattle.model_disk.specs.Joint.{Disks}
 use Rattle.block_store.specs.Blocks.{Contents}
@@ -13,11 +13,12 @@ use Rattle.pool_model.specs.Machine.{is_late, Makes, GoesOn, Ends, committed_nex
 use Rattle.pool_commit.specs.declared.device.Progress.{Progress}
 use Rattle.pool_commit.specs.declared.device.Progress.TheVariants.{Moved, Done, Dropped}
 use Rattle.block_pointer.specs.declared.block.Block.{Block}
-use Rattle.pool_commit.specs.declared.kept.Behind.{Behind}
+use Rattle.disk_set.specs.declared.behind.Behind.{Behind}
+pub use Rattle.disk_set.specs.Behind.{LeftOut}
 use Rattle.pool_commit.specs.declared.kept.Kept.{Kept}
 use Rattle.pool_commit.specs.declared.kept.KeptGroup.{KeptGroup}
 use Rattle.pool_commit.specs.declared.kept.Planned.{Planned}
-use Rattle.pool_commit.specs.declared.kept.SlotWrite.{SlotWrite}
+use Rattle.disk_set.specs.declared.behind.SlotWrite.{SlotWrite}
 use Rattle.pool_commit.specs.Backs.{Backs}
 use Rattle.pool_commit.specs.Calls.{disk_call, made_between, faults_between, unread_between, called_between, IsFlushed}
 use Rattle.pool_commit.specs.Slots.{ShowsIn, uberblock_of}
@@ -126,12 +127,6 @@ CarriesOn old plan phase (Moved moved) new = (moved ≡ phase) × (0 < calls_lef
 CarriesOn old plan phase Done new =
     (calls_left old.store plan.behind ≡ 0) × StoresPlan old.store new.store × IsShifted old.kept plan.after new.kept × (new.planned ≡ None) × (new.stamp ≡ old.stamp)
 CarriesOn old plan phase (Dropped disk) new = ⊥
-
--- the calls on a disk are left out
-abbrev pub LeftOut : ℕ → Behind → Behind → Type 0
-LeftOut disk old new =
-    (new.flushes ≡ old.flushes) × (new.slots.items ≡ filter (λ write. not (write.disk == disk)) old.slots.items)
-    × (new.slot_flushes.items ≡ filter (λ flush. not (flush == disk)) old.slot_flushes.items)
 
 -- A disk is out that failed: too many are, and the plan is dropped; or what is left of it on other disks carries on.
 abbrev pub LeavesOut : State → Planned → ℕ → Phase → Progress → State → Type 0

@@ -11,7 +11,7 @@ use Rattle.sha2.specs.Sha256.{sha256}
 use Rattle.vdev_label.specs.Config.{config_bytes, guid_sum}
 use Rattle.vdev_label.specs.Plain.{PlainVdev}
 use Rattle.vdev_label.specs.Place.{label_at}
-use Rattle.pool_commit.specs.declared.kept.SlotWrite.{SlotWrite}
+use Rattle.disk_set.specs.declared.behind.SlotWrite.{SlotWrite}
 use Rattle.pool_commit.specs.declared.stamp.Stamp.{Stamp}
 
 -- what the uberblocks of a pool of these vdevs have in common, under this claim

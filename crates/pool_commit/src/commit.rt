@@ -1,6 +1,6 @@
 //! The committed half of a core.
 ghost use Rattle.std.specs.Prelude.{ℕ, List, [], ◌≡◌, ◌⊎◌, ◌<◌, ◌≤◌, ◌+◌, ◌-◌, ◌^◌, ◌++◌, not, filter};
-ghost use Rattle.std.specs.Prelude.{length, map, slice_get, Some, false, IsTrue, ◌↔◌, OnOk, IfOk, IfErr};
+ghost use Rattle.std.specs.Prelude.{length, map, false, IsTrue, ◌↔◌, OnOk, IfOk, IfErr};
 ghost use Rattle.model_disk.specs.Joint.{calls_on, log_of};
 ghost use Rattle.block_store.specs.declared.shape.VdevShape.{VdevShape as ShapeOf};
 ghost use Rattle.block_store.specs.Config.{AreShapes, IsFewVdevs};
@@ -17,13 +17,14 @@ ghost use Rattle.pool_commit.specs.Configs.{configs_from};
 ghost use Rattle.pool_commit.specs.Suspension.{lacks_disks};
 
 use crate::config::config_of;
-use crate::kept::{Behind, Kept, KeptGroup, Planned, SlotWrite};
+use crate::kept::{Kept, KeptGroup, Planned};
 use crate::refusal::Refusal;
 use crate::stamp::Stamp;
 use crate::suspension::{lacks_disks, vdev_at};
 use block_pointer::Block;
 use block_store::{BlockStore, VdevConfig, VdevShape};
 use dataset_snapshots::KeptDirectory;
+use disk_set::{Behind, SlotWrite};
 use meta_objset::Directory;
 use model_disk::{Disk, DiskArray};
 use raidz_io::Vdev;

@@ -1,5 +1,5 @@
 //! The device calls of a plan.
-ghost use Rattle.std.specs.Prelude.{◌≡◌, ◌<◌, ◌≤◌, ◌∷◌, ◌^◌, ℕ, min, length, false, true, []};
+ghost use Rattle.std.specs.Prelude.{◌≡◌, ◌<◌, ◌∷◌, ◌^◌, min, length, false, true, []};
 ghost use Rattle.std.specs.Prelude.{Some, None, OnOk, IfErr, IfSome, IfNone};
 ghost use Rattle.model_disk.specs.Call.{write_call};
 ghost use Rattle.model_disk.specs.Joint.{on};
@@ -22,9 +22,10 @@ ghost use Rattle.pool_commit.specs.Slots.{LabelsLieAside, place_of};
 ghost use Rattle.pool_commit.specs.Writing.{IsDueSlot, IsDueWrite, WritesPlan};
 
 use crate::commit::Commit;
-use crate::kept::{Planned, SlotWrite};
+use crate::kept::Planned;
 use crate::suspension::lacks_disks;
-use block_store::{BlockStore, FailedDisk};
+use block_store::BlockStore;
+use disk_set::{FailedDisk, SlotWrite};
 use model_disk::Disk;
 use pool_model::Phase;
 use std::collections::VecDeque;

@@ -4,9 +4,9 @@ ghost use Rattle.std.specs.Option.{option_copied};
 
 use block_pointer::Block;
 use dataset_snapshots::KeptDirectory;
+use disk_set::Behind;
 use meta_objset::Directory;
 use std::alloc::Global;
-use std::collections::VecDeque;
 use std::mem;
 use std::sync::Arc;
 use uberblock_ring::Uberblock;
@@ -29,21 +29,6 @@ pub struct Kept {
     last: KeptGroup,
     before: Option<KeptGroup>,
     earliest: Option<KeptGroup>,
-}
-
-/// The write of an uberblock's slot in one of the four labels of a disk.
-#[derive(Debug, Clone, Copy, PartialEq, Eq, Drop)]
-pub struct SlotWrite {
-    pub disk: usize,
-    pub label: u64,
-}
-
-/// What is due behind the block writes of a plan, in this order: flushes of disks, writes of slots, and flushes again.
-#[derive(Drop)]
-pub struct Behind {
-    pub(crate) flushes: VecDeque<usize>,
-    pub(crate) slots: VecDeque<SlotWrite>,
-    pub(crate) slot_flushes: VecDeque<usize>,
 }
 
 /// A plan: what the group that is synced makes, its uberblock, and what is due once its blocks are written.
@@ -74,27 +59,6 @@ impl KeptGroup {
         ensures { result.now ≡ self.now.directory.value }
     {
         self.directory.as_ref().directory()
-    }
-}
-
-impl Behind {
-    ghost use Rattle.std.specs.Prelude.{◌+◌, ◌↔◌, length, IsTrue};
-    ghost use Rattle.pool_commit.specs.Progress.{LeftOut};
-
-    /// Whether nothing is due.
-    pub(crate) fn is_done(&self) -> bool
-        ensures { IsTrue result ↔ (length self.now.flushes.items
-            + (length self.now.slots.items + length self.now.slot_flushes.items) ≡ 0) }
-    {
-        self.flushes.is_empty() && self.slots.is_empty() && self.slot_flushes.is_empty()
-    }
-
-    /// Leaves out what is due on a disk from the slots on.
-    pub(crate) fn leave_out(&mut self, disk: usize)
-        ensures { LeftOut disk self.old self.new }
-    {
-        self.slots.retain(|write| write.disk != disk);
-        self.slot_flushes.retain(|flush| *flush != disk);
     }
 }
 

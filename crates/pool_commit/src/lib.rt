@@ -19,7 +19,7 @@ mod suspension;
 pub use commit::Commit;
 pub use config::config_of;
 pub use device::Progress;
-pub use kept::{Behind, Kept, KeptGroup, Planned, SlotWrite};
+pub use kept::{Kept, KeptGroup, Planned};
 pub use laws::{labels_of_opened_lie, no_room_is_lost};
 pub use refusal::Refusal;
 pub use stamp::Stamp;

@@ -1,5 +1,5 @@
 -- What a step of a core is.
-use Rattle.std.specs.Prelude.{ℕ, suc, ◌≡◌, ◌<◌, List, Contains, map, Bool, true, false, Some}
+use Rattle.std.specs.Prelude.{ℕ, suc, ◌≡◌, ◌<◌, Contains, map, Bool, true, false, Some}
 use Rattle.block_pointer.specs.declared.block.Block.{Block}
 use Rattle.model_disk.specs.Joint.{calls_on}
 use Rattle.raidz_io.specs.Reads.{IsHonestSince}
@@ -7,12 +7,12 @@ use Rattle.pool_model.specs.declared.step.Step.{Step}
 use Rattle.pool_model.specs.declared.step.Step.TheVariants.{Plan, Device, Release, Read, ReadUnder}
 use Rattle.pool_model.specs.declared.step.Reply.{Reply}
 use Rattle.pool_model.specs.declared.step.Reply.TheVariants.{Planned, Committed}
-use Rattle.pool_model.specs.View.{View, Vdev, Given, DueCall, is_away, disks_in_use, is_suspended}
+use Rattle.pool_model.specs.View.{View, Vdev, Given, is_away, disks_in_use, is_suspended}
 use Rattle.pool_model.specs.Machine.{StepOf}
 use Rattle.pool_commit.specs.Calls.{disk_call, made_between, faults_between, unread_between, called_between, IsFlushed}
 use Rattle.pool_commit.specs.Progress.{fault_list}
 use Rattle.pool_commit.specs.declared.kept.Planned.{Planned as GroupPlan}
-use Rattle.pool_commit.specs.declared.kept.SlotWrite.{SlotWrite}
+use Rattle.disk_set.specs.declared.behind.SlotWrite.{SlotWrite}
 use Rattle.pool_commit.specs.Slots.{ShowsIn, uberblock_of}
 use Rattle.pool_commit.specs.Room.{LacksRoom}
 use Rattle.volume_rules.specs.Sources.{base_name}

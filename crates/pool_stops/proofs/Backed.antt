@@ -5,7 +5,7 @@ use Rattle.block_store.specs.Store.{is_out}
 use Rattle.pool_commit.specs.Backs.{HasPlan, IsPlanOf}
 use Rattle.pool_commit.specs.Making.{behind_left, flushes_left, slots_left, writes_left}
 use Rattle.pool_commit.specs.declared.kept.Planned.{Planned}
-use Rattle.pool_commit.specs.declared.kept.SlotWrite.{SlotWrite}
+use Rattle.disk_set.specs.declared.behind.SlotWrite.{SlotWrite}
 use Rattle.pool_model.specs.Flow.{counted_on}
 use Rattle.pool_model.specs.View.{DueCall}
 use Rattle.pool_model.specs.declared.step.Phase.TheVariants.{BlocksFlush, SlotsFlush}

@@ -4,7 +4,7 @@ use Rattle.model_disk.specs.Joint.{calls_on, content}
 use Rattle.model_disk.specs.Runs.{IsSettled}
 use Rattle.uberblock_ring.specs.declared.uberblock.Uberblock.{Uberblock}
 use Rattle.pool_commit.specs.declared.kept.Planned.{Planned}
-use Rattle.pool_commit.specs.declared.kept.SlotWrite.{SlotWrite}
+use Rattle.disk_set.specs.declared.behind.SlotWrite.{SlotWrite}
 use Rattle.block_store.specs.Store.{is_out}
 use Rattle.pool_commit.specs.Backs.{Backs}
 use Rattle.pool_commit.specs.State.{State}

@@ -2,7 +2,7 @@ use Rattle.std.proofs.Common.{rules, ◌≡◌, ◌<◌, ℕ, List, arith, ap, s
 use Rattle.std.specs.Prelude.{min}
 use Rattle.raidz_io.proofs.Calls.{Contains-front, Contains-later}
 use Rattle.model_disk.specs.Call.{flush_call}
-use Rattle.block_store.specs.declared.device.FailedDisk.{FailedDisk}
+use Rattle.disk_set.specs.declared.device.FailedDisk.{FailedDisk}
 use Rattle.block_store.specs.Store.{Store, IsOutToo}
 use Rattle.pool_model.specs.declared.step.Phase.TheVariants as phases
 use Rattle.pool_commit.specs.Making.{flushes_left, MadeCalls, MadeFlushes, FailedFlush, FlushesMove, FlushesMoveBut}

@@ -2,13 +2,13 @@ use Rattle.std.proofs.Common.{rules, ◌≡◌, ◌<◌, ◌≤◌, ℕ, List, a
 use Rattle.std.specs.Prelude.{min}
 use Rattle.model_disk.specs.Call.{write_call}
 use Rattle.model_disk.specs.Joint.{bytes_of}
-use Rattle.block_store.specs.declared.device.FailedDisk.{FailedDisk}
+use Rattle.disk_set.specs.declared.device.FailedDisk.{FailedDisk}
 use Rattle.block_store.specs.Spaces.{VdevSpace}
 use Rattle.block_store.specs.Store.{IsOutToo}
 use Rattle.pool_model.specs.declared.step.Phase.TheVariants as phases
 use Rattle.pool_model.specs.Flow.{counted_on}
 use Rattle.uberblock_ring.specs.Slot.{slot_bytes}
-use Rattle.pool_commit.specs.declared.kept.SlotWrite.{SlotWrite}
+use Rattle.disk_set.specs.declared.behind.SlotWrite.{SlotWrite}
 use Rattle.pool_commit.specs.Making.{slots_left, MadeCalls, FailedSlot, SlotsMove, SlotsMoveBut}
 use Rattle.pool_commit.specs.Slots.{LabelsLieAside, place_of}
 use Rattle.pool_commit.proofs.Made.{none_made, one_made, one_failed_before, below_four, err_is, some_to_write}

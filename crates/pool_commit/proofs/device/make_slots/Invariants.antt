@@ -1,6 +1,6 @@
 use Rattle.std.proofs.Common.{◌≡◌, length}
 use Rattle.model_disk.specs.Runs.{Makes}
-use Rattle.pool_commit.specs.declared.kept.SlotWrite.{SlotWrite}
+use Rattle.disk_set.specs.declared.behind.SlotWrite.{SlotWrite}
 use Rattle.pool_commit.specs.Writing.{IsDueSlot}
 use Rattle.pool_commit.proofs.Writing.{IsRestOf}
 use Rattle.pool_commit.specs.HasDisks.{AreSlotsBelow}

@@ -1,7 +1,7 @@
 use Rattle.std.proofs.Common.{◌≡◌, ℕ, List, min, refl, ap, sym, ◌∙◌, subst, arith, length, is_ok}
 use Rattle.model_disk.specs.Call.{write_call}
 use Rattle.raidz_io.specs.declared.writes.ColumnWrite.{ColumnWrite}
-use Rattle.block_store.specs.declared.device.FailedDisk.{FailedDisk}
+use Rattle.disk_set.specs.declared.device.FailedDisk.{FailedDisk}
 use Rattle.block_store.specs.Store.{IsOutToo}
 use Rattle.pool_model.specs.declared.step.Phase.TheVariants as phases
 use Rattle.pool_model.specs.Flow.{counted_on}

@@ -9,21 +9,17 @@ use Rattle.block_store.proofs.store.BlockStore.finish_plan.Goals as goal
 
 pub invariant_of-self : goal.invariant_of-self
 invariant_of-self g c = record {
-  laid_out = laid_out_too c.self.inside.disks.starts c.self.inside.spaces.items _ c.keep_plans.ensures.shapes c.self.invariant.laid_out;
-  disks = c.self.invariant.disks;
-  spans = c.self.invariant.spans;
-  reached = c.self.invariant.reached;
-  due = c.self.invariant.due;
+  laid_out = laid_out_too c.self.inside.set.disks.starts c.self.inside.spaces.items _ c.keep_plans.ensures.shapes c.self.invariant.laid_out;
 }
 
 pub returns-clause-keeps : goal.returns-clause-keeps
 returns-clause-keeps g c =
     let new : Store = record {
-      disks = c.self.inside.disks;
+      disks = c.self.inside.set.disks;
       spaces = c.keep_plans.new.spaces.items;
-      out = c.self.inside.out.items;
-      spans = record { since = c.self.inside.since.items; group = c.self.inside.group };
-      due = c.self.inside.due.items;
+      out = c.self.inside.set.out;
+      spans = c.self.inside.set.spans;
+      due = c.self.inside.set.due;
       stray = c.self.inside.stray;
     } in
     holds_by c.args.self.now new (ap (λ (s : Store). s.disks) c.self.view_is)
@@ -33,5 +29,5 @@ returns-clause-keeps g c =
 pub returns-clause-stored : goal.returns-clause-stored
 returns-clause-stored g c stored planned plans none =
     finished _ _ (same_but _ _ _ _ refl refl refl c.keep_plans.ensures.shapes c.keep_plans.ensures.filled)
-    c.self.invariant.reached (ap (λ (s : Store). s.due) c.self.view_is ∙ none) stored planned
+    c.is_sound.ensures.reached (ap (λ (s : Store). s.due) c.self.view_is ∙ none) stored planned
     (subst (λ (s : Store). Plans s stored planned) (sym c.self.view_is) plans)

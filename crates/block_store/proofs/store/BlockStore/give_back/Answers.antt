@@ -39,13 +39,9 @@ invariant_of-self g c =
     let at : slice_get c.self.inside.spaces.items c.args.place.vdev ≡ Some c.index_mut.result.now =
     at_item c.self.inside.spaces.items c.args.place.vdev c.index_mut.result.now within c.index_mut.ensures.value in
     record {
-      laid_out = laid_out_too c.self.inside.disks.starts c.self.inside.spaces.items _
+      laid_out = laid_out_too c.self.inside.set.disks.starts c.self.inside.spaces.items _
           (map-set_same (λ s. s.shape) c.self.inside.spaces.items c.args.place.vdev c.index_mut.result.now _ at (ap (λ (s : VdevSpace). s.shape) c.release.ensures.rest))
           c.self.invariant.laid_out;
-      disks = c.self.invariant.disks;
-      spans = c.self.invariant.spans;
-      reached = c.self.invariant.reached;
-      due = c.self.invariant.due;
     }
 
 pub returns-clause-released : goal.returns-clause-released

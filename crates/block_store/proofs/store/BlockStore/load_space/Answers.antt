@@ -19,11 +19,7 @@ invariant_of-self g c =
     let within : c.args.vdev < length spaces = slice_get_within spaces c.args.vdev there.space there.found in
     let at : slice_get spaces c.args.vdev ≡ Some c.index_mut.result.now = at_item spaces c.args.vdev c.index_mut.result.now within c.index_mut.ensures.value in
     record {
-      laid_out = laid_out_too c.self.inside.disks.starts spaces _ (map-set_same (λ s. s.shape) spaces c.args.vdev c.index_mut.result.now _ at c.load.ensures.shape) c.self.invariant.laid_out;
-      disks = c.self.invariant.disks;
-      spans = c.self.invariant.spans;
-      reached = c.self.invariant.reached;
-      due = c.self.invariant.due;
+      laid_out = laid_out_too c.self.inside.set.disks.starts spaces _ (map-set_same (λ s. s.shape) spaces c.args.vdev c.index_mut.result.now _ at c.load.ensures.shape) c.self.invariant.laid_out;
     }
 
 pub returns-clause-free : goal.returns-clause-free
@@ -55,11 +51,11 @@ returns-clause-left g c =
     let within : c.args.vdev < length spaces = slice_get_within spaces c.args.vdev there.space there.found in
     let at : slice_get spaces c.args.vdev ≡ Some c.index_mut.result.now = at_item spaces c.args.vdev c.index_mut.result.now within c.index_mut.ensures.value in
     let store : List VdevSpace → Store = λ xs. record {
-      disks = c.self.inside.disks;
+      disks = c.self.inside.set.disks;
       spaces = xs;
-      out = c.self.inside.out.items;
-      spans = record { since = c.self.inside.since.items; group = c.self.inside.group };
-      due = c.self.inside.due.items;
+      out = c.self.inside.set.out;
+      spans = c.self.inside.set.spans;
+      due = c.self.inside.set.due;
       stray = c.self.inside.stray;
     } in
     let kept : (c.load.new.self ≡ c.index_mut.result.now) → store (slice_set spaces c.args.vdev c.load.new.self) ≡ c.args.self.now =

@@ -1,7 +1,7 @@
-use Rattle.std.proofs.Common.{rules, ◌≡◌, [], ◌++◌, Contains, sym, ap, ◌∙◌, subst, inl, inr}
-use Rattle.std.proofs.lemmas.List.Elements.{Contains-append_cases}
+use Rattle.std.proofs.Common.{rules, ◌≡◌, [], ◌++◌, sym, ap, ◌∙◌, subst}
 use Rattle.block_pointer.specs.Copies.{dvas}
 use Rattle.raidz_io.specs.Stands.{IsWithin}
+use Rattle.disk_set.specs.Set.{PoolDisks}
 use Rattle.block_store.specs.Places.{shapes_of, AreChosen, ArePlacesIn}
 use Rattle.block_store.specs.Plans.{AreWritesAt}
 use Rattle.block_store.specs.Store.{Store, IsStore}
@@ -45,8 +45,8 @@ returns-in_err-writes-clause-keeps g c =
       chosen = c.in_ok-places.ensures.chosen;
     })
 
-pub returns-in_err-append-clause-keeps : goal.returns-in_err-append-clause-keeps
-returns-in_err-append-clause-keeps g c =
+pub returns-in_err-add_due-clause-keeps : goal.returns-in_err-add_due-clause-keeps
+returns-in_err-add_due-clause-keeps g c =
     let took : OnlyTook c.args.self.now c.choose_places.new.self c.args.new.property.sectors c.count.result c.in_ok-places.places.items = record {
       disks = c.in_ok-places.ensures.disks;
       out = c.in_ok-places.ensures.out;
@@ -56,15 +56,15 @@ returns-in_err-append-clause-keeps g c =
     } in
     let inside = subst (λ (s : Store). OnlyTook c.args.self.now s c.args.new.property.sectors c.count.result c.in_ok-places.places.items) (sym c.self.view_is) took in
     took_keeps c.args.self.now _ c.args.new.property.sectors c.count.result c.in_ok-places.places.items (record {
-      disks = inside.disks;
-      out = inside.out;
-      spans = inside.spans;
-      due = c.in_err-append.ensures.items ∙ inside.due;
+      disks = ap (λ (s : PoolDisks). s.disks) c.in_err-add_due.ensures.err ∙ inside.disks;
+      out = ap (λ (s : PoolDisks). s.out) c.in_err-add_due.ensures.err ∙ inside.out;
+      spans = ap (λ (s : PoolDisks). s.spans) c.in_err-add_due.ensures.err ∙ inside.spans;
+      due = ap (λ (s : PoolDisks). s.due) c.in_err-add_due.ensures.err ∙ inside.due;
       chosen = inside.chosen;
     })
 
-pub invariant_of-self-2 : goal.invariant_of-self-2
-invariant_of-self-2 g c =
+pub add_due-requires : goal.add_due-requires
+add_due-requires g c write here =
     let took : OnlyTook c.args.self.now c.choose_places.new.self c.args.new.property.sectors c.count.result c.in_ok-places.places.items = record {
       disks = c.in_ok-places.ensures.disks;
       out = c.in_ok-places.ensures.out;
@@ -75,19 +75,9 @@ invariant_of-self-2 g c =
     let store : IsStore c.choose_places.new.self = subst IsStore c.self.view_is c.self.invariant in
     let at : AreWritesAt c.choose_places.new.self c.args.new.property.sectors c.args.bytes.now c.in_ok-places.places.items c.in_ok-writes.writes.items =
     subst (λ places. AreWritesAt c.choose_places.new.self c.args.new.property.sectors c.args.bytes.now places c.in_ok-writes.writes.items) c.as_slice.ensures.value c.in_ok-writes.ensures in
-    record {
-      laid_out = c.self.invariant.laid_out;
-      disks = c.self.invariant.disks;
-      spans = c.self.invariant.spans;
-      reached = c.self.invariant.reached;
-      due = λ write held. elim (Contains-append_cases c.self.inside.due.items c.in_ok-writes.writes.items write (subst (λ xs. Contains xs write) c.in_ok-append.ensures.items held)) [
-        | inl before ↦ c.self.invariant.due write before
-        | inr here ↦
-            subst (λ (s : Store). IsWithin s.disks.starts write) (sym c.self.view_is)
-            (writes_within c.choose_places.new.self c.args.new.property.sectors c.args.bytes.now c.in_ok-places.places.items c.in_ok-writes.writes.items store at
-            (places_in c.args.self.now c.choose_places.new.self c.args.new.property.sectors c.count.result c.in_ok-places.places.items took) write here)
-      ];
-    }
+    subst (λ (s : Store). IsWithin s.disks.starts write) (sym c.self.view_is)
+    (writes_within c.choose_places.new.self c.args.new.property.sectors c.args.bytes.now c.in_ok-places.places.items c.in_ok-writes.writes.items store at
+    (places_in c.args.self.now c.choose_places.new.self c.args.new.property.sectors c.count.result c.in_ok-places.places.items took) write here)
 
 pub returns-clause-keeps : goal.returns-clause-keeps
 returns-clause-keeps g c =
@@ -99,7 +89,8 @@ returns-clause-keeps g c =
       chosen = c.in_ok-places.ensures.chosen;
     } in
     let inside = subst (λ (s : Store). OnlyTook c.args.self.now s c.args.new.property.sectors c.count.result c.in_ok-places.places.items) (sym c.self.view_is) took in
-    chosen_keeps c.args.self.now _ c.args.new.property.sectors c.count.result c.in_ok-places.places.items inside.disks inside.out inside.spans inside.chosen
+    chosen_keeps c.args.self.now _ c.args.new.property.sectors c.count.result c.in_ok-places.places.items (ap (λ (s : PoolDisks). s.disks) c.in_ok-add_due.ensures.ok ∙ inside.disks)
+    (ap (λ (s : PoolDisks). s.out) c.in_ok-add_due.ensures.ok ∙ inside.out) (ap (λ (s : PoolDisks). s.spans) c.in_ok-add_due.ensures.ok ∙ inside.spans) inside.chosen
 
 pub returns-clause-fits : goal.returns-clause-fits
 returns-clause-fits g c =
@@ -139,12 +130,12 @@ returns-clause-planned g c stored planned plans =
     subst (λ places. AreWritesAt c.choose_places.new.self c.args.new.property.sectors c.args.bytes.now places c.in_ok-writes.writes.items) c.as_slice.ensures.value c.in_ok-writes.ensures in
     let copies : dvas c.copies_at.result ≡ c.in_ok-places.places.items = c.copies_at.ensures ∙ c.as_slice-2.ensures.value in
     added c.args.self.now _ _ c.args.bytes.now c.in_ok-places.places.items c.in_ok-writes.writes.items stored planned (record {
-      disks = inside.disks;
-      out = inside.out;
-      spans = inside.spans;
+      disks = ap (λ (s : PoolDisks). s.disks) c.in_ok-add_due.ensures.ok ∙ inside.disks;
+      out = ap (λ (s : PoolDisks). s.out) c.in_ok-add_due.ensures.ok ∙ inside.out;
+      spans = ap (λ (s : PoolDisks). s.spans) c.in_ok-add_due.ensures.ok ∙ inside.spans;
       stray = ap (λ (s : Store). s.stray) c.self.view_is ∙ c.in_ok-places.ensures.stray;
       born = c.requires.born;
-      due = c.in_ok-append.ensures.items ∙ ap (λ xs. xs ++ c.in_ok-writes.writes.items) inside.due;
+      due = ap (λ (s : PoolDisks). s.due) c.in_ok-add_due.ensures.ok ∙ ap (λ xs. xs ++ c.in_ok-writes.writes.items) inside.due;
       chosen = subst (λ n. AreChosen c.args.self.now.spaces [] c.args.new.property.sectors n c.in_ok-places.places.items c.self.inside.spaces.items)
           (sym c.in_ok-places.ensures.count) inside.chosen;
       copies_at = copies;
@@ -156,7 +147,7 @@ returns-clause-planned g c stored planned plans =
       };
       mid = c.choose_places.new.self;
       mid_spaces = ap (λ (s : Store). s.spaces) (sym c.self.view_is);
-      mid_out = ap (λ (s : Store). s.out) (sym c.self.view_is);
+      mid_out = ap (λ (s : Store). s.out) (sym c.self.view_is) ∙ ap (λ (s : PoolDisks). s.out) (sym c.in_ok-add_due.ensures.ok);
       writes_at = at;
     }) plans
 
@@ -164,8 +155,8 @@ pub returns-in_err-writes-clause-shapes : goal.returns-in_err-writes-clause-shap
 returns-in_err-writes-clause-shapes g c =
     chosen_shapes _ c.args.new.property.sectors c.count.result c.in_ok-places.places.items _ c.in_ok-places.ensures.chosen
 
-pub returns-in_err-append-clause-shapes : goal.returns-in_err-append-clause-shapes
-returns-in_err-append-clause-shapes g c =
+pub returns-in_err-add_due-clause-shapes : goal.returns-in_err-add_due-clause-shapes
+returns-in_err-add_due-clause-shapes g c =
     ap (λ (s : Store). shapes_of s.spaces) c.self.view_is
     ∙ chosen_shapes _ c.args.new.property.sectors c.count.result c.in_ok-places.places.items _ c.in_ok-places.ensures.chosen
 

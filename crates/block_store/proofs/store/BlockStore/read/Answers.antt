@@ -1,4 +1,5 @@
-use Rattle.std.proofs.Common.{◌≡◌, rules, false, true, refl, ◌∙◌}
+use Rattle.std.proofs.Common.{◌≡◌, ◌++◌, rules, false, true, refl, ap, ◌∙◌}
+use Rattle.block_store.specs.Store.{Store, outs}
 use Rattle.block_store.proofs.Kept.{keeps, keeps_plans}
 use Rattle.block_store.proofs.Planning.{stores_same}
 use Rattle.block_store.proofs.ReadingPointers.{in_places}
@@ -25,7 +26,7 @@ returns g c =
     } in
     let is : IsBlockRead c.args.self.now c.read_places.new.self c.args.missing.now c.args.block.now c.read_places.result =
     block_read c.args.self.now c.read_places.new.self c.args.missing.now c.args.block.now c.read_places.result c.as_slice-2.result.now c.as_slice.result.now
-    (c.as_slice-2.ensures.value ∙ c.in_ok-absent.ensures) (c.as_slice.ensures.value ∙ c.places_of-places.ensures) c.read_places.ensures.rest
+    (c.as_slice-2.ensures.value ∙ c.in_ok-absent.ensures ∙ ap (λ (s : Store). outs s ++ c.args.missing.now) c.self.view_is) (c.as_slice.ensures.value ∙ c.places_of-places.ensures) c.read_places.ensures.rest
     c.read_places.ensures.read in
     let kept = is_kept laws c.args.self.now c.read_places.new.self c.args.missing.now c.args.block.now c.read_places.result is in
     record {

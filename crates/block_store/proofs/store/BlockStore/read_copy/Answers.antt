@@ -14,8 +14,8 @@ extent_at-extent-requires-clause-place g c =
 
 pub returns-clause-read : goal.returns-clause-read
 returns-clause-read g c =
-    let old : Disks = c.self.inside.disks in
-    let new : Disks = c.read_checked.new.disks in
+    let old : Disks = c.self.inside.set.disks in
+    let new : Disks = c.read_checked.new.self.disks in
     let extent = c.extent_at-extent.result in
     let copy : IsCopy c.args.self.now.spaces c.args.block.now c.args.i extent =
     is_copy c.args.self.now.spaces c.args.places.now c.args.block.now c.args.i _ extent c.requires.places c.requires.below c.extent_at-extent.ensures.extent in

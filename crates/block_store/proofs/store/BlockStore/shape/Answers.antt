@@ -20,5 +20,5 @@ returns-clause-disks g c =
     let at : slice_get c.self.inside.spaces.items c.args.vdev ≡ Some c.index.result.now =
     at_item c.self.inside.spaces.items c.args.vdev c.index.result.now within c.index.ensures in
     subst (λ (s : Store). c.shape.result.vdev.first + c.shape.result.vdev.geometry.children ≤ length s.disks.starts) c.self.view_is
-    (subst (λ (shape : VdevShape). shape.vdev.first + shape.vdev.geometry.children ≤ length c.self.inside.disks.starts) (sym c.shape.ensures)
+    (subst (λ (shape : VdevShape). shape.vdev.first + shape.vdev.geometry.children ≤ length c.self.inside.set.disks.starts) (sym c.shape.ensures)
     (c.self.invariant.laid_out.room c.args.vdev c.index.result.now at).disks)

@@ -2,7 +2,7 @@ use Rattle.std.proofs.Common.{ℕ, ◌≡◌, inr, List, length, refl, sym, ap, 
 use Rattle.std.specs.Prelude.{◌==◌, not, filter}
 use Rattle.pool_commit.specs.HasDisks.{AreBelow, AreSlotsBelow, IsPlannedOn}
 use Rattle.pool_commit.specs.declared.kept.Planned.{Planned}
-use Rattle.pool_commit.specs.declared.kept.SlotWrite.{SlotWrite}
+use Rattle.disk_set.specs.declared.behind.SlotWrite.{SlotWrite}
 use Rattle.pool_commit.proofs.Progressing.{in_use_is}
 use Rattle.pool_commit.proofs.commit.Commit.go_without.Goals as goal
 

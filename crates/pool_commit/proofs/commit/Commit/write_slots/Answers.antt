@@ -14,7 +14,7 @@ use Rattle.pool_model.specs.declared.step.Phase.TheVariants as phases
 use Rattle.block_store.specs.Places.{shapes_of}
 use Rattle.pool_commit.proofs.Labels.{labels_still}
 use Rattle.pool_commit.specs.HasDisks.{AreSlotsBelow}
-use Rattle.pool_commit.specs.declared.kept.SlotWrite.{SlotWrite}
+use Rattle.disk_set.specs.declared.behind.SlotWrite.{SlotWrite}
 use Rattle.std.specs.declared.collections.VecDeque.{VecDeque}
 use Rattle.pool_commit.proofs.Phasing.{FailedSlots, slotting, slots_stay, slots_left_out, none_to_flush}
 use Rattle.pool_commit.proofs.Spellings.{spelled_fits}

@@ -1,6 +1,6 @@
 -- The disks that are out, of the first ones.
 use Rattle.std.proofs.Common.{ℕ, zero, suc, ◌≡◌, ◌+◌, ◌<◌, Bool, true, false, if◌then◌else◌, List, [], ◌∷◌, ◌++◌, length, get_or, take, add-one, append-nil, refl, sym, ap, ◌∙◌, arith}
-use Rattle.block_store.specs.Store.{outs_from}
+use Rattle.disk_set.specs.Outs.{outs_from}
 
 pub outs_more : (out : List Bool) (first i : ℕ) (d x : Bool) → i < length out → get_or out i d ≡ x
     → outs_from first (take (suc i) out) ≡ outs_from first (take i out) ++ (if x then (first + i) ∷ [] else [])

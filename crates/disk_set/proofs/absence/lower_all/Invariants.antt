@@ -1,6 +1,6 @@
 use Rattle.std.proofs.Common.{◌≡◌, ◌++◌, length, map, take, drop}
 use Rattle.std.specs.Prelude.{min}
-use Rattle.block_store.proofs.plan.lower_all.Given as goal
+use Rattle.disk_set.proofs.absence.lower_all.Given as goal
 
 -- the first ones are lowered, and the others as they were
 abbrev pub invariant-loop-disk : goal.invariant-loop-disk

@@ -1,12 +1,12 @@
 use Rattle.std.proofs.Common.{◌≡◌, ◌<◌, false, length, ap, ◌∙◌, arith}
-use Rattle.block_store.specs.Store.{Store}
-use Rattle.block_store.proofs.ReadingOuts.{out_too, not_out}
-use Rattle.block_store.proofs.store.BlockStore.absent.Goals as goal
-use Rattle.block_store.proofs.store.BlockStore.absent.Goals.{then-is_out+in_ok-push, else-is_out}
+use Rattle.disk_set.specs.Set.{PoolDisks}
+use Rattle.disk_set.proofs.Outs.{out_too, not_out}
+use Rattle.disk_set.proofs.set.DiskSet.absent.Goals as goal
+use Rattle.disk_set.proofs.set.DiskSet.absent.Goals.{then-is_out+in_ok-push, else-is_out}
 
 pub loop-disk-preserved : goal.loop-disk-preserved
 loop-disk-preserved g c =
-    let out : c.deref-is_out-items.result.now ≡ c.args.self.now.out = c.deref-is_out-items.ensures.value ∙ ap (λ (s : Store). s.out) c.self.view_is in
+    let out : c.deref-is_out-items.result.now ≡ c.args.self.now.out = c.deref-is_out-items.ensures.value ∙ ap (λ (s : PoolDisks). s.out) c.self.view_is in
     let below : c.loop-disk.disk < length c.args.self.now.out = omega (arith, c.loop-disk-test.true, ap length out) in
     elim c.if-is_out.branch [
       | then-is_out+in_ok-push w ↦

@@ -1,6 +1,6 @@
 use Rattle.std.proofs.Common.{refl, rules}
 use Rattle.std.proofs.lemmas.Fn.{filter_same}
-use Rattle.pool_commit.proofs.kept.Behind.leave_out.Goals as goal
+use Rattle.disk_set.proofs.behind.Behind.leave_out.Goals as goal
 
 pub returns : goal.returns
 returns c = (

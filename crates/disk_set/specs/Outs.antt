@@ -1,0 +1,29 @@
+-- Disks that are out, and which blocks they may lack.
+use Rattle.std.specs.Prelude.{ℕ, suc, ◌≡◌, ◌||◌, ◌==◌, nat_lt, min, Bool, false, if◌then◌else◌, List, [], ◌∷◌, length, map, slice_index_or, slice_set}
+
+-- Which blocks the disks that are out may lack. A plan is of a transaction group, and no block of it was born before that group.
+pub record Spans : Type 0 where
+  pub since : List ℕ  -- of each disk that is out, the first group whose blocks it may lack
+  pub group : ℕ  -- the group of the plan
+
+-- whether that disk is out
+abbrev pub is_out : List Bool → ℕ → Bool
+is_out out disk = slice_index_or out disk false
+
+-- that disk is out too
+pub record IsOutToo (old : List Bool) (disk : ℕ) (new : List Bool) : Type 0 where
+  pub count : length new ≡ length old
+  pub disks : (other : ℕ) → is_out new other ≡ (is_out old other || (other == disk))
+
+-- the numbers of those that are out, of disks from this number on
+abbrev pub outs_from : ℕ → List Bool → List ℕ
+outs_from first [] = []
+outs_from first (out ∷ rest) = if out then first ∷ outs_from (suc first) rest else outs_from (suc first) rest
+
+-- a plan of that group: where it is an earlier one than before, the disks that are out may lack its blocks too
+abbrev pub in_group : Spans → ℕ → Spans
+in_group spans group = record { group = group; since = if nat_lt group spans.group then map (min group) spans.since else spans.since }
+
+-- that disk may lack blocks from the plan's group on, if it was not out before; of the others nothing changes
+abbrev pub spans_without : List Bool → Spans → ℕ → Spans
+spans_without out spans disk = if is_out out disk then spans else record { group = spans.group; since = slice_set spans.since disk spans.group }

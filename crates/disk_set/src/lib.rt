@@ -1,0 +1,12 @@
+//! The disks of a pool: which of them are out, which writes are due on them, and each device call as a function.
+#![tactic(auto)]
+
+mod absence;
+mod behind;
+mod device;
+mod reading;
+mod set;
+
+pub use behind::{Behind, SlotWrite};
+pub use device::FailedDisk;
+pub use set::DiskSet;
