@@ -6,8 +6,8 @@ use dnode::ObjectSet;
 use meta_objset::Directory;
 use std::alloc::Global;
 
-/// The number of the first object behind the tables.
-const FIRST_OBJECT: u64 = 5;
+/// The number of the first object behind the tables of a meta object set.
+pub const FIRST_OBJECT: u64 = 5;
 
 /// The numbers of objects are below 32 * 128^5.
 const NUMBERS_END: u64 = 1 << 40;

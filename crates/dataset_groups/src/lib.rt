@@ -13,7 +13,7 @@ mod taking;
 mod writing;
 
 pub use block_store::Refusal;
-pub use datasets::{GroupDatasets, NumberBounds};
+pub use datasets::{FIRST_OBJECT, GroupDatasets, NumberBounds};
 pub use laws::groups_before_are_older;
 pub use volume::BlockWrite;
 pub use writing::WrittenHead;

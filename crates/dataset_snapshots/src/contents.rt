@@ -5,6 +5,7 @@ ghost use Rattle.block_store.specs.declared.refusal.Refusal.TheVariants.{NoSpace
 ghost use Rattle.block_store.specs.Steps.{OnlyReadsBlocks, AnswersAreTrue};
 ghost use Rattle.block_store.specs.Store.{Holds};
 ghost use Rattle.dnode_tree.specs.Rewriting.{AreDistinct};
+ghost use Rattle.pool_maps.specs.Loads.{AreSetsOf};
 ghost use Rattle.pool_model.specs.Pools.{PlainPool};
 ghost use Rattle.space_map_objects.specs.Maps.{IsForLossOf};
 ghost use Rattle.dataset_snapshots.specs.Contents.{AreContentsFound, AreContentsOf, AreContentsRefused};
@@ -62,10 +63,12 @@ pub fn contents_under<D: Disk + Drop>(
         → AnswersAreTrue store.old store.new
         → AreContentsOf stored store.old.spaces birth root.now pool contents) }
 
-    // Whatever the root is: what was read, each block once, and on a refusal its cause.
+    // Whatever the root is: what was read, each block once, and maps that a store of these vdevs may
+    // load; and on a refusal its cause.
     ensures found { IfOk result
         (AreContentsFound store.old.spaces birth root.now left.old left.new) }
     ensures once { IfOk result (λ contents. AreDistinct contents.blocks.items) }
+    ensures sets { IfOk result (λ contents. AreSetsOf store.old.spaces contents.maps.items) }
     ensures refused { IfErr result (AreContentsRefused store.old store.new missing.now birth
         root.now left.old left.new) }
     ensures cause { IfErr result (λ refusal. refusal ≢ Refusal.Unread NoSpace) }

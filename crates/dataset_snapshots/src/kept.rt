@@ -1,14 +1,12 @@
 //! The directory under a root as it is kept in memory.
 ghost use Rattle.std.specs.Prelude.{◌≡◌, ◌+◌, ◌*◌, ◌<◌, IfOk, IfSome};
 
+use dataset_groups::FIRST_OBJECT;
 use meta_objset::{Directory, DirectoryRow};
 use objset::{Change, ObjectChange};
 use pool_maps::FreeMetaslab;
 use std::alloc::{AllocError, Global};
 use std::marker::Model;
-
-/// The number of the first object behind the tables.
-const FIRST_OBJECT: u64 = 5;
 
 /// Numbers in a row, from the first to the one before the end.
 #[derive(Debug, Clone, Copy)]

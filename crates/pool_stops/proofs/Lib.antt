@@ -20,3 +20,15 @@ pub mod Labels
 pub mod LabelStops
 pub mod OneConfigs
 pub mod WholeStops
+mod Lists
+mod Shapes
+mod Handed
+mod Children
+mod Scanned
+mod FoundDisks
+mod OwnHolding
+mod RunningOn
+mod StoppedDisks
+mod Arranging
+mod OwnReopening
+mod Fitting

@@ -9,3 +9,9 @@ pub mod Unhindered
 pub mod Configured
 pub mod OneConfig
 pub mod WholePools
+pub mod Own
+pub mod Handed
+pub mod Found
+pub mod OwnRunning
+pub mod Stopping
+pub mod OwnReopening

@@ -1,9 +1,14 @@
 //! What a stop leaves of a pool that runs with no disk out, and what an open makes of it. The bytes that are filled are the tree of each root: with
-//! them each step of a core goes through the phases of a commit, at any moment of which the disks lead to the pool.
+//! them each step of a core goes through the phases of a commit, at any moment of which the disks lead to the pool. Such disks may then be handed in
+//! in any order, and the pool of a possible group is found on them.
 #![tactic(auto)]
 
 mod configured;
+mod finding;
 mod laws;
+mod opening;
+mod running;
+mod stopping;
 mod whole_pools;
 
 pub use configured::{
@@ -13,6 +18,7 @@ pub use configured::{
     steps_stay_configured, stopped_exports_show_config, stopped_opens_are_of_config,
     stopped_opens_show_config, stopped_runs_show_config,
 };
+pub use finding::{found_disks_may_be_opened, own_disks_are_found, own_disks_are_ordered};
 pub use laws::{
     backed_plans_are_good, blocks_are_filled, blocks_keep_what_is_filled, commits_end_filled,
     created_pools_run, due_writes_are_unfilled, filled_bytes_are_for_blocks,
@@ -20,6 +26,17 @@ pub use laws::{
     plans_keep_the_phase, reads_keep_the_phase, running_pools_step_on, runs_outlive_stops,
     runs_stop_well, slots_begin_behind_blocks, slots_keep_what_is_for_blocks, stopped_exports_lead,
     stopped_opens_lead, stopped_steps_lead,
+};
+pub use opening::{
+    own_pools_open_again, stopped_exports_lead_to_own_pools, stopped_opens_lead_to_own_pools,
+    stopped_runs_lead_to_own_pools,
+};
+pub use running::{
+    created_pools_are_on_their_disks, opened_pools_are_on_their_disks, runs_stay_on_their_disks,
+};
+pub use stopping::{
+    led_disks_are_bound, own_disks_are_not_four, stopped_exports_leave_disks,
+    stopped_opens_are_of_sum, stopped_opens_leave_disks, stopped_runs_leave_disks,
 };
 pub use whole_pools::{
     stopped_exports_lead_whole, stopped_exports_reopen, stopped_opens_lead_whole,

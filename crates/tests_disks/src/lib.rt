@@ -7,6 +7,8 @@ mod arrays;
 #[cfg(test)]
 mod devices;
 #[cfg(test)]
+mod disk_sets;
+#[cfg(test)]
 mod extents;
 #[cfg(test)]
 mod fields;

@@ -22,7 +22,7 @@ use Rattle.pool_slots.specs.Possible.{Possible}
 use Rattle.pool_stops.specs.OneConfig.{IsRunningAs}
 use Rattle.pool_stops.specs.Reopening.{IsOpenedWell, LeadToPools}
 use Rattle.pool_stops.specs.Unhindered.{AreAllThere, HaveLeft, IsUnhindered, LeadToWholePools}
-use Rattle.pool_found.specs.Reopening.{AreReturned, IsRefusedTruly, LeadToOwnPools}
+use Rattle.pool_stops.specs.OwnReopening.{AreReturned, IsRefusedTruly, LeadToOwnPools}
 use Rattle.vdev_label.specs.Plain.{PlainVdev}
 
 -- the answers were true, and there are some disks and not too many

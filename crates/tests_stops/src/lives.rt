@@ -8,9 +8,11 @@ use block_store::VdevShape;
 use model_disk::{Disk, DiskArray, MemDisk, Member};
 use pool_create::create_over;
 use pool_format::PoolIdentity;
-use pool_found::{found_disks_may_be_opened, own_pools_open_again};
 use pool_open::{OpenedPool, Refusal, open, open_over, unfailing_opens_claim_once};
-use pool_stops::{created_pools_run_as, led_disks_open, unhindered_opens_are_done};
+use pool_stops::{
+    created_pools_run_as, found_disks_may_be_opened, led_disks_open, own_pools_open_again,
+    unhindered_opens_are_done,
+};
 use raidz_io::Vdev;
 use raidz_map::Geometry;
 use std::alloc::Global;

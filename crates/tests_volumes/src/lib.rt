@@ -3,6 +3,8 @@
 #![tactic(auto)]
 
 #[cfg(test)]
+mod bad_maps;
+#[cfg(test)]
 mod chains;
 #[cfg(test)]
 mod contents;

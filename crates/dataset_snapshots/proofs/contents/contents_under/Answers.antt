@@ -5,7 +5,7 @@ use Rattle.dnode_tree.proofs.FurtherReads.{true_before, true_after}
 use Rattle.dnode_tree.proofs.Refusing.{passed_on}
 use Rattle.object_table.proofs.Tables.{spaces_stay}
 use Rattle.pool_maps.proofs.Staying.{short_maps_there}
-use Rattle.pool_maps.specs.Loads.{AreFreeFound, AreReadMaps, HaveMaps}
+use Rattle.pool_maps.specs.Loads.{AreFreeFound, AreReadMaps, AreSetsOf, HaveMaps}
 use Rattle.pool_maps.specs.Maps.{AreRowsOf}
 use Rattle.space_map_objects.proofs.Unread.{lossy}
 use Rattle.space_map_objects.specs.declared.refusal.Refusal.TheVariants.{NoMemory}
@@ -187,3 +187,9 @@ returns-clause-found g c =
           (spaces_stay _ _ _ both) c.in_ok-meta.ensures.walked;
       maps = subst (λ (spaces : List VdevSpace). AreFreeFound spaces c.in_ok-meta.meta.set c.args.root.now.birth c.in_ok-maps.maps.items) (spaces_stay _ _ _ all) c.in_ok-maps.ensures.found;
     }
+
+pub returns-clause-sets : goal.returns-clause-sets
+returns-clause-sets g c =
+    let both = reads_on _ _ _ _ c.in_ok-directory.ensures.reads c.in_ok-names.ensures.reads in
+    let all = reads_on _ _ _ _ both c.in_ok-meta.ensures.reads in
+    subst (λ (spaces : List VdevSpace). AreSetsOf spaces c.in_ok-maps.maps.items) (spaces_stay _ _ _ all) c.in_ok-maps.ensures.sets

@@ -1,6 +1,6 @@
 use Rattle.std.proofs.Common.{List, inl, inr}
 use Rattle.model_disk.specs.declared.disk.Disk as disk
-use Rattle.pool_found.specs.Found.{FoundDisksMayBeOpened}
+use Rattle.pool_stops.specs.Found.{FoundDisksMayBeOpened}
 use Rattle.pool_open.specs.declared.refusal.Refusal.{Refusal}
 use Rattle.pool_open.specs.Opens.{OpenRefuses}
 use Rattle.tests_stops.specs.Lives.{FitsFound, IsRefusedAgain}

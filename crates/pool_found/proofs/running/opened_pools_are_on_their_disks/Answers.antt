@@ -1,5 +1,0 @@
-use Rattle.pool_found.proofs.RunningOn.{opened_pools_are_on_their_disks as law}
-use Rattle.pool_found.proofs.running.opened_pools_are_on_their_disks.Goals as goal
-
-pub returns : goal.returns
-returns c = law

@@ -1,5 +1,0 @@
-use Rattle.pool_found.proofs.StoppedDisks.{stopped_opens_are_of_sum as law}
-use Rattle.pool_found.proofs.stopping.stopped_opens_are_of_sum.Goals as goal
-
-pub returns : goal.returns
-returns c = law

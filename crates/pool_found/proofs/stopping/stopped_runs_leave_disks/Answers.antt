@@ -1,5 +1,0 @@
-use Rattle.pool_found.proofs.StoppedDisks.{stopped_runs_leave_disks as law}
-use Rattle.pool_found.proofs.stopping.stopped_runs_leave_disks.Goals as goal
-
-pub returns : goal.returns
-returns c = law

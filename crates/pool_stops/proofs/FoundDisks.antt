@@ -1,0 +1,299 @@
+-- A pool's own disks, handed in in any order, are found, and put in order.
+use Rattle.std.proofs.Common.{ℕ, ◌≡◌, inl, inr, ⊎_elim, ◌+◌, ◌<◌, ◌≤◌, Bool, true, false, List, [], ◌∷◌, length, map, slice_get, Option, Some, None, is_none, refl, sym, ap, subst, ◌∙◌, arith}
+use Rattle.std.specs.Prelude.{◌^◌, option_map}
+use Rattle.std.proofs.lemmas.List.{length-map}
+use Rattle.std.proofs.lemmas.Option.{slice_get-map, slice_get_past, slice_get_within}
+use Rattle.model_disk.specs.Joint.{Disks, bytes_of}
+use Rattle.raidz_io.proofs.Written.{slice_get_some}
+use Rattle.block_store.specs.Config.{IsAllowedSize, sectors_of, size_of}
+use Rattle.block_store.specs.Opened.{LieOn}
+use Rattle.block_store.specs.declared.shape.VdevShape.{VdevShape}
+use Rattle.uberblock_ring.specs.declared.uberblock.Uberblock.{Uberblock}
+use Rattle.vdev_label.specs.Config.{guid_sum}
+use Rattle.vdev_label.specs.Limits.{IsAllowed}
+use Rattle.vdev_label.specs.Plain.{PlainVdev, config_view, label_view}
+use Rattle.vdev_label.specs.declared.label.Label.{Label}
+use Rattle.pool_labels.specs.Choices.{AllAgree, Agree, AreAllMembers, AreEnough, AreTooFew, ChoiceRefuses, HasLastClaim, HasNoConfig, HasNoUberblock, IsFit, IsFound, IsGreatest, IsMember, IsTaken, IsValidAt}
+use Rattle.pool_labels.specs.Sizes.{HasSectors}
+use Rattle.pool_labels.specs.declared.refusal.Refusal.{Refusal}
+use Rattle.pool_labels.specs.declared.refusal.Refusal.TheVariants.{NoMemory, BadLabel, NoUberblock, TooManyMissing, PoolMismatch, BadConfig}
+use Rattle.pool_labels.specs.declared.scanned.Reading.{Reading}
+use Rattle.pool_labels.specs.declared.scanned.Reading.TheVariants.{Valid, Bad, Unreadable}
+use Rattle.pool_labels.specs.declared.scanned.Scan.{Scan}
+use Rattle.pool_labels.specs.declared.scanned.ScannedLabel.{ScannedLabel}
+use Rattle.pool_members.specs.declared.arranging.Child.{Child}
+use Rattle.pool_open.specs.Children.{all_children}
+use Rattle.pool_open.specs.Shapes.{AreShapesOf}
+use Rattle.pool_open.specs.Stops.{fresh}
+use Rattle.pool_open.proofs.Once.{FoundList}
+use Rattle.pool_slots.specs.Configs.{of_config as of_plain_config}
+use Rattle.pool_slots.specs.Opens.{IsHighestShown}
+use Rattle.pool_slots.specs.Slots.{InUse}
+use Rattle.pool_stops.proofs.Holding.{get_in_use}
+use Rattle.pool_stops.specs.Found.{AreChildren, OwnDisksAreFound, OwnDisksAreOrdered, ShowHighest}
+use Rattle.pool_stops.specs.Own.{disk_guids}
+use Rattle.pool_stops.proofs.Children.{IsChildAt, are_enough, at_child, length_children}
+use Rattle.pool_stops.proofs.Handed.{place_of_child}
+use Rattle.pool_stops.proofs.Scanned.{IsHanded, IsOwnAt, allowed_of, one_disk, own_at, read_shown, shown_read, slot_read, valid_shown}
+use Rattle.pool_stops.proofs.Shapes.{same_shapes}
+use Rattle.pool_stops.proofs.Lists.{below_or, same_lists, same_some}
+
+-- ---- labels agree
+
+agrees : (pool : ℕ) (vdevs : List PlainVdev) (order : List ℕ) (d e : ℕ) (r q : Reading) → IsAllowed pool vdevs
+    → ((child other place : ℕ) → slice_get order child ≡ Some place → slice_get order other ≡ Some place → child ≡ other)
+    → ((l : Label) → r ≡ Valid l → IsOwnAt pool vdevs order d l) → ((m : Label) → q ≡ Valid m → IsOwnAt pool vdevs order e m) → Agree d r e q
+agrees pool vdevs order d e (Valid l) (Valid m) allowed once a b =
+    let x = a l refl in
+    let y = b m refl in
+    record {
+      pool = x.own.pool_is ∙ sym y.own.pool_is;
+      same = λ is.
+          let child : x.child ≡ y.child = once x.child y.child e (x.at ∙ ap Some is) y.at in
+          x.own.guid_is ∙ same_some (slice_get (disk_guids vdevs) y.child) x.guid y.guid (ap (slice_get (disk_guids vdevs)) (sym child) ∙ x.named) y.named
+          ∙ sym y.own.guid_is;
+      apart = λ is.
+          let guid : x.guid ≡ y.guid = sym x.own.guid_is ∙ is ∙ y.own.guid_is in
+          let child : x.child ≡ y.child = one_disk pool vdevs x.child y.child y.guid allowed (x.named ∙ ap Some guid) y.named in
+          same_some (slice_get order y.child) d e (ap (slice_get order) (sym child) ∙ x.at) y.at;
+    }
+agrees pool vdevs order d e (Valid l) (Bad it) allowed once a b = tt
+agrees pool vdevs order d e (Valid l) Unreadable allowed once a b = tt
+agrees pool vdevs order d e (Bad it) q allowed once a b = tt
+agrees pool vdevs order d e Unreadable q allowed once a b = tt
+
+last_claim : (reading : Reading) → HasLastClaim reading → (l : Label) × (reading ≡ Valid l) × (2 ^ 62 ≤ l.claim)
+last_claim (Valid l) has = (l, refl, has)
+last_claim (Bad it) has = absurd has
+last_claim Unreadable has = absurd has
+
+not_true : (b : Bool) → ¬ (b ≡ true) → b ≡ false
+not_true true not = absurd (not refl)
+not_true false not = refl
+
+has_sectors : (size sectors : ℕ) → IsAllowedSize size → sectors ≤ sectors_of size → HasSectors size sectors
+has_sectors size sectors allowed room = omega (arith, allowed.least, room)
+
+is_some : (m : Option ℕ) (place : ℕ) → m ≡ Some place → is_none m ≡ false
+is_some m place is = ap is_none is
+
+some_disk : (starts : List (List ℕ)) (shapes : List VdevShape) → 1 ≤ length shapes → LieOn starts 0 shapes → 0 < length starts
+some_disk starts [] some lie = absurd (omega (arith, some))
+some_disk starts (shape ∷ shapes) some lie = omega (arith, lie.1.there, shape.vdev.geometry.has_data)
+
+module _ {pool : ℕ} {vdevs : List PlainVdev} {shapes : List VdevShape} {out : List Bool} {images handed : List (List ℕ)} {order : List ℕ}
+    {old new : Disks} {scan : Scan} where
+  all_agree : IsHanded pool vdevs shapes out images handed order old new scan → AllAgree scan.labels.items
+  all_agree it i j s t before at there =
+      agrees pool vdevs order s.disk t.disk s.reading t.reading it.are.allowed it.is.once (λ l is. own_at it j s l at is) (λ m is. own_at it i t m there is)
+
+  -- ---- sizes
+
+  -- each disk is as large as its vdev needs
+  child_is : IsHanded pool vdevs shapes out images handed order old new scan → (members : FoundList) → AreAllMembers scan vdevs members → (which guid : ℕ)
+      → slice_get (disk_guids vdevs) which ≡ Some guid → IsChildAt scan images (all_children vdevs members) 0 which guid
+  child_is it members are which guid at = at_child scan images vdevs 0 shapes members it.are.shapes_are it.are.there.may.lie are which guid at
+
+  -- ---- which disk is which
+
+  -- a child that was looked for is the disk in its place
+  member_is : IsHanded pool vdevs shapes out images handed order old new scan → (which guid place sectors : ℕ) (m : Option ℕ)
+      → slice_get (disk_guids vdevs) which ≡ Some guid → slice_get order which ≡ Some place → IsAllowedSize (size_of images which)
+      → sectors ≤ sectors_of (size_of images which) → IsMember scan sectors guid m → m ≡ Some place
+  member_is it which guid place sectors (Some q) named at allowed room member =
+      let mine = own_at it member.i member.s member.l member.at.at member.at.valid in
+      let same : mine.guid ≡ guid = sym mine.own.guid_is ∙ member.named in
+      let child : mine.child ≡ which = one_disk pool vdevs mine.child which guid it.are.allowed (mine.named ∙ ap Some same) named in
+      ap Some (sym member.disk ∙ same_some (slice_get order which) member.s.disk place (ap (slice_get order) (sym child) ∙ mine.at) at)
+  member_is it which guid place sectors None named at allowed room member =
+      let shown = it.are.own.labeled which (omega (arith, slice_get_within order which place at, it.is.count)) in
+      let read = shown_read it which place shown.0 shown.1 at allowed shown.2 in
+      let mine = own_at it read.0 read.1 read.2 read.3.at read.3.valid in
+      let child : mine.child ≡ which = it.is.once mine.child which place (mine.at ∙ ap Some read.4) at in
+      let guid_is : mine.guid ≡ guid =
+      same_some (slice_get (disk_guids vdevs) which) mine.guid guid (ap (slice_get (disk_guids vdevs)) (sym child) ∙ mine.named) named in
+      let below : place < length old.starts = omega (arith, (it.is.each which place at).0, ap length it.uncalled.starts_are) in
+      let d = slice_get_some scan.disks.items place (omega (arith, below, it.read.count)) in
+      let scanned = it.read.disks place d.0 d.1 in
+      let bytes : bytes_of old.starts place ≡ bytes_of images which = ap (λ starts. bytes_of starts place) it.uncalled.starts_are ∙ (it.is.each which place at).1 in
+      let size : d.0.size ≡ size_of images which = scanned.size ∙ ap length bytes in
+      absurd (member place (record {
+        i = read.0;
+        s = read.1;
+        l = read.2;
+        at = read.3;
+        disk = read.4;
+        named = mine.own.guid_is ∙ guid_is;
+        usable = record {
+          d = d.0;
+          at = d.1;
+          whole = not_true d.0.failed (λ failed. it.truly.none_failed place (scanned.failed.0 failed));
+          room = subst (λ n. HasSectors n sectors) (sym size) (has_sectors (size_of images which) sectors allowed room);
+        };
+      }))
+
+  -- none is absent
+  found_is : IsHanded pool vdevs shapes out images handed order old new scan → (members : FoundList) → AreAllMembers scan vdevs members → (which place : ℕ)
+      → slice_get order which ≡ Some place
+      → (child : Child) × (slice_get (all_children vdevs members) which ≡ Some child) × (child.disk ≡ Some place)
+  found_is it members are which place at =
+      let guid = slice_get_some (disk_guids vdevs) which (omega (arith, slice_get_within order which place at, it.is.count, it.are.own.count)) in
+      let c = child_is it members are which guid.0 guid.1 in
+      let same : 0 + which ≡ which = omega arith in
+      let allowed = subst (λ n. IsAllowedSize (size_of images n)) same c.allowed in
+      let room = subst (λ n. c.sectors ≤ sectors_of (size_of images n)) same c.room in
+      (c.child, c.at, member_is it which guid.0 place c.sectors c.child.disk guid.1 at allowed room c.member)
+
+  all_found : IsHanded pool vdevs shapes out images handed order old new scan → (members : FoundList) → AreAllMembers scan vdevs members → (which : ℕ)
+      (child : Child) → slice_get (all_children vdevs members) which ≡ Some child → is_none child.disk ≡ false
+  all_found it members are which child at =
+      let below : which < length order =
+      omega (arith, slice_get_within (all_children vdevs members) which child at, length_children scan vdevs members are, it.are.own.count, it.is.count) in
+      let place = slice_get_some order which below in
+      let found = found_is it members are which place.0 place.1 in
+      let same : found.0 ≡ child = same_some (slice_get (all_children vdevs members) which) found.0 child found.1 at in
+      is_some child.disk place.0 (ap (λ (c : Child). c.disk) (sym same) ∙ found.2)
+
+  -- ---- uberblocks
+
+  -- the highest that was read is the highest that they show
+  highest_shown : IsHanded pool vdevs shapes out images handed order old new scan → (u : Uberblock) → IsGreatest scan.slots.items u → IsHighestShown out (fresh images) u
+  highest_shown it u top = record {
+    shown = read_shown it top.i u top.has;
+    greatest = λ v shown.
+        let below : shown.which < length images = omega (arith, slice_get_within out shown.which false shown.used, it.are.there.may.flags) in
+        let place = place_of_child images handed order shown.which it.is below in
+        let read = slot_read it shown.which place.0 v place.1 (allowed_of it shown.which below) shown.on in
+        top.greatest read.0 v read.1;
+  }
+
+  -- the first disk
+  first_place : IsHanded pool vdevs shapes out images handed order old new scan → (place : ℕ) × (slice_get order 0 ≡ Some place)
+  first_place it = place_of_child images handed order 0 it.is (some_disk images shapes it.are.there.may.some it.are.there.may.lie)
+
+  first_used : IsHanded pool vdevs shapes out images handed order old new scan → InUse out 0
+  first_used it =
+      let some = some_disk images shapes it.are.there.may.some it.are.there.may.lie in
+      get_in_use out 0 (omega (arith, some, it.are.there.may.flags)) (it.are.there.none 0)
+
+  -- some slot was read, it may be taken, and groups and claims are left
+  not_without : IsHanded pool vdevs shapes out images handed order old new scan → ShowHighest vdevs out (fresh images) → HasNoUberblock scan 0 → ⊥
+  not_without it shows (inl none) =
+      let place = first_place it in
+      let one = shows.each 0 (first_used it) in
+      let below = some_disk images shapes it.are.there.may.some it.are.there.may.lie in
+      let read = slot_read it 0 place.0 one.0 place.1 (allowed_of it 0 below) one.1 in
+      none read.0 one.0 read.1
+  not_without it shows (inr (inl (u, top, none))) = none top.i u top.has (refl, omega arith)
+  not_without it shows (inr (inr (highest, u, taken, inl group))) = omega (arith, group, shows.left.groups u (read_shown it taken.i u taken.has))
+  not_without it shows (inr (inr (highest, u, taken, inr (inl (i, v, has, claim))))) =
+      shows.left.claims highest (highest_shown it highest taken.top) (inl (⊎_elim
+      (λ below. omega (arith, below, claim))
+      (λ same. omega (arith, same.0, claim))
+      (taken.top.greatest i v has)))
+  not_without it shows (inr (inr (highest, u, taken, inr (inr (i, s, at, has))))) =
+      let l = last_claim s.reading has in
+      let seen = valid_shown it i s l.0 at l.1 in
+      shows.left.claims highest (highest_shown it highest taken.top) (inr (
+        label_view l.0,
+        record {
+          which = seen.0;
+          used = get_in_use out seen.0 (omega (arith, seen.2, it.are.there.may.flags)) (it.are.there.none seen.0);
+          number = s.number;
+          shown = seen.3;
+        },
+        l.2,
+      ))
+
+  -- what was taken is the highest that they show
+  taken_shown : IsHanded pool vdevs shapes out images handed order old new scan → (highest u : Uberblock) → IsTaken scan.slots.items 0 highest u
+      → IsHighestShown out (fresh images) u
+  taken_shown it highest u taken = subst (λ w. IsHighestShown out (fresh images) w) (sym (taken.itself refl)) (highest_shown it highest taken.top)
+
+  -- ---- the configuration
+
+  -- of a valid label it is the pool's
+  config_of : IsHanded pool vdevs shapes out images handed order old new scan → (i : ℕ) (s : ScannedLabel) (l : Label) → IsValidAt scan.labels.items i s l
+      → config_view l.config ≡ vdevs
+  config_of it i s l at = (own_at it i s l at.at at.valid).own.config_is
+
+  fits : IsHanded pool vdevs shapes out images handed order old new scan → ShowHighest vdevs out (fresh images) → (u : Uberblock) → IsHighestShown out (fresh images) u
+      → (i : ℕ) (s : ScannedLabel) (l : Label) → IsValidAt scan.labels.items i s l → IsFit l u
+  fits it shows u top i s l at =
+      let own = (own_at it i s l at.at at.valid).own in
+      record {
+        allowed = subst (λ n. IsAllowed n (config_view l.config)) (sym own.pool_is) (subst (λ vs. IsAllowed pool vs) (sym own.config_is) it.are.allowed);
+        sum = ap guid_sum own.config_is ∙ sym (shows.sum u top);
+      }
+
+  not_unconfigured : IsHanded pool vdevs shapes out images handed order old new scan → ShowHighest vdevs out (fresh images) → (highest u : Uberblock)
+      → IsFound scan 0 highest u → HasNoConfig scan.labels.items u → ⊥
+  not_unconfigured it shows highest u found (inl none) =
+      let place = first_place it in
+      let below = some_disk images shapes it.are.there.may.some it.are.there.may.lie in
+      let label = shows.configured u (taken_shown it highest u found.taken) 0 (first_used it) in
+      let read = shown_read it 0 place.0 label.number label.label place.1 (allowed_of it 0 below) label.shown in
+      none read.0 read.1 read.2 read.3 (subst (λ l. of_plain_config u.config_digest l) read.5 label.config)
+  not_unconfigured it shows highest u found (inr (i, s, l, source, unfit)) =
+      unfit (fits it shows u (taken_shown it highest u found.taken) i s l source.at)
+
+  not_too_few : IsHanded pool vdevs shapes out images handed order old new scan → AreTooFew scan 0 → ⊥
+  not_too_few it few =
+      let c = few.configured in
+      let same : config_view few.l.config ≡ vdevs = config_of it few.i c.s few.l c.source.at in
+      let members = subst (λ vs. AreAllMembers scan vs few.few.all) same few.few.members in
+      few.few.few (subst (λ vs. AreEnough vs few.few.all) (sym same) (are_enough scan vdevs few.few.all members (all_found it few.few.all members)))
+
+  refused_so : IsHanded pool vdevs shapes out images handed order old new scan → ShowHighest vdevs out (fresh images) → (refusal : Refusal) → ChoiceRefuses scan 0 refusal
+      → refusal ≡ NoMemory
+  refused_so it shows NoMemory why = refl
+  refused_so it shows (BadLabel breach) why =
+      let place = first_place it in
+      let below = some_disk images shapes it.are.there.may.some it.are.there.may.lie in
+      let shown = it.are.own.labeled 0 below in
+      let read = shown_read it 0 place.0 shown.0 shown.1 place.1 (allowed_of it 0 below) shown.2 in
+      absurd (why.0 (record { i = read.0; s = read.1; l = read.2; at = read.3 }))
+  refused_so it shows PoolMismatch why = absurd (why.1 (all_agree it))
+  refused_so it shows NoUberblock why = absurd (not_without it shows why.2)
+  refused_so it shows BadConfig (highest, u, found, none) = absurd (not_unconfigured it shows highest u found none)
+  refused_so it shows TooManyMissing why = absurd (not_too_few it why)
+
+-- ---- the laws
+
+pub own_disks_are_found : OwnDisksAreFound
+own_disks_are_found pool vdevs shapes out images handed order old new refusal are shows is uncalled truly why = ⊎_elim
+    (λ memory. memory)
+    (λ (scan, read, refuses). refused_so (record { are = are; is = is; uncalled = uncalled; truly = truly; read = read }) shows refusal refuses)
+    why
+
+-- the disks of children, in order
+ordered_as : (pool : ℕ) (vdevs : List PlainVdev) (shapes : List VdevShape) (out : List Bool) (images handed : List (List ℕ)) (order : List ℕ) (old new : Disks)
+    (scan : Scan) (members : FoundList) → IsHanded pool vdevs shapes out images handed order old new scan → AreAllMembers scan vdevs members
+    → AreChildren order (all_children vdevs members)
+ordered_as pool vdevs shapes out images handed order old new scan members it are =
+    let children : List Child = all_children vdevs members in
+    let count : length children ≡ length order = length_children scan vdevs members are ∙ sym it.are.own.count ∙ sym it.is.count in
+    same_lists (map Some order) (map (λ (c : Child). c.disk) children) (λ k. ⊎_elim
+    (λ (below : k < length order).
+    let place = slice_get_some order k below in
+    let found = found_is it members are k place.0 place.1 in
+    slice_get-map (λ (c : Child). c.disk) children k ∙ ap (option_map (λ (c : Child). c.disk)) found.1 ∙ ap Some found.2
+    ∙ sym (slice_get-map Some order k ∙ ap (option_map Some) place.1))
+    (λ (past : length order ≤ k).
+    slice_get_past (map (λ (c : Child). c.disk) children) k (omega (arith, past, count, length-map children (λ (c : Child). c.disk)))
+    ∙ sym (slice_get_past (map Some order) k (omega (arith, past, length-map order Some))))
+    (below_or k (length order)))
+
+pub own_disks_are_ordered : OwnDisksAreOrdered
+own_disks_are_ordered pool vdevs shapes out images handed order old new rewind layout are is uncalled truly laid =
+    let it : IsHanded pool vdevs shapes out images handed order old new laid.scan =
+    record { are = are; is = is; uncalled = uncalled; truly = truly; read = laid.read } in
+    let c = laid.chosen.configured in
+    let same : config_view laid.chosen.l.config ≡ vdevs = config_of it laid.choice.source c.s laid.chosen.l c.source.at in
+    let members = subst (λ vs. AreAllMembers laid.scan vs laid.choice.members.items) same laid.chosen.members in
+    let children : layout.children.items ≡ all_children vdevs laid.choice.members.items =
+    laid.laid_out.children ∙ ap (λ vs. all_children vs laid.choice.members.items) same in (
+      subst (λ (them : List Child). AreChildren order them) (sym children)
+          (ordered_as pool vdevs shapes out images handed order old new laid.scan laid.choice.members.items it members),
+      same_shapes vdevs 0 layout.shapes.items shapes (subst (λ vs. AreShapesOf vs 0 layout.shapes.items) same laid.laid_out.shapes) are.shapes_are,
+    )

@@ -1,0 +1,271 @@
+-- Pools are opened again on their own disks.
+use Rattle.std.proofs.Common.{ℕ, ◌≡◌, ⊎_elim, inl, inr, ◌<◌, ◌≤◌, Bool, List, [], length, map, Option, Some, refl, sym, ap, subst, ◌∙◌, arith}
+use Rattle.model_disk.specs.Joint.{Disks, bytes_of, content}
+use Rattle.model_disk.specs.declared.disk.Disk as disk
+use Rattle.raidz_io.specs.Reads.{IsHonestSince}
+use Rattle.block_store.specs.declared.shape.VdevShape.{VdevShape}
+use Rattle.uberblock_ring.specs.declared.uberblock.Uberblock.{Uberblock}
+use Rattle.vdev_label.specs.Plain.{PlainVdev}
+use Rattle.pool_core.specs.State.{CoreState, disks_of}
+use Rattle.pool_model.specs.Pools.{PlainPool}
+use Rattle.pool_open.specs.Causes.{of_labels}
+use Rattle.pool_open.specs.Opening.{IsKeptThrough, IsNotOpenedOver, IsOpenedOver}
+use Rattle.std.specs.Prelude.{◌^◌}
+use Rattle.pool_open.specs.Opens.{OpenRefuses}
+use Rattle.pool_open.specs.Stops.{fresh}
+use Rattle.pool_open.specs.declared.refusal.Refusal.{Refusal}
+use Rattle.pool_open.specs.declared.refusal.Refusal.TheVariants.{NoMemory}
+use Rattle.pool_open.proofs.Retried.{undiminished_opens_claim_once, unfailing_opens_claim_once}
+use Rattle.pool_slots.specs.Commits.{AreOffLabels}
+use Rattle.pool_slots.specs.Configs.{IsConfigured}
+use Rattle.pool_slots.specs.Marks.{IsUsedUp}
+use Rattle.pool_slots.specs.Labels.{IsLabelShown}
+use Rattle.pool_slots.specs.Opens.{IsHighestShown, IsRead, IsReadOn, IsShownOn}
+use Rattle.pool_slots.specs.Possible.{IsInReach, Leads, Possible}
+use Rattle.pool_stops.specs.OneConfig.{IsOpenedAs, OpenedPoolsRunAs, StoppedOpensAreOfConfig}
+use Rattle.pool_stops.specs.Reopening.{AreByGroup, IsPossibleBehind, LeavesImages}
+use Rattle.pool_stops.specs.Unhindered.{AnswerTruly, AreAllThere, HaveLeft, LeadToWholePools, UnhinderedOpensAreDone}
+use Rattle.pool_stops.specs.WholePools.{StoppedExportsLeadWhole, StoppedOpensLeadWhole, StoppedRunsLeadWhole}
+use Rattle.pool_stops.proofs.LabelStops.{is_allowed, not_far, ranks_above}
+use Rattle.pool_stops.proofs.Whole.{WholeTreeOf}
+use Rattle.pool_stops.specs.Found.{ShowHighest}
+use Rattle.pool_stops.specs.Own.{AreDisksOf, IsLabeled, IsOwnDisk}
+use Rattle.pool_stops.specs.OwnReopening.{AreReturned, IsRefusedTruly, LeadToOwnPools, OwnPoolsOpenAgain, StoppedExportsLeadToOwnPools, StoppedOpensLeadToOwnPools, StoppedRunsLeadToOwnPools}
+use Rattle.pool_stops.specs.OwnRunning.{IsOnItsDisks, OpenedPoolsAreOnTheirDisks, RunsStayOnTheirDisks}
+use Rattle.pool_stops.specs.Stopping.{AreLabelsUntorn, LedDisksAreBound, OwnDisksAreNotFour, StoppedExportsLeaveDisks, StoppedOpensAreOfSum, StoppedOpensLeaveDisks, StoppedRunsLeaveDisks}
+use Rattle.pool_stops.proofs.Arranging.{IsArranged, is_arranged, uncalled_yet}
+use Rattle.pool_stops.proofs.FoundDisks.{own_disks_are_found}
+
+-- ---- what such disks show
+
+-- the highest uberblock that they show is one that an open may come to
+highest_reached : (pool : ℕ) (vdevs : List PlainVdev) (digest : List ℕ) (images : List (List ℕ)) (shapes : List VdevShape) (out : List Bool) (p : Possible)
+    (pools : Uberblock → PlainPool) → LeadToOwnPools pool vdevs digest images shapes out p pools → (u : Uberblock) → IsHighestShown out (fresh images) u
+    → IsInReach p u
+highest_reached pool vdevs digest images shapes out p pools it u top =
+    let trees = it.led.led.trees in
+    let can = it.led.led.can in
+    ⊎_elim
+    (λ far. absurd (not_far p.last u u 0 (omega arith) (ranks_above trees out (fresh images) p u can top) (refl, omega arith) far))
+    (λ possible. possible.0)
+    (is_allowed trees out (fresh images) p u can top.shown)
+
+show_highest : (pool : ℕ) (vdevs : List PlainVdev) (digest : List ℕ) (images : List (List ℕ)) (shapes : List VdevShape) (out : List Bool) (p : Possible)
+    (pools : Uberblock → PlainPool) → LeadToOwnPools pool vdevs digest images shapes out p pools → HaveLeft out (fresh images)
+    → ShowHighest vdevs out (fresh images)
+show_highest pool vdevs digest images shapes out p pools it left = record {
+  each = λ which used.
+      let top = (it.led.led.can.leads which used).top in
+      (top.u, record { label = top.label; slot = top.slot; is_slot = top.is_slot; shows = top.shows });
+  configured = λ u top which used.
+      it.led.configured u (highest_reached pool vdevs digest images shapes out p pools it u top) which used;
+  sum = λ u top. it.sums u (highest_reached pool vdevs digest images shapes out p pools it u top);
+  left = left;
+}
+
+-- ---- the array has what the images have
+
+module _ {images : List (List ℕ)} {shapes : List VdevShape} {out : List Bool} {array : Disks} {its_shapes : List VdevShape} {its_out : List Bool} where
+  -- what holds of starts and bytes
+  same_of : (P : List (List ℕ) → (ℕ → ℕ → Option ℕ) → Type 0) → IsArranged images shapes out array its_shapes its_out → P images (content (fresh images))
+      → P array.starts (content array)
+  same_of P is it =
+      let Q : List (List ℕ) × (ℕ → ℕ → Option ℕ) → Type 0 = λ x. P x.0 x.1 in
+      subst Q (λ j. (sym is.starts j, sym is.contents j)) it
+
+  back_of : (P : List (List ℕ) → (ℕ → ℕ → Option ℕ) → Type 0) → IsArranged images shapes out array its_shapes its_out → P array.starts (content array)
+      → P images (content (fresh images))
+  back_of P is it =
+      let Q : List (List ℕ) × (ℕ → ℕ → Option ℕ) → Type 0 = λ x. P x.0 x.1 in
+      subst Q (λ j. (is.starts j, is.contents j)) it
+
+  lead_so : (p : Possible) (pools : Uberblock → PlainPool) → IsArranged images shapes out array its_shapes its_out → LeadToWholePools (fresh images) shapes out p pools
+      → LeadToWholePools array shapes out p pools
+  lead_so p pools is it =
+      let trees = it.led.trees in
+      let can = it.led.can in
+      let each : (u : Uberblock) → IsInReach p u → WholeTreeOf trees array.starts shapes out u (pools u) =
+      λ u reach. subst (λ s. WholeTreeOf trees s shapes out u (pools u)) (sym is.starts) (record { tree = it.led.tree u reach; whole = it.whole u reach }) in
+      record {
+        led = record {
+          trees = trees;
+          can = record {
+            some = can.some;
+            off_labels = subst (λ s. AreOffLabels trees out s) (sym is.starts) can.off_labels;
+            known = λ which used.
+                same_of (λ s held. (i : ℕ) → i < length (bytes_of s which) → (value : ℕ) × (held which i ≡ Some value)) is (can.known which used);
+            settled = λ which used. is.settled which;
+            leads = same_of (λ s held. Leads trees out s held p) is can.leads;
+          };
+          tree = λ u reach. (each u reach).tree;
+        };
+        whole = λ u reach. (each u reach).whole;
+        configured = λ u reach which used.
+            same_of (λ s held. IsConfigured (length (bytes_of s which)) (held which) u.config_digest) is (it.configured u reach which used);
+      }
+
+  all_there_so : IsArranged images shapes out array its_shapes its_out → AreAllThere images shapes out → AreAllThere array.starts shapes out
+  all_there_so is there = subst (λ s. AreAllThere s shapes out) (sym is.starts) there
+
+  are_so : (pool : ℕ) (vdevs : List PlainVdev) → IsArranged images shapes out array its_shapes its_out → AreDisksOf pool vdevs shapes out (fresh images)
+      → AreDisksOf pool vdevs shapes out array
+  are_so pool vdevs is are = record {
+    allowed = are.allowed;
+    shapes_are = are.shapes_are;
+    there = all_there_so is are.there;
+    own = record {
+      count = ap length is.starts ∙ are.own.count;
+      each = λ which guid named.
+          same_of (λ s held. IsOwnDisk pool vdevs guid (length (bytes_of s which)) (held which)) is (are.own.each which guid named);
+      labeled = λ which below.
+          same_of (λ s held. IsLabeled (length (bytes_of s which)) (held which)) is
+          (are.own.labeled which (omega (arith, below, ap length is.starts)));
+    };
+  }
+
+  -- what is read of the array is read of the images
+  read_back : IsArranged images shapes out array its_shapes its_out → (u : Uberblock) → IsRead out array u → IsRead out (fresh images) u
+  read_back is u read = record {
+    which = read.which;
+    used = read.used;
+    on = back_of (λ s held. IsReadOn (length (bytes_of s read.which)) (held read.which) u) is read.on;
+  }
+
+  highest_back : IsArranged images shapes out array its_shapes its_out → (u : Uberblock) → IsHighestShown out array u → IsHighestShown out (fresh images) u
+  highest_back is u top = record {
+    shown = read_back is u top.shown;
+    greatest = λ v shown. top.greatest v (record {
+      which = shown.which;
+      used = shown.used;
+      on = same_of (λ s held. IsShownOn (length (bytes_of s shown.which)) (held shown.which) v) is shown.on;
+    });
+  }
+
+  used_up_back : IsArranged images shapes out array its_shapes its_out → (u : Uberblock) → IsUsedUp out array u → IsUsedUp out (fresh images) u
+  used_up_back is u (inl claim) = inl claim
+  used_up_back is u (inr (l, shown, claim)) = inr (
+    l,
+    record {
+      which = shown.which;
+      used = shown.used;
+      number = shown.number;
+      shown = back_of (λ s held. IsLabelShown (length (bytes_of s shown.which)) (held shown.which) shown.number l) is shown.shown;
+    },
+    claim,
+  )
+
+-- ---- an open of them
+
+unopened_so : UnhinderedOpensAreDone → (images : List (List ℕ)) (shapes : List VdevShape) (out : List Bool) (p : Possible) (pools : Uberblock → PlainPool)
+    (array : Disks) (its_shapes : List VdevShape) (its_out : List Bool) (refusal : Refusal) → IsArranged images shapes out array its_shapes its_out
+    → LeadToWholePools (fresh images) shapes out p pools → AreAllThere images shapes out → HaveLeft out (fresh images)
+    → (is : IsNotOpenedOver array its_shapes its_out 0 refusal) → AnswerTruly array is.new → refusal ≡ NoMemory
+unopened_so law images shapes out p pools array its_shapes its_out refusal are led there left =
+    let P : List VdevShape × List Bool → Type 0 = λ x. (is : IsNotOpenedOver array x.0 x.1 0 refusal) → AnswerTruly array is.new → refusal ≡ NoMemory in
+    subst P (λ j. (sym are.shapes_are j, sym are.out_is j))
+    (λ is truly.
+    law array shapes out p pools refusal (lead_so p pools are led) (all_there_so are there) is (record {
+      left = record {
+        groups = λ u read. left.groups u (read_back are u read);
+        claims = λ u top used. left.claims u (highest_back are u top) (used_up_back are u used);
+      };
+      truly = truly;
+    }))
+
+opened_so : OpenedPoolsRunAs → OpenedPoolsAreOnTheirDisks → (pool : ℕ) (vdevs : List PlainVdev) (digest : List ℕ) (images : List (List ℕ))
+    (shapes : List VdevShape) (out : List Bool) (p : Possible) (pools : Uberblock → PlainPool) (array : Disks) (its_shapes : List VdevShape)
+    (its_out : List Bool) (rewind : ℕ) (claimed : Uberblock) (core : CoreState) → LeadToOwnPools pool vdevs digest images shapes out p pools
+    → IsArranged images shapes out array its_shapes its_out → length images ≤ 2 ^ 64 → IsHonestSince array (disks_of core)
+    → (is : IsOpenedOver array its_shapes its_out rewind claimed core) → is.later ≡ its_out
+    → IsOpenedAs digest p pools shapes out rewind claimed core × IsOnItsDisks pool vdevs core claimed []
+opened_so runs own pool vdevs digest images shapes out p pools array its_shapes its_out rewind claimed core it are few honest =
+    let Goal : Type 0 = IsOpenedAs digest p pools shapes out rewind claimed core × IsOnItsDisks pool vdevs core claimed [] in
+    let P : List VdevShape × List Bool → Type 0 = λ x. (is : IsOpenedOver array x.0 x.1 rewind claimed core) → is.later ≡ x.1 → Goal in
+    let led = lead_so p pools are it.led in
+    subst P (λ j. (sym are.shapes_are j, sym are.out_is j))
+    (λ is all. (
+      runs array shapes out rewind p pools claimed core digest it.one led.led is all it.are.there.none (omega (arith, few, ap length are.starts)) honest,
+      own pool vdevs array shapes out rewind p pools claimed core (are_so pool vdevs are it.are) it.sums led.led is all honest,
+    ))
+
+stopped_so : StoppedOpensLeadToOwnPools → (pool : ℕ) (vdevs : List PlainVdev) (digest : List ℕ) (images : List (List ℕ)) (shapes : List VdevShape)
+    (out : List Bool) (p : Possible) (pools : Uberblock → PlainPool) (array new : Disks) (its_shapes : List VdevShape) (its_out : List Bool) (rewind : ℕ)
+    (left : List (List ℕ)) → LeadToOwnPools pool vdevs digest images shapes out p pools → IsArranged images shapes out array its_shapes its_out → rewind < 3
+    → AreByGroup pools → IsHonestSince array new → IsKeptThrough its_out rewind array new → (leaves : LeavesImages its_out array new left)
+    → AreLabelsUntorn array.starts leaves.calls left
+    → (later : Possible) × IsPossibleBehind p rewind later × LeadToOwnPools pool vdevs digest left shapes out later pools
+stopped_so law pool vdevs digest images shapes out p pools array new its_shapes its_out rewind left it are few by_group honest =
+    let Goal : Type 0 = (later : Possible) × IsPossibleBehind p rewind later × LeadToOwnPools pool vdevs digest left shapes out later pools in
+    let P : List Bool → Type 0 = λ o. IsKeptThrough o rewind array new → (leaves : LeavesImages o array new left) → AreLabelsUntorn array.starts leaves.calls left → Goal in
+    subst P (sym are.out_is)
+    (λ kept leaves untorn.
+    law pool vdevs digest array new shapes out rewind p pools left few by_group (are_so pool vdevs are it.are) (lead_so p pools are it.led) it.one it.sums kept honest
+    leaves untorn)
+
+module _ {D : Type 0} where
+  refused_so : UnhinderedOpensAreDone → (g : disk.Ghosts D) (pool : ℕ) (vdevs : List PlainVdev) (digest : List ℕ) (images : List (List ℕ))
+      (shapes : List VdevShape) (out : List Bool) (p : Possible) (pools : Uberblock → PlainPool) (disks : List D) (order : List ℕ) (refusal : Refusal)
+      → LeadToOwnPools pool vdevs digest images shapes out p pools → AreReturned g images disks order → HaveLeft out (fresh images)
+      → (why : OpenRefuses g disks 0 refusal) → IsRefusedTruly g disks 0 refusal why → refusal ≡ NoMemory
+  refused_so law g pool vdevs digest images shapes out p pools disks order refusal it returned left (inl (cause, same, found)) truly =
+      same ∙ ap of_labels (own_disks_are_found pool vdevs shapes out images (map g.start disks) order found.old found.new cause it.are
+      (show_highest pool vdevs digest images shapes out p pools it left) returned.handed_in
+      (uncalled_yet g images disks order found.old returned found.read.before) truly found.cause)
+  refused_so law g pool vdevs digest images shapes out p pools disks order refusal it returned left (inr found) truly =
+      let once = unfailing_opens_claim_once found.array found.shapes found.out 0 refusal found.refused truly.1.none_failed in
+      unopened_so law images shapes out p pools found.array found.shapes found.out refusal
+      (is_arranged g pool vdevs images shapes out disks order 0 found.array found.shapes found.out it.are returned found.ordered truly.0)
+      it.led it.are.there left once.0 (subst (λ (d : Disks). AnswerTruly found.array d) (sym once.1) truly.1)
+
+  pub own_pools_open_again : UnhinderedOpensAreDone → OpenedPoolsRunAs → OpenedPoolsAreOnTheirDisks → StoppedOpensLeadToOwnPools → (g : disk.Ghosts D)
+      → OwnPoolsOpenAgain g
+  own_pools_open_again law runs own stop g pool vdevs digest images shapes out p pools it = record {
+    refused = λ disks order refusal returned left why truly.
+        refused_so law g pool vdevs digest images shapes out p pools disks order refusal it returned left why truly;
+    done = λ disks order rewind claimed core returned is truly few.
+        let once = undiminished_opens_claim_once is.array is.shapes is.out rewind claimed core is.opened truly.all in
+        opened_so runs own pool vdevs digest images shapes out p pools is.array is.shapes is.out rewind claimed core it
+        (is_arranged g pool vdevs images shapes out disks order rewind is.array is.shapes is.out it.are returned is.ordered truly.found) few truly.honest
+        once.0 once.1;
+    stopped = λ disks order rewind array new its_shapes its_out left few by_group returned ordered truly kept honest leaves untorn.
+        stopped_so stop pool vdevs digest images shapes out p pools array new its_shapes its_out rewind left it
+        (is_arranged g pool vdevs images shapes out disks order rewind array its_shapes its_out it.are returned ordered truly) few by_group honest kept leaves untorn;
+  }
+
+-- ---- what stops leave
+
+pub stopped_runs_lead_to_own_pools : RunsStayOnTheirDisks → StoppedRunsLeadWhole → StoppedRunsLeaveDisks → StoppedRunsLeadToOwnPools
+stopped_runs_lead_to_own_pools stay lead leave pool vdevs old mid new v between w steps replies step reply last before digest images so on end none leaves =
+    let it = stay pool vdevs old mid new v between w steps replies step reply last before digest so on end none in (
+      it.0,
+      record {
+        are = leave pool vdevs digest mid between new w images it.0 it.1 leaves;
+        led = lead digest mid between new w images it.0 leaves;
+        one = it.0.one;
+        sums = it.1.sums;
+      },
+    )
+
+pub stopped_opens_lead_to_own_pools : StoppedOpensLeadWhole → StoppedOpensAreOfConfig → OwnDisksAreNotFour → LedDisksAreBound → StoppedOpensLeaveDisks
+    → StoppedOpensAreOfSum → StoppedOpensLeadToOwnPools
+stopped_opens_lead_to_own_pools lead config not_four bound leave sum pool vdevs digest old new shapes out rewind p pools images few by_group are led one sums kept honest
+    leaves untorn =
+    let it = lead digest old new shapes out rewind p pools images few are.there.may.flags by_group one led (bound digest old shapes out p pools are.there led one)
+    (not_four pool vdevs shapes out old are) kept honest leaves in (
+      it.0,
+      it.1,
+      record {
+        are = leave pool vdevs digest old new shapes out rewind p pools images few are led one kept honest leaves untorn;
+        led = it.2;
+        one = config p it.0 rewind digest one it.1;
+        sums = sum vdevs p it.0 rewind sums it.1;
+      },
+    )
+
+pub stopped_exports_lead_to_own_pools : StoppedExportsLeadWhole → StoppedExportsLeaveDisks → StoppedExportsLeadToOwnPools
+stopped_exports_lead_to_own_pools lead leave pool vdevs digest core v last before exported new images so on begun known honest leaves untorn = record {
+  are = leave pool vdevs digest core v last before exported new images so on begun known honest leaves untorn;
+  led = lead digest core v last before exported new images so begun leaves;
+  one = so.one;
+  sums = on.sums;
+}

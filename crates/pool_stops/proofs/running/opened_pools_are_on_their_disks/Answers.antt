@@ -1,0 +1,5 @@
+use Rattle.pool_stops.proofs.RunningOn.{opened_pools_are_on_their_disks as law}
+use Rattle.pool_stops.proofs.running.opened_pools_are_on_their_disks.Goals as goal
+
+pub returns : goal.returns
+returns c = law

@@ -1,0 +1,112 @@
+-- Pools are opened again on their own disks, handed in in any order.
+use Rattle.std.specs.Prelude.{ℕ, ◌≡◌, ◌<◌, ◌≤◌, ◌^◌, Bool, [], List, length, map, Contains}
+use mathlib.Core.Logic.{inl, inr}
+use Rattle.model_disk.specs.Joint.{Disks}
+use Rattle.model_disk.specs.declared.disk.Disk as disk
+use Rattle.raidz_io.specs.Reads.{IsHonestSince}
+use Rattle.block_store.specs.Places.{shapes_of}
+use Rattle.block_store.specs.declared.shape.VdevShape.{VdevShape}
+use Rattle.uberblock_ring.specs.declared.uberblock.Uberblock.{Uberblock}
+use Rattle.vdev_label.specs.Plain.{PlainVdev}
+use Rattle.pool_commit.specs.State.{NoneIsOut}
+use Rattle.pool_core.specs.State.{CoreState, disks_of}
+use Rattle.pool_model.specs.Pools.{PlainPool}
+use Rattle.pool_model.specs.View.{View}
+use Rattle.pool_model.specs.declared.step.Reply.{Reply}
+use Rattle.pool_model.specs.declared.step.Step.{Step}
+use Rattle.pool_open.specs.Exporting.{IsExportBegun}
+use Rattle.pool_open.specs.Opening.{IsKeptThrough}
+use Rattle.pool_open.specs.Opens.{AreInOrder, IsOpened, OpenRefuses}
+use Rattle.pool_open.specs.Stops.{fresh}
+use Rattle.pool_open.specs.declared.refusal.Refusal.{Refusal}
+use Rattle.pool_open.specs.declared.refusal.Refusal.TheVariants.{NoMemory}
+use Rattle.pool_slots.specs.Commits.{only_last}
+use Rattle.pool_slots.specs.Opens.{AreKnown}
+use Rattle.pool_slots.specs.Possible.{Possible}
+use Rattle.pool_stops.specs.OneConfig.{AreOfConfig, IsOpenedAs, IsRunningAs, RunStopsAs}
+use Rattle.pool_stops.specs.Reopening.{AreByGroup, IsPossibleBehind, LeavesImages}
+use Rattle.pool_stops.specs.Running.{IsLastStep, pool_of}
+use Rattle.pool_stops.specs.Unhindered.{AnswerTruly, HaveLeft, LeadToWholePools}
+use Rattle.pool_stops.specs.Handed.{AreHandedIn}
+use Rattle.pool_stops.specs.Own.{AreDisksOf}
+use Rattle.pool_stops.specs.OwnRunning.{AreOfSum, IsOnItsDisks}
+use Rattle.pool_stops.specs.Stopping.{AreLabelsUntorn}
+
+-- Disks of a pool that lead to whole pools; what an open may come to has its configuration, and the sum of its guids.
+pub record LeadToOwnPools (pool : ℕ) (vdevs : List PlainVdev) (digest : List ℕ) (images : List (List ℕ)) (shapes : List VdevShape) (out : List Bool)
+    (p : Possible) (pools : Uberblock → PlainPool) : Type 0 where
+  pub are : AreDisksOf pool vdevs shapes out (fresh images)
+  pub led : LeadToWholePools (fresh images) shapes out p pools
+  pub one : AreOfConfig digest p
+  pub sums : AreOfSum vdevs p
+
+module _ {D : Type 0} where
+  -- The disks of a pool with these images are handed in, in this order, and weren't called yet.
+  pub record AreReturned (g : disk.Ghosts D) (images : List (List ℕ)) (disks : List D) (order : List ℕ) : Type 0 where
+    pub handed_in : AreHandedIn images (map g.start disks) order
+    pub uncalled : (d : D) → Contains disks d → g.calls d ≡ []
+
+  -- an open of them that was refused: each of its answers was true, and none of its calls failed
+  abbrev pub IsRefusedTruly : (g : disk.Ghosts D) (disks : List D) (rewind : ℕ) (refusal : Refusal) → OpenRefuses g disks rewind refusal → Type 0
+  IsRefusedTruly g disks rewind refusal (inl (cause, same, it)) = AnswerTruly it.old it.new
+  IsRefusedTruly g disks rewind refusal (inr it) = AnswerTruly it.ordered.found.old it.ordered.found.new × AnswerTruly it.array it.refused.new
+
+  -- one that was done: the same, and no disk went out
+  pub record IsOpenedTruly {g : disk.Ghosts D} {disks : List D} {rewind : ℕ} {claimed : Uberblock} {core : CoreState}
+      (is : IsOpened g disks rewind claimed core) : Type 0 where
+    pub found : AnswerTruly is.ordered.found.old is.ordered.found.new
+    pub all : is.opened.last.later ≡ is.out
+    pub honest : IsHonestSince is.array (disks_of core)
+
+  -- Whatever the order in which such disks are handed in: an open that doesn't go back is refused for want of memory alone; one that is done gives a core
+  -- of the pool of a possible group, or of one so many groups less, that runs on its own disks; and wherever one is stopped behind the finding of its
+  -- pool, which only reads, it leaves such disks again.
+  pub record OpenAgain (g : disk.Ghosts D) (pool : ℕ) (vdevs : List PlainVdev) (digest : List ℕ) (images : List (List ℕ)) (shapes : List VdevShape)
+      (out : List Bool) (p : Possible) (pools : Uberblock → PlainPool) : Type 0 where
+    pub refused : (disks : List D) (order : List ℕ) (refusal : Refusal) → AreReturned g images disks order → HaveLeft out (fresh images)
+        → (why : OpenRefuses g disks 0 refusal) → IsRefusedTruly g disks 0 refusal why → refusal ≡ NoMemory
+    pub done : (disks : List D) (order : List ℕ) (rewind : ℕ) (claimed : Uberblock) (core : CoreState) → AreReturned g images disks order
+        → (is : IsOpened g disks rewind claimed core) → IsOpenedTruly is → length images ≤ 2 ^ 64
+        → IsOpenedAs digest p pools shapes out rewind claimed core × IsOnItsDisks pool vdevs core claimed []
+    pub stopped : (disks : List D) (order : List ℕ) (rewind : ℕ) (array new : Disks) (its_shapes : List VdevShape) (its_out : List Bool)
+        (left : List (List ℕ)) → rewind < 3 → AreByGroup pools → AreReturned g images disks order
+        → (ordered : AreInOrder g disks rewind array its_shapes its_out) → AnswerTruly ordered.found.old ordered.found.new
+        → IsKeptThrough its_out rewind array new → IsHonestSince array new → (leaves : LeavesImages its_out array new left)
+        → AreLabelsUntorn array.starts leaves.calls left
+        → (later : Possible) × IsPossibleBehind p rewind later × LeadToOwnPools pool vdevs digest left shapes out later pools
+
+  -- ---- laws
+
+  abbrev pub OwnPoolsOpenAgain : disk.Ghosts D → Type 0
+  OwnPoolsOpenAgain g =
+      (pool : ℕ) (vdevs : List PlainVdev) (digest : List ℕ) (images : List (List ℕ)) (shapes : List VdevShape) (out : List Bool) (p : Possible)
+      (pools : Uberblock → PlainPool) → LeadToOwnPools pool vdevs digest images shapes out p pools
+      → OpenAgain g pool vdevs digest images shapes out p pools
+
+-- Wherever a run of a pool on its own disks is stopped, it leaves such disks,
+abbrev pub StoppedRunsLeadToOwnPools : Type 0
+StoppedRunsLeadToOwnPools =
+    (pool : ℕ) (vdevs : List PlainVdev) (old mid new : CoreState) (v between w : View) (steps : List Step) (replies : List Reply) (step : Step)
+    (reply : Reply) (last : Uberblock) (before : List Uberblock) (digest : List ℕ) (images : List (List ℕ)) → IsRunningAs digest old v last before
+    → IsOnItsDisks pool vdevs old last before → IsLastStep old mid new v between w steps replies step reply → NoneIsOut new.commit
+    → LeavesImages mid.commit.store.out (disks_of mid) (disks_of new) images
+    → (stops : RunStopsAs digest mid between new w)
+    × LeadToOwnPools pool vdevs digest images (shapes_of mid.commit.store.spaces) mid.commit.store.out stops.at.steps.stops.p (pool_of between)
+
+-- so it is wherever an open of such disks is stopped,
+abbrev pub StoppedOpensLeadToOwnPools : Type 0
+StoppedOpensLeadToOwnPools =
+    (pool : ℕ) (vdevs : List PlainVdev) (digest : List ℕ) (old new : Disks) (shapes : List VdevShape) (out : List Bool) (rewind : ℕ) (p : Possible)
+    (pools : Uberblock → PlainPool) (images : List (List ℕ)) → rewind < 3 → AreByGroup pools → AreDisksOf pool vdevs shapes out old
+    → LeadToWholePools old shapes out p pools → AreOfConfig digest p → AreOfSum vdevs p → IsKeptThrough out rewind old new → IsHonestSince old new → (leaves : LeavesImages out old new images)
+    → AreLabelsUntorn old.starts leaves.calls images
+    → (later : Possible) × IsPossibleBehind p rewind later × LeadToOwnPools pool vdevs digest images shapes out later pools
+
+-- and wherever an export is stopped, and once it is done.
+abbrev pub StoppedExportsLeadToOwnPools : Type 0
+StoppedExportsLeadToOwnPools =
+    (pool : ℕ) (vdevs : List PlainVdev) (digest : List ℕ) (core : CoreState) (v : View) (last : Uberblock) (before : List Uberblock)
+    (exported : Uberblock) (new : Disks) (images : List (List ℕ)) → IsRunningAs digest core v last before → IsOnItsDisks pool vdevs core last before
+    → IsExportBegun core exported new → AreKnown core.commit.store.out (disks_of core) → IsHonestSince (disks_of core) new
+    → (leaves : LeavesImages core.commit.store.out (disks_of core) new images) → AreLabelsUntorn (disks_of core).starts leaves.calls images
+    → LeadToOwnPools pool vdevs digest images (shapes_of core.commit.store.spaces) core.commit.store.out (only_last last before) (pool_of v)

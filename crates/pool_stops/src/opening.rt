@@ -1,0 +1,55 @@
+//! Laws of opens of a pool's own disks.
+ghost use Rattle.pool_stops.specs.OwnReopening.{OwnPoolsOpenAgain, StoppedExportsLeadToOwnPools};
+ghost use Rattle.pool_stops.specs.OwnReopening.{StoppedOpensLeadToOwnPools, StoppedRunsLeadToOwnPools};
+
+use crate::running::{opened_pools_are_on_their_disks, runs_stay_on_their_disks};
+use crate::stopping::{
+    led_disks_are_bound, own_disks_are_not_four, stopped_exports_leave_disks,
+    stopped_opens_are_of_sum, stopped_opens_leave_disks, stopped_runs_leave_disks,
+};
+use model_disk::Disk;
+use pool_stops::{
+    opened_pools_run_as, stopped_exports_lead_whole, stopped_opens_are_of_config,
+    stopped_opens_lead_whole, stopped_runs_lead_whole, unhindered_opens_are_done,
+};
+
+/// **An open of a pool's own disks, handed in in any order**, is refused for want of memory alone, where all answers are true, no call fails, it doesn't go
+/// back, and groups and claims are left. One that is done gives a core of the pool of a possible group, or of one so many groups less, that runs on. And
+/// wherever one is stopped, it leaves disks that open again.
+pub fn own_pools_open_again<D: Disk + Drop>()
+    ensures { OwnPoolsOpenAgain D.Disk }
+{
+    unhindered_opens_are_done();
+    opened_pools_run_as();
+    opened_pools_are_on_their_disks();
+    stopped_opens_lead_to_own_pools();
+}
+
+/// Wherever a run of a pool on its own disks is stopped, as long as no disk is out: it leaves disks that open again.
+pub fn stopped_runs_lead_to_own_pools()
+    ensures { StoppedRunsLeadToOwnPools }
+{
+    runs_stay_on_their_disks();
+    stopped_runs_lead_whole();
+    stopped_runs_leave_disks();
+}
+
+/// So it is wherever an open of such disks is stopped.
+pub fn stopped_opens_lead_to_own_pools()
+    ensures { StoppedOpensLeadToOwnPools }
+{
+    stopped_opens_lead_whole();
+    stopped_opens_are_of_config();
+    own_disks_are_not_four();
+    led_disks_are_bound();
+    stopped_opens_leave_disks();
+    stopped_opens_are_of_sum();
+}
+
+/// And wherever an export of such a pool is stopped, and once it is done.
+pub fn stopped_exports_lead_to_own_pools()
+    ensures { StoppedExportsLeadToOwnPools }
+{
+    stopped_exports_lead_whole();
+    stopped_exports_leave_disks();
+}

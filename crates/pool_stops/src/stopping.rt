@@ -1,0 +1,42 @@
+//! Laws of the disks that a stop leaves: they are the pool's own.
+ghost use Rattle.pool_stops.specs.Stopping.{LedDisksAreBound, OwnDisksAreNotFour};
+ghost use Rattle.pool_stops.specs.Stopping.{StoppedExportsLeaveDisks, StoppedOpensAreOfSum};
+ghost use Rattle.pool_stops.specs.Stopping.{StoppedOpensLeaveDisks, StoppedRunsLeaveDisks};
+
+use pool_stops::{exports_stay_configured, opens_stay_configured};
+
+/// Wherever a run is stopped.
+pub fn stopped_runs_leave_disks()
+    ensures { StoppedRunsLeaveDisks }
+{}
+
+/// A pool's own disks don't show four different configurations.
+pub fn own_disks_are_not_four()
+    ensures { OwnDisksAreNotFour }
+{}
+
+/// Disks that lead to whole pools are bound to show the configuration of whatever an open may come to.
+pub fn led_disks_are_bound()
+    ensures { LedDisksAreBound }
+{}
+
+/// Wherever an open is stopped: it writes no label but those that the disks have, for another claim and group.
+pub fn stopped_opens_leave_disks()
+    ensures { StoppedOpensLeaveDisks }
+{
+    opens_stay_configured();
+    own_disks_are_not_four();
+    led_disks_are_bound();
+}
+
+/// And what is possible then has the sum of the guids.
+pub fn stopped_opens_are_of_sum()
+    ensures { StoppedOpensAreOfSum }
+{}
+
+/// Wherever an export is stopped, and once it is done.
+pub fn stopped_exports_leave_disks()
+    ensures { StoppedExportsLeaveDisks }
+{
+    exports_stay_configured();
+}

@@ -1,0 +1,107 @@
+//! Roots with space maps that are none of their metaslabs, as an open reads them.
+ghost use Rattle.std.specs.Prelude.{◌<◌, ◌^◌, length, IfOk};
+ghost use Rattle.dnode.specs.ObjectSet.{FitsObjectSet};
+
+use crate::sets::{EMPTY, root_block, with};
+use crate::stores::{Store, new_store};
+use block_pointer::Block;
+use block_store::VdevShape;
+use dnode::ObjectSet;
+use meta_objset::{Directory, MetaslabMap, MetaslabPlace, SpaceMaps};
+use pool_open::{Refusal, read_root};
+use space_map::{FreeSet, Kind, Run};
+use std::alloc::Global;
+use std::test::Fail;
+
+/// How many blocks a walk of the root reads.
+const LEFT: u64 = 16;
+
+/// Of each metaslab, in sectors.
+const METASLAB: u64 = 4096;
+
+/// All sectors of a metaslab of so many but eight from this one on.
+fn all_but(alloc: Global, sectors: u64, start: u64) -> Result<FreeSet, Fail>
+    requires some { 0 < sectors }
+    requires few { sectors < 2 ^ 20 }
+{
+    let mut free = FreeSet::new(alloc, sectors)?;
+    free.change(Kind::Allocated, Run { start, len: 8 })?;
+    Ok(free)
+}
+
+/// A table in which object 5 has the space map of this metaslab.
+fn table_of(alloc: Global, metaslab: MetaslabPlace) -> Result<SpaceMaps, Fail>
+    ensures { IfOk result (λ maps. length maps < 2 ^ 40) }
+{
+    let mut table = SpaceMaps::new(alloc);
+    table.set(MetaslabMap {
+        metaslab,
+        object: 5,
+    })?;
+    if table.rows().len() > 1 {
+        return Ok(SpaceMaps::new(alloc));
+    }
+    Ok(table)
+}
+
+/// A meta object set of a pool with no volumes, with that map for that metaslab.
+fn set_with(
+    store: &mut Store,
+    alloc: Global,
+    metaslab: MetaslabPlace,
+    free: &FreeSet,
+) -> Result<ObjectSet, Fail>
+    ensures { IfOk result FitsObjectSet }
+{
+    let made = space_map_objects::creation(alloc, free)?;
+    let set = with(&EMPTY, store, alloc, 5, made, 1)?;
+    let made = table_of(alloc, metaslab)?.creation(alloc)?;
+    let set = with(&set, store, alloc, 4, made, 2)?;
+    let made = Directory::new(alloc).creation(alloc)?;
+    Ok(with(&set, store, alloc, 1, made, 3)?)
+}
+
+/// Its root, and the shape of the store's vdev.
+fn root_with(
+    store: &mut Store,
+    alloc: Global,
+    metaslab: MetaslabPlace,
+    free: &FreeSet,
+) -> Result<(Block, Vec<VdevShape>), Fail> {
+    let set = set_with(store, alloc, metaslab, free)?;
+    let root = root_block(&set, store, alloc)?;
+    let mut shapes = Vec::new(alloc);
+    for index in 0..store.vdev_count() {
+        shapes.push(store.shape(index))?;
+    }
+    Ok((root, shapes))
+}
+
+/// How many space maps an open reads under such a root; or the number of its refusal.
+fn opened(alloc: Global, index: u64, free: &FreeSet) -> Result<Result<usize, u8>, Fail> {
+    let mut store = new_store(alloc)?;
+    let metaslab = MetaslabPlace { vdev: 0, index };
+    let (root, shapes) = root_with(&mut store, alloc, metaslab, free)?;
+    let disks = store.into_array();
+    match read_root(alloc, disks, &shapes, &[false; 3], &root, root.birth, LEFT) {
+        Ok(read) => Ok(Ok(read.contents.maps.len())),
+        Err(refusal) => Ok(Err(Refusal::from(refusal).number())),
+    }
+}
+
+/// A map of the metaslab, one of a greater metaslab, and a map for a metaslab that isn't there.
+fn outcomes(alloc: Global) -> Result<[Result<usize, u8>; 3], Fail> {
+    let own = all_but(alloc, METASLAB, 100)?;
+    let greater = all_but(alloc, 2 * METASLAB, METASLAB)?;
+    Ok([
+        opened(alloc, 0, &own)?,
+        opened(alloc, 0, &greater)?,
+        opened(alloc, 99, &own)?,
+    ])
+}
+
+#[test]
+fn bad_maps_are_refused(rt: HostRuntime) -> Result<(), Fail> {
+    assert!(rt; outcomes(rt.alloc())? == [Ok(1), Err(27), Err(20)]);
+    Ok(())
+}
