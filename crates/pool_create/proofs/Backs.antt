@@ -140,7 +140,7 @@ back_of keep old surveyed read it root u contents core are made =
           let honest_read = subst (λ (d : Disks). IsHonestSince old d) made.disks honest in
           let within = honest_within no_write old surveyed read read are.only (Makes-none no_write read) honest_read in
           at stored no_volumes (held_behind_reads keep old read shapes out out stored are.laid both hold)
-          (are.contents_are stored no_volumes (held_behind_reads keep old surveyed shapes out out stored are.laid are.only hold) spells.0 within) spells (none_made_by 3);
+          (are.contents_are.are stored no_volumes (held_behind_reads keep old surveyed shapes out out stored are.laid are.only hold) spells.0 within) spells (none_made_by 3);
     }
 
 -- ---- there is none

@@ -67,6 +67,6 @@ represents_root keep old surveyed read new shapes out later claimed contents cor
     let before = both_made no_write old surveyed read surveys reads in
     represents stored pool
     (held_behind_claim keep old read new shapes out later claimed stored laid before claims count fits hold)
-    (root stored pool (held_behind_reads keep old surveyed shapes out later stored laid surveys hold) spells.0
+    (root.are stored pool (held_behind_reads keep old surveyed shapes out later stored laid surveys hold) spells.0
     (honest_within (IsClaimWrite read.starts later claimed) old surveyed read new surveys claims.makes honest_now))
     spells made

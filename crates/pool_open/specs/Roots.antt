@@ -15,6 +15,7 @@ use Rattle.dataset_snapshots.specs.Mapped.{HasItsMapsOver}
 use Rattle.dataset_snapshots.specs.Pools.{SpellsPool}
 use Rattle.dataset_snapshots.specs.Reach.{meta_blocks_of}
 use Rattle.dataset_snapshots.specs.declared.contents.RootContents.{RootContents}
+use Rattle.pool_maps.specs.Loads.{AreSetsOf}
 use Rattle.pool_model.specs.Pools.{PlainPool}
 use Rattle.space_map_objects.specs.Maps.{IsForLossOf}
 use Rattle.space_map_objects.specs.declared.refusal.Refusal.{Refusal}
@@ -30,11 +31,16 @@ pub record AreReadBeside (out : List Bool) (old new : Disks) : Type 0 where
 abbrev pub AreContentsOver : List VdevShape → Contents → ℕ → Block → PlainPool → RootContents → Type 0
 AreContentsOver shapes stored group root pool contents = (spaces : List VdevSpace) → shapes_of spaces ≡ shapes → AreContentsOf stored spaces group root pool contents
 
+-- its space maps are of metaslabs of these vdevs, each of another one, with as many sectors
+abbrev pub AreSetsOver : List VdevShape → RootContents → Type 0
+AreSetsOver shapes contents = (spaces : List VdevSpace) → shapes_of spaces ≡ shapes → AreSetsOf spaces contents.maps.items
+
 -- Where any store over the disks may read the blocks of a root that spells a pool, and the disks' answers are true, this is what it has.
-abbrev pub IsReadOfRoot : Disks → Disks → List VdevShape → List Bool → ℕ → Block → RootContents → Type 0
-IsReadOfRoot old new shapes out group root contents =
-    (stored : Contents) (pool : PlainPool) → HoldOver old shapes out stored → SpellsPool stored group root pool → IsHonestSince old new
-    → AreContentsOver shapes stored group root pool contents
+-- Its space maps have places on the vdevs, whatever the root is.
+pub record IsReadOfRoot (old new : Disks) (shapes : List VdevShape) (out : List Bool) (group : ℕ) (root : Block) (contents : RootContents) : Type 0 where
+  pub are : (stored : Contents) (pool : PlainPool) → HoldOver old shapes out stored → SpellsPool stored group root pool → IsHonestSince old new
+      → AreContentsOver shapes stored group root pool contents
+  pub sets : AreSetsOver shapes contents
 
 -- the root spells the pool and has its space maps, and it and its meta object set have so many blocks at most
 pub record IsSmallRoot (stored : Contents) (shapes : List VdevShape) (group : ℕ) (root : Block) (pool : PlainPool) (most : ℕ) : Type 0 where

@@ -1,4 +1,5 @@
-use Rattle.std.proofs.Common.{refl}
+use Rattle.std.proofs.Common.{sym, ◌∙◌}
+use Rattle.pool_maps.proofs.ReadSets.{sets_stay}
 use Rattle.pool_slots.proofs.Results.{if_err_is}
 use Rattle.space_map_objects.specs.Refused.{of_read}
 use Rattle.pool_open.specs.Held.{IsStoreOver}
@@ -34,13 +35,17 @@ returns-clause-only g c =
     c.into_array.ensures c.in_ok-contents.ensures.reads
 
 pub returns-clause-contents : goal.returns-clause-contents
-returns-clause-contents g c stored pool hold spells honest =
+returns-clause-contents g c =
     let over : IsStoreOver c.args.disks c.args.shapes.now c.args.out.now c.in_ok-store.store = record {
       disks_are = c.in_ok-store.ensures.disks;
       shapes_are = c.in_ok-store.ensures.shapes;
       out_is = c.in_ok-store.ensures.out;
       since = c.in_ok-store.ensures.since;
     } in
-    contents_over c.args.shapes.now c.in_ok-store.store.spaces stored c.args.group c.args.root.now pool c.in_ok-contents.contents c.in_ok-store.ensures.shapes
-    (c.in_ok-contents.ensures.value stored pool (hold c.in_ok-store.store over) spells
-    (honest_between c.in_ok-store.store c.contents_under.new.store c.args.disks c.into_array.result c.in_ok-store.ensures.disks c.into_array.ensures honest))
+    record {
+      are = λ stored pool hold spells honest.
+          contents_over c.args.shapes.now c.in_ok-store.store.spaces stored c.args.group c.args.root.now pool c.in_ok-contents.contents c.in_ok-store.ensures.shapes
+          (c.in_ok-contents.ensures.value stored pool (hold c.in_ok-store.store over) spells
+          (honest_between c.in_ok-store.store c.contents_under.new.store c.args.disks c.into_array.result c.in_ok-store.ensures.disks c.into_array.ensures honest));
+      sets = λ spaces same. sets_stay c.in_ok-store.store.spaces spaces c.in_ok-contents.contents.maps.items (same ∙ sym c.in_ok-store.ensures.shapes) c.in_ok-contents.ensures.sets;
+    }
