@@ -36,7 +36,7 @@ fn two(alloc: Global) -> Result<Set, Fail> {
     Ok(DiskSet::new(alloc, disks, out)?)
 }
 
-fn ended(answer: Result<(), FailedDisk>) -> Ended {
+fn outcome(answer: Result<(), FailedDisk>) -> Ended {
     match answer {
         Ok(()) => Ended::Well,
         Err(failed) => Ended::Out(failed.disk),
@@ -46,7 +46,7 @@ fn ended(answer: Result<(), FailedDisk>) -> Ended {
 /// Writes the last three bytes of a disk.
 fn write(set: &mut Set, disk: usize) -> Ended {
     if disk < set.len() && set.size(disk) == 16 {
-        ended(set.write_at(disk, 13, b"abc"))
+        outcome(set.write_at(disk, 13, b"abc"))
     } else {
         Ended::NotMade
     }
@@ -54,7 +54,7 @@ fn write(set: &mut Set, disk: usize) -> Ended {
 
 fn flush(set: &mut Set, disk: usize) -> Ended {
     if disk < set.len() {
-        ended(set.flush(disk))
+        outcome(set.flush(disk))
     } else {
         Ended::NotMade
     }
@@ -71,7 +71,7 @@ fn calls(set: &mut Set) -> [Ended; 4] {
     [wrote, failed, flushed, failed_again]
 }
 
-fn said(set: &Set) -> Said {
+fn summary(set: &Set) -> Said {
     Said {
         out: [set.is_out(0), set.is_out(1)],
         since: [set.out_since(0), set.out_since(1)],
@@ -92,9 +92,9 @@ fn load(mut disks: Disks) -> Option<[u8; 4]> {
 /// How the calls ended, what the set says before and after, and what the first disk holds then.
 fn after_calls(alloc: Global) -> Result<(Said, [Ended; 4], Said, Option<[u8; 4]>), Fail> {
     let mut set = two(alloc)?;
-    let before = said(&set);
+    let before = summary(&set);
     let calls = calls(&mut set);
-    let after = said(&set);
+    let after = summary(&set);
     Ok((before, calls, after, load(set.into_array())))
 }
 
@@ -106,7 +106,7 @@ fn absent(alloc: Global) -> Result<Vec<usize>, Fail> {
 }
 
 /// What is due behind a plan's blocks on two disks.
-fn behind(alloc: Global) -> Result<Behind, AllocError> {
+fn plan_of_two(alloc: Global) -> Result<Behind, AllocError> {
     let mut behind = Behind {
         flushes: VecDeque::new(alloc),
         slots: VecDeque::new(alloc),
@@ -122,7 +122,7 @@ fn behind(alloc: Global) -> Result<Behind, AllocError> {
 
 /// Of a plan without disk 0 how much is due, and what comes first.
 fn without_the_first(alloc: Global) -> Result<(bool, [usize; 3], Option<SlotWrite>), AllocError> {
-    let mut behind = behind(alloc)?;
+    let mut behind = plan_of_two(alloc)?;
     behind.leave_out(0);
     let counts = [
         behind.flushes.len(),
@@ -156,7 +156,7 @@ fn a_disk_that_fails_is_out(rt: HostRuntime) -> Result<(), Fail> {
 
 #[test]
 fn disks_that_are_out_are_absent(rt: HostRuntime) -> Result<(), Fail> {
-    assert!(rt; absent(rt.alloc())?.as_slice() == [1, 5]);
+    assert!(rt; absent(rt.alloc())?.as_slice() == [1, 5].as_slice());
     Ok(())
 }
 
