@@ -26,6 +26,12 @@ blocks_used out starts blocks placed which it =
     let P : ℕ → Type 0 = InUse out in
     subst P (sym it.3) (placed it.0 it.1 it.2).used
 
+-- of disks in use
+pub blocks_on_used : (out : List Bool) (old new : Disks) (blocks : List BlockWrite) → ArePlaced out old.starts blocks → MakesOn (HasBlock blocks) (IsBlockWrite blocks) old new
+    → MakesOn (InUse out) (IsBlockWrite blocks) old new
+blocks_on_used out old new blocks placed makes =
+    MakesOn-wider (HasBlock blocks) (InUse out) (IsBlockWrite blocks) (IsBlockWrite blocks) old new (blocks_used out old.starts blocks placed) (λ which at bytes it. it) makes
+
 -- the blocks as a part of the commit's writes, and the slots
 pub made_blocks : (out : List Bool) (old new : Disks) (blocks : List BlockWrite) (u : Uberblock) → ArePlaced out old.starts blocks → MakesOn (HasBlock blocks) (IsBlockWrite blocks) old new
     → MakesOn (InUse out) (IsCommitWrite out old.starts blocks u) old new

@@ -27,7 +27,7 @@ use Rattle.pool_slots.proofs.Writing.{MakesOn-write, slot_number_small}
 ordered : (i j : ℕ) → (i < j) ⊎ ((j < i) ⊎ (i ≡ j))
 ordered i j = grind arith
 
-areas_apart : (size n m : ℕ) → 4 * 262144 ≤ size → n < 4 → m < 4 → ¬ (n ≡ m) → (area_place size n + 114688 ≤ area_place size m) ⊎ (area_place size m + 114688 ≤ area_place size n)
+pub areas_apart : (size n m : ℕ) → 4 * 262144 ≤ size → n < 4 → m < 4 → ¬ (n ≡ m) → (area_place size n + 114688 ≤ area_place size m) ⊎ (area_place size m + 114688 ≤ area_place size n)
 unfolding area_place
 areas_apart size n m room is is' other =
     elim (ordered n m) [

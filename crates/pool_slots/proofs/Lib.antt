@@ -27,10 +27,15 @@ mod Choices
 pub mod LabelAreas
 pub mod LabelScans
 mod LabelWrites
+mod ConfigWrites
 pub mod LabelPlans
 mod LabelPhases
 mod FourConfigs
 mod ConfigLabels
+mod ConfigPhases
+mod ConfigMoments
+mod ConfigMarks
+mod ConfigOpens
 mod ClaimSteps
 mod Absence
 pub mod LifeClaims

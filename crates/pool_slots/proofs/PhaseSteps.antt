@@ -150,7 +150,7 @@ used_phase trees out disks may p phase =
           record { top = safe.top; off = λ i inside. used_off out may which (slot_at (length (bytes_of disks.starts which)) safe.top.label safe.top.slot + i) used (safe.off i inside) };
     }
 
-slots_phase : (trees : Trees) (out : List Bool) (disks : Disks) (last : Uberblock) (before : List Uberblock) (u : Uberblock) → CanWriteSlots trees out disks last before u
+pub slots_phase : (trees : Trees) (out : List Bool) (disks : Disks) (last : Uberblock) (before : List Uberblock) (u : Uberblock) → CanWriteSlots trees out disks last before u
     → IsPhase trees out disks (slot_writes out disks.starts u) (last_or last before u)
 slots_phase trees out disks last before u can =
     let there = can.at.there in
@@ -169,7 +169,7 @@ pub slots_begin : SlotsBegin
 slots_begin trees out disks last before u can = record { settled = disks; could = can; makes = Makes-none (slot_writes out disks.starts u) disks }
 
 -- the last one alone, or one that was begun since
-leads_either : (trees : Trees) (out : List Bool) (starts : List (List ℕ)) (held : ℕ → ℕ → Option ℕ) (last : Uberblock) (before : List Uberblock) (u : Uberblock)
+pub leads_either : (trees : Trees) (out : List Bool) (starts : List (List ℕ)) (held : ℕ → ℕ → Option ℕ) (last : Uberblock) (before : List Uberblock) (u : Uberblock)
     → Leads trees out starts held (only_last last before) → Leads trees out starts held (last_or last before u)
 leads_either trees out starts held last before u leads = leads_more trees out starts held last [] (u ∷ []) before (more_begun last u) leads
 

@@ -170,10 +170,10 @@ half_makes r r' u old mid new which half is same same' calls calls' =
     (makes_slot r old.starts u (in_half_of which half) old mid which half (omega arith) (refl, inl refl) same calls)
     (makes_slot r' old.starts u (in_half_of which half) mid new which (half + 2) (omega arith) (refl, inr refl) same' (subst P same calls'))
 
-label_half : (label : ℕ) → label < 4 → InHalf 0 label ⊎ InHalf 1 label
+pub label_half : (label : ℕ) → label < 4 → InHalf 0 label ⊎ InHalf 1 label
 label_half label is = grind arith
 
-not_both : (label : ℕ) → InHalf 0 label → InHalf 1 label → ⊥
+pub not_both : (label : ℕ) → InHalf 0 label → InHalf 1 label → ⊥
 not_both label (inl a) (inl b) = omega arith
 not_both label (inl a) (inr b) = omega arith
 not_both label (inr a) (inl b) = omega arith

@@ -10,6 +10,7 @@ pub mod Commits
 pub mod Opens
 pub mod Relabels
 pub mod Configs
+pub mod Configures
 pub mod LabelReads
 pub mod Surveys
 pub mod OpenRefusals

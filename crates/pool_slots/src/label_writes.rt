@@ -18,24 +18,24 @@ const AREA_START: u64 = 0x4000;
 
 /// Writes an area to a label of a disk.
 #[tactic(auto, unfolding(crate::specs::Labels::area_place))]
-fn write_area<D: Disk + Drop>(
+pub(crate) fn write_area<D: Disk + Drop>(
     disks: &mut DiskArray<D>,
     which: usize,
     number: u64,
-    area: &Area,
+    area: &[u8],
 ) -> Result<(), DiskFailure>
     requires which { which < length disks.old.starts }
     requires number { number < LABELS }
-    requires whole { IsWhole area.now }
+    requires whole { length area.now ≡ 114688 }
     requires room { 1048576 ≤ length (bytes_of disks.old.starts which) }
     ensures starts { disks.new.starts ≡ disks.old.starts }
     ensures call { disks.new.calls
         ≡ on which (write_call result (area_place (length (bytes_of disks.old.starts which)) number)
-        area.now.bytes.items) ∷ disks.old.calls }
+        area.now) ∷ disks.old.calls }
     ensures fault { IfErr result (IsFailure disks.old disks.new) }
 {
     let at = label_offset(disks.size(which), number) + AREA_START;
-    write_at(disks, which, at, &area.bytes)
+    write_at(disks, which, at, area)
 }
 
 /// Whether it is a label's turn: in the first turn that of the claim label, else of another.
@@ -70,7 +70,7 @@ fn write_in_turn<D: Disk + Drop>(
     ensures fault { IfErr result (IsFailure disks.old disks.new) }
 {
     if is_turn(area, number, first) {
-        write_area(disks, which, number, area)
+        write_area(disks, which, number, &area.bytes)
     } else {
         Ok(())
     }

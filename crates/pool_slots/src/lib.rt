@@ -6,6 +6,8 @@ mod blocks;
 mod calls;
 mod claiming;
 mod committing;
+mod config_writes;
+mod configuring;
 mod found;
 mod going_back;
 mod label_choice;
@@ -24,6 +26,7 @@ mod writes;
 
 pub use blocks::BlockWrite;
 pub use committing::commit;
+pub use configuring::commit_config;
 pub use opening::{claim, open};
 pub use present::{open_present, survey_present};
 pub use refusal::{DiskFailure, Refusal};

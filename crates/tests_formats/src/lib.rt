@@ -14,6 +14,8 @@ mod labels;
 #[cfg(test)]
 mod lists;
 #[cfg(test)]
+mod new_configs;
+#[cfg(test)]
 mod new_pools;
 #[cfg(test)]
 mod nodes;

@@ -18,13 +18,13 @@ pub(crate) const NEVER: Fault = Fault::At(u64::MAX);
 
 /// Where the list of a label has the guid of its disk, and the last bytes of the pool's guid, of the group
 /// and of the sectors of a child.
-const GUID: usize = 47;
+pub(crate) const GUID: usize = 47;
 
 const POOL_GUID: usize = 95;
 
 const GROUP: usize = 163;
 
-const SECTORS: usize = 259;
+pub(crate) const SECTORS: usize = 259;
 
 /// A place behind the list, where a label has a zero.
 const NOWHERE: (usize, u8) = (600, 0);
