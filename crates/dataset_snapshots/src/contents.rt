@@ -27,7 +27,7 @@ use volume_rules::NameIndex;
 
 /// What an open keeps of a pool's root: its directory, with the numbers that no object has, the names of its pool, the blocks of its meta
 /// object set, and what its space maps leave free.
-#[derive(Debug, Drop)]
+#[derive(Drop)]
 pub struct RootContents {
     pub directory: KeptDirectory,
     pub names: NameIndex,

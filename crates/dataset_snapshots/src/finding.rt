@@ -36,7 +36,7 @@ use std::alloc::{AllocError, Global};
 use volume::VolumeSet;
 
 /// A dataset under a root.
-#[derive(Clone, Copy, Debug)]
+#[derive(Clone, Copy)]
 pub struct Dataset {
     /// The number of the object that has its record.
     pub object: u64,

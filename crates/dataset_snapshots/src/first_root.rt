@@ -45,7 +45,7 @@ use vdev_label::Config;
 use volume_rules::PartedActions;
 
 /// The first root of a pool.
-#[derive(Debug, Drop)]
+#[derive(Drop)]
 pub struct FirstRoot {
     pub root: Block,
     /// The directory under it.

@@ -58,7 +58,7 @@ use txg_pipeline::Pending;
 use volume_rules::PartedActions;
 
 /// The root of a pool after a group.
-#[derive(Debug, Drop)]
+#[derive(Drop)]
 pub struct NextRoot {
     pub root: Block,
     /// The blocks that the root before led to and this one doesn't.
@@ -69,7 +69,7 @@ pub struct NextRoot {
 
 /// What a group is planned from: the meta object set, its datasets under the names of its directory, without those that the group destroys, and
 /// the volumes that the group writes to.
-#[derive(Debug, Drop)]
+#[derive(Drop)]
 pub(crate) struct Opened {
     pub set: ObjectSet,
     pub datasets: GroupDatasets,
@@ -81,7 +81,7 @@ pub(crate) struct Opened {
 }
 
 /// What a group finds before anything is destroyed.
-#[derive(Debug, Drop)]
+#[derive(Drop)]
 pub(crate) struct Begun {
     pub set: ObjectSet,
     pub datasets: GroupDatasets,
@@ -89,7 +89,7 @@ pub(crate) struct Begun {
 }
 
 /// What a group made of the meta object set.
-#[derive(Debug, Drop)]
+#[derive(Drop)]
 pub(crate) struct Made {
     /// The directory after the group.
     pub directory: Directory,

@@ -9,7 +9,7 @@ use std::alloc::{AllocError, Global};
 use std::marker::Model;
 
 /// Numbers in a row, from the first to the one before the end.
-#[derive(Debug, Clone, Copy)]
+#[derive(Clone, Copy)]
 pub(crate) struct NumberRun {
     pub first: u64,
     pub end: u64,
@@ -17,7 +17,7 @@ pub(crate) struct NumberRun {
 
 /// The directory under a root, and numbers that no object has there, as far as is known. New datasets take such numbers again before any
 /// behind all objects. Each is looked at first, so that a pool is whole whatever is kept here.
-#[derive(Debug, Drop)]
+#[derive(Drop)]
 pub struct KeptDirectory {
     directory: Directory,
     /// In ascending order.

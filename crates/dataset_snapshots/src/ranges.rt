@@ -21,7 +21,7 @@ use pool_model::Name;
 use std::alloc::Global;
 
 /// A range of bytes of the volume that a root has by a name.
-#[derive(Debug, Clone, Copy)]
+#[derive(Clone, Copy)]
 pub struct VolumeRange<'a> {
     pub name: &'a Name,
     /// In bytes, as is `len`.

@@ -81,7 +81,7 @@ pub fn reach<D: Disk + Drop>(
 }
 
 /// The meta object set of a root, and its blocks.
-#[derive(Debug, Drop)]
+#[derive(Drop)]
 pub(crate) struct MetaWalk {
     pub set: ObjectSet,
     /// The root's block, and then those of the set.

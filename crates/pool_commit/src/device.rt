@@ -36,7 +36,7 @@ use vdev_label::label_offset;
 const MOST_CALLS: usize = 4;
 
 /// How far the calls of a step brought the plan.
-#[derive(Debug, Clone, Copy, PartialEq, Eq)]
+#[derive(Clone, Copy, PartialEq, Eq)]
 pub enum Progress {
     /// Calls of this phase were made, and some are left.
     Moved(Phase),

@@ -12,7 +12,7 @@ use uberblock_ring::Uberblock;
 use vdev_label::Config;
 
 /// What all uberblocks have that are written between an open of a pool and the next one.
-#[derive(Debug, Clone, Copy, PartialEq, Eq)]
+#[derive(Clone, Copy, PartialEq, Eq)]
 pub struct Stamp {
     /// The wrapping sum of the guids of the vdevs and disks of the configuration.
     pub guid_sum: u64,

@@ -19,7 +19,7 @@ use std::alloc::Global;
 use vdev_label::{Config, LABELS, Label, State, allowed_has_room};
 
 /// What a pool is known by.
-#[derive(Debug, Drop)]
+#[derive(Drop)]
 pub struct PoolIdentity {
     /// 1 to 27 bytes of `a-z 0-9 . _ -`, the first a letter.
     pub name: String,

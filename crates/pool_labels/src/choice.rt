@@ -2,7 +2,7 @@
 use uberblock_ring::Uberblock;
 
 /// Which pool the disks are, and which of them is which child.
-#[derive(Debug, Drop)]
+#[derive(Drop)]
 pub struct Choice {
     /// The greatest uberblock by claim and group.
     pub highest: Uberblock,

@@ -6,7 +6,7 @@ use uberblock_ring::Uberblock;
 use vdev_label::{Breach, Label};
 
 /// What a label shows.
-#[derive(Debug, Drop)]
+#[derive(Drop)]
 pub enum Reading {
     Valid(Label),
     /// It isn't valid, for this cause.
@@ -16,7 +16,7 @@ pub enum Reading {
 }
 
 /// A label of a disk, and what it shows.
-#[derive(Debug, Drop)]
+#[derive(Drop)]
 pub struct ScannedLabel {
     /// The number of the disk, as it was handed in.
     pub disk: usize,
@@ -26,7 +26,7 @@ pub struct ScannedLabel {
 }
 
 /// A disk that was handed in.
-#[derive(Clone, Copy, Debug, PartialEq, Eq)]
+#[derive(Clone, Copy, PartialEq, Eq)]
 pub struct ScannedDisk {
     /// Its size in bytes.
     pub size: u64,
@@ -35,7 +35,7 @@ pub struct ScannedDisk {
 }
 
 /// What was read of the disks that were handed in.
-#[derive(Debug, Drop)]
+#[derive(Drop)]
 pub struct Scan {
     pub disks: Vec<ScannedDisk>,
     /// The labels of the disks of an allowed size, by the number of the disk, then of the label.
@@ -45,7 +45,7 @@ pub struct Scan {
 }
 
 /// What was read of one disk.
-#[derive(Debug, Drop)]
+#[derive(Drop)]
 pub(crate) struct DiskScan {
     pub(crate) disk: ScannedDisk,
     pub(crate) labels: Vec<ScannedLabel>,

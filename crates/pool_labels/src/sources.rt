@@ -11,7 +11,7 @@ use std::alloc::{AllocError, Global};
 use vdev_label::{Label, State};
 
 /// How late a label is: by the claim, under one claim by the group, in one group by the state.
-#[derive(Clone, Copy, Debug)]
+#[derive(Clone, Copy)]
 pub(crate) struct Rank {
     pub claim: u64,
     pub group: u64,

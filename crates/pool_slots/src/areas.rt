@@ -16,7 +16,7 @@ use vdev_label::{Label, State, encode_area, read_label};
 use words::LAST_COUNT;
 
 /// What a claim writes.
-#[derive(Debug, Drop)]
+#[derive(Drop)]
 pub(crate) struct Plan {
     pub claimed: Uberblock,
     pub areas: Vec<Option<Area>>,

@@ -1,14 +1,14 @@
 //! What the labels of a disk show, and what a claim writes to them.
 
 /// What one label shows.
-#[derive(Clone, Copy, Debug)]
+#[derive(Clone, Copy)]
 pub(crate) struct Shown {
     pub claim: u64,
     pub config_digest: [u8; 32],
 }
 
 /// What the four labels of a disk show.
-#[derive(Clone, Copy, Debug)]
+#[derive(Clone, Copy)]
 pub(crate) struct Labeled {
     /// The greatest claim that they show.
     pub claim: u64,
@@ -19,7 +19,7 @@ pub(crate) struct Labeled {
 }
 
 /// The area that a claim writes to the four labels of a disk.
-#[derive(Debug, Drop)]
+#[derive(Drop)]
 pub(crate) struct Area {
     /// The disk's claim label.
     pub first: u64,

@@ -7,7 +7,7 @@ use std::marker::Model;
 use uberblock_ring::Uberblock;
 
 /// What the disks in use show, and what a claim of it writes.
-#[derive(Debug, Drop)]
+#[derive(Drop)]
 pub struct Survey {
     pub(crate) found: Vec<Option<Found>>,
     pub(crate) highest: Uberblock,

@@ -7,7 +7,7 @@ use schedule_lines::{opened_text, reply_text};
 use std::alloc::{AllocError, Global};
 
 /// What comes of a command, of which one line is printed.
-#[derive(Debug, Drop)]
+#[derive(Drop)]
 pub enum Outcome {
     /// The reply of the pool to the last of its steps.
     Replied(Reply),

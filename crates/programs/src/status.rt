@@ -5,7 +5,7 @@ ghost use Rattle.programs.specs.Statuses.{status_number};
 use crate::refusal::Refusal;
 
 /// How a program ended.
-#[derive(Clone, Copy, Debug, PartialEq, Eq)]
+#[derive(Clone, Copy, PartialEq, Eq)]
 pub enum ExitStatus {
     Done,
     /// A line that it can't run, input or output that fails, or want of memory in the program itself.

@@ -9,7 +9,7 @@ use pool_model::{Phase, Reply, Step};
 use schedule_lines::StopPoint;
 
 /// Where a commit stops: behind a reply which says that calls of this phase were made, and so many before it which said so.
-#[derive(Clone, Copy, Debug, PartialEq, Eq)]
+#[derive(Clone, Copy, PartialEq, Eq)]
 pub(crate) struct Point {
     pub(crate) phase: Phase,
     pub(crate) before: u64,
