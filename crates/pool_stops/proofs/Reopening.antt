@@ -1,14 +1,12 @@
 -- Disks that a stop leaves, and what an open makes of them.
 use Rattle.std.proofs.Common.{ℕ, suc, ◌≡◌, ◌⊎◌, inl, inr, ⊎_elim, ◌+◌, ◌<◌, ◌≤◌, Bool, false, List, [], ◌∷◌, length, Option, Some, None, Contains, refl, sym, ap, subst, ◌∙◌, arith, true≢false}
-use Rattle.std.specs.Prelude.{◌-◌, ◌^◌, map, replicate}
-use Rattle.std.proofs.lemmas.List.{length-replicate}
+use Rattle.std.specs.Prelude.{◌-◌, ◌^◌, map}
 use Rattle.std.proofs.lemmas.List.Elements.{Contains-append_left, Contains-append_right}
 use Rattle.model_disk.specs.Joint.{JointCall, MayLeaveAll, bytes_of, content}
 use Rattle.block_store.specs.Places.{shapes_of}
 use Rattle.block_store.specs.Opened.{LieOn, MayBeOpened}
-use Rattle.block_store.specs.Store.{Store, is_out}
+use Rattle.block_store.specs.Store.{is_out}
 use Rattle.block_store.specs.declared.shape.VdevShape.{VdevShape}
-use Rattle.block_store.proofs.Making.{none_since}
 use Rattle.block_store.proofs.Reopening.{is_opened}
 use Rattle.uberblock_ring.specs.declared.uberblock.Uberblock.{Uberblock}
 use Rattle.pool_commit.specs.declared.kept.Planned.{Planned}
@@ -173,16 +171,11 @@ covered_from (shape ∷ shapes) starts first disk lie from below = ⊎_elim
     at_child : (first n disk : ℕ) → first ≤ disk → disk < first + n → (k : ℕ) × (k < n) × (disk ≡ first + k)
     at_child first n disk from below = (disk - first, omega (arith, from, below), omega (arith, from))
 
--- a store of these vdevs over these disks, of which nothing is known
-abbrev blank_store : State → Store
-blank_store s = record s.store { spans = record { since = replicate (length s.store.disks.starts) 0; group = 0 }; due = [] }
-
 -- with no disk out, and the vdevs that it was opened with
 pub whole_opened : (s : State) (shapes : List VdevShape) → shapes_of s.store.spaces ≡ shapes → MayBeOpened s.store.disks.starts shapes s.store.out → length s.store.disks.starts ≤ 2 ^ 64
     → ((disk : ℕ) → is_out s.store.out disk ≡ false) → 0 < length s.store.disks.starts → IsWhole s
 whole_opened s shapes vdevs may few none some =
-    let n : ℕ = length s.store.disks.starts in
-    let is = is_opened (blank_store s) shapes vdevs may.lie may.few few may.flags (length-replicate n 0) (none_since n) refl in
+    let is = is_opened s.store shapes vdevs may.lie may.few few in
     record {
       none = none;
       count = may.flags;

@@ -269,7 +269,7 @@ misplaced_case old surveyed read new shapes out p pools may led free makes reads
     let pool : PlainPool = pools it.s.taken in
     let spaces : List VdevSpace = it.why.store.spaces in
     let same : shapes_of spaces ≡ shapes = it.why.over.shapes_are in
-    let are = it.reads at.stored pool at.hold at.spells later spaces same in
+    let are = it.reads.are at.stored pool at.hold at.spells later spaces same in
     let one = roots_spell_one_pool at.stored u.group u.group u.root pool pool at.spells are.is in
     never_misplaced spaces shapes at.stored u.group u.root pool it.contents same it.why.empty are (one.3 spaces (at.mapped spaces same))
     (subst (λ (them : List Block). LieApart shapes them) one.1 at.apart) it.why.misplaced

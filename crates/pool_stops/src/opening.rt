@@ -2,16 +2,17 @@
 ghost use Rattle.pool_stops.specs.OwnReopening.{OwnPoolsOpenAgain, StoppedExportsLeadToOwnPools};
 ghost use Rattle.pool_stops.specs.OwnReopening.{StoppedOpensLeadToOwnPools, StoppedRunsLeadToOwnPools};
 
+use crate::configured::{opened_pools_run_as, stopped_opens_are_of_config};
 use crate::running::{opened_pools_are_on_their_disks, runs_stay_on_their_disks};
 use crate::stopping::{
     led_disks_are_bound, own_disks_are_not_four, stopped_exports_leave_disks,
     stopped_opens_are_of_sum, stopped_opens_leave_disks, stopped_runs_leave_disks,
 };
-use model_disk::Disk;
-use pool_stops::{
-    opened_pools_run_as, stopped_exports_lead_whole, stopped_opens_are_of_config,
-    stopped_opens_lead_whole, stopped_runs_lead_whole, unhindered_opens_are_done,
+use crate::whole_pools::{
+    stopped_exports_lead_whole, stopped_opens_lead_whole, stopped_runs_lead_whole,
+    unhindered_opens_are_done,
 };
+use model_disk::Disk;
 
 /// **An open of a pool's own disks, handed in in any order**, is refused for want of memory alone, where all answers are true, no call fails, it doesn't go
 /// back, and groups and claims are left. One that is done gives a core of the pool of a possible group, or of one so many groups less, that runs on. And

@@ -2,7 +2,8 @@
 ghost use Rattle.pool_stops.specs.OwnRunning.{CreatedPoolsAreOnTheirDisks, OpenedPoolsAreOnTheirDisks};
 ghost use Rattle.pool_stops.specs.OwnRunning.{RunsStayOnTheirDisks};
 
-use pool_stops::{running_pools_step_on, steps_stay_configured};
+use crate::configured::steps_stay_configured;
+use crate::laws::running_pools_step_on;
 
 /// A pool that was just made.
 pub fn created_pools_are_on_their_disks()

@@ -3,7 +3,7 @@ ghost use Rattle.pool_stops.specs.Stopping.{LedDisksAreBound, OwnDisksAreNotFour
 ghost use Rattle.pool_stops.specs.Stopping.{StoppedExportsLeaveDisks, StoppedOpensAreOfSum};
 ghost use Rattle.pool_stops.specs.Stopping.{StoppedOpensLeaveDisks, StoppedRunsLeaveDisks};
 
-use pool_stops::{exports_stay_configured, opens_stay_configured};
+use crate::configured::{exports_stay_configured, opens_stay_configured};
 
 /// Wherever a run is stopped.
 pub fn stopped_runs_leave_disks()
