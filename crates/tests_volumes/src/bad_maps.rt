@@ -1,5 +1,5 @@
 //! Roots with space maps that are none of their metaslabs, as an open reads them.
-ghost use Rattle.std.specs.Prelude.{◌<◌, ◌^◌, length, IfOk};
+ghost use Rattle.std.specs.Prelude.{◌+◌, ◌<◌, ◌≤◌, ◌^◌, length, IfOk};
 ghost use Rattle.dnode.specs.ObjectSet.{FitsObjectSet};
 
 use crate::sets::{EMPTY, root_block, with};
@@ -23,6 +23,7 @@ const METASLAB: u64 = 4096;
 fn all_but(alloc: Global, sectors: u64, start: u64) -> Result<FreeSet, Fail>
     requires some { 0 < sectors }
     requires few { sectors < 2 ^ 20 }
+    requires within { start + 8 ≤ sectors }
 {
     let mut free = FreeSet::new(alloc, sectors)?;
     free.change(Kind::Allocated, Run { start, len: 8 })?;
