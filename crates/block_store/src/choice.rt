@@ -13,7 +13,7 @@ use model_disk::Disk;
 use std::alloc::AllocError;
 
 /// Where a further copy may not go.
-#[derive(Debug, Clone, Copy, PartialEq, Eq)]
+#[derive(Clone, Copy, PartialEq, Eq)]
 pub(crate) enum Spread {
     /// To a vdev that has one.
     Vdevs,
@@ -47,7 +47,7 @@ fn may_take(shape: VdevShape, taken: &[Dva], vdev: usize, metaslab: usize, sprea
 }
 
 /// What a copy of a block wants of its place.
-#[derive(Debug, Clone, Copy)]
+#[derive(Clone, Copy)]
 pub(crate) struct Wanted {
     pub sectors: u32,
     /// How many copies the block has.

@@ -43,7 +43,7 @@ const LABEL_BYTES: u64 = DATA_START + 2 * DISK_UNIT;
 
 /// A vdev of a store that is to be made. A metaslab has 2 to the power `metaslab_shift` sectors, and the shift is
 /// from 12 to 20. The last `meta_slabs` metaslabs, at least one and not all, are for the blocks of the meta object set.
-#[derive(Debug, Clone, Copy)]
+#[derive(Clone, Copy)]
 pub struct VdevConfig {
     pub geometry: Geometry,
     pub metaslab_shift: u32,

@@ -5,7 +5,7 @@ use crate::create::MAX_VDEVS;
 
 /// Where the search for a block's place begins: at a vdev behind the last one that was taken, so that blocks spread over the vdevs; and
 /// on each vdev, in each region, at the metaslab that the last block went to, so that full ones before it aren't looked at again.
-#[derive(Debug, Clone, Copy)]
+#[derive(Clone, Copy)]
 pub(crate) struct Cursors {
     pub vdev: usize,
     /// For each vdev a metaslab before the meta region.

@@ -5,7 +5,7 @@ use block_pointer::Dva;
 use raidz_io::Vdev;
 
 /// A vdev, which is divided into metaslabs. Those sectors behind the last whole metaslab are not used.
-#[derive(Debug, Clone, Copy)]
+#[derive(Clone, Copy)]
 pub struct VdevShape {
     pub vdev: Vdev,
     /// How many sectors of 512 bytes of each child hold blocks.

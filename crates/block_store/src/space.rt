@@ -12,7 +12,7 @@ use std::marker::Model;
 
 /// The space of a vdev: what the sectors of its metaslabs are used for, by the blocks that are stored and with those of
 /// the plan.
-#[derive(Debug, Drop)]
+#[derive(Drop)]
 pub struct VdevMetaslabs {
     shape: VdevShape,
     metaslabs: MetaslabGroup,

@@ -34,7 +34,7 @@ use model_disk::Disk;
 use std::alloc::{AllocError, Global};
 
 /// A head that a group writes to, once its blocks are planned.
-#[derive(Debug, Drop)]
+#[derive(Drop)]
 pub struct RewrittenHead {
     /// Of the object of its record.
     pub number: u64,

@@ -22,7 +22,7 @@ use model_disk::Disk;
 use std::alloc::Global;
 
 /// The numbers of two objects that are made.
-#[derive(Clone, Copy, Debug)]
+#[derive(Clone, Copy)]
 pub struct NewNumbers {
     /// Of a record.
     pub dataset: u64,

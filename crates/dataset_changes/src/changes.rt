@@ -11,7 +11,7 @@ use std::collections::BTreeMap;
 /// is read of it when it is first asked for, and `into_changes` tells what becomes of its objects.
 ///
 /// Where a method answers an error what it was to change is perhaps changed in part: these changes are to be dropped.
-#[derive(Debug, Drop)]
+#[derive(Drop)]
 pub struct DatasetChanges {
     pub(crate) set: ObjectSet,
     pub(crate) birth: u64,

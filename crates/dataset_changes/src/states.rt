@@ -4,7 +4,7 @@ use meta_objset::DatasetRecord;
 use object_table::TableEnd;
 
 /// What became of the record of an object.
-#[derive(Debug, Drop)]
+#[derive(Drop)]
 pub enum RecordState {
     /// It was read, and is as it was.
     Read(DatasetRecord),
@@ -17,7 +17,7 @@ pub enum RecordState {
 }
 
 /// What became of the dead list of an object.
-#[derive(Debug, Drop)]
+#[derive(Drop)]
 pub enum ListState {
     /// Blocks are added to it, of which the end alone was read.
     Added { end: TableEnd, blocks: DeadList },

@@ -26,7 +26,7 @@ use model_disk::Disk;
 use std::alloc::Global;
 
 /// A head without snapshots of its own, in its chain.
-#[derive(Clone, Copy, Debug)]
+#[derive(Clone, Copy)]
 pub(crate) struct HeadPlace {
     /// Of the head's object.
     pub(crate) number: u64,

@@ -26,7 +26,7 @@ use model_disk::Disk;
 use std::alloc::Global;
 
 /// A snapshot without clones, in its chain.
-#[derive(Clone, Copy, Debug)]
+#[derive(Clone, Copy)]
 pub(crate) struct Place {
     /// Of the snapshot's object.
     pub(crate) number: u64,

@@ -13,7 +13,7 @@ pub const FIRST_OBJECT: u64 = 5;
 const NUMBERS_END: u64 = 1 << 40;
 
 /// Where the numbers end that new objects take: those from the next one on.
-#[derive(Debug, Clone, Copy)]
+#[derive(Clone, Copy)]
 pub struct NumberBounds {
     /// New objects take numbers below this one.
     pub end: u64,
@@ -25,7 +25,7 @@ pub struct NumberBounds {
 ///
 /// Where a method answers an error what it was to change is perhaps changed in part, and blocks may be planned that nothing has: these datasets
 /// are to be dropped, and another plan begun.
-#[derive(Debug, Drop)]
+#[derive(Drop)]
 pub struct GroupDatasets {
     /// The names of the datasets, with the objects of their records.
     pub directory: Directory,

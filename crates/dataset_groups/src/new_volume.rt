@@ -23,7 +23,7 @@ use volume::VolumeSet;
 use volume_rules::{is_good_name, is_good_shape};
 
 /// A volume that may be made: its name can stand in a row, and it can have its sizes.
-#[derive(Clone, Copy, Debug)]
+#[derive(Clone, Copy)]
 pub(crate) struct NewVolume {
     /// Padded as in a row.
     pub name: [u8; 56],

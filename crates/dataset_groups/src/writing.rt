@@ -31,7 +31,7 @@ use std::collections::VecDeque;
 use volume::{BlockWrite, VolumeSet};
 
 /// A head that a group writes to.
-#[derive(Debug, Drop)]
+#[derive(Drop)]
 pub struct WrittenHead {
     /// Of the object of its record.
     pub number: u64,

@@ -11,7 +11,7 @@ use std::marker::Model;
 /// Specification 2006, `ds_deadlist_obj`); births are numbers of transaction groups.
 ///
 /// The one error is that memory is short. It leaves each list with the blocks that it had.
-#[derive(Debug, Drop)]
+#[derive(Drop)]
 pub struct DeadList {
     pub(crate) blocks: Vec<Block>,
 }

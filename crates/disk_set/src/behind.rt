@@ -5,7 +5,7 @@ ghost use Rattle.disk_set.specs.Behind.{LeftOut};
 use std::collections::VecDeque;
 
 /// The write of an uberblock's slot in one of the four labels of a disk.
-#[derive(Debug, Clone, Copy, PartialEq, Eq, Drop)]
+#[derive(Clone, Copy, PartialEq, Eq, Drop)]
 pub struct SlotWrite {
     pub disk: usize,
     pub label: u64,

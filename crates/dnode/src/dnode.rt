@@ -6,7 +6,7 @@ use crate::refusal::Refusal;
 use words::is_zero;
 
 /// A slot among an object set's dnodes.
-#[derive(Clone, Copy, Debug, PartialEq, Eq)]
+#[derive(Clone, Copy, PartialEq, Eq)]
 pub enum Dnode {
     /// No object.
     Free,

@@ -16,7 +16,7 @@ pub const INDIRECT_LEN: usize = 16_384;
 pub const POINTERS: usize = 128;
 
 /// The 128 pointers of an indirect block.
-#[derive(Debug, Drop)]
+#[derive(Drop)]
 pub struct Indirect {
     pointers: Vec<BlockPtr>,
 }

@@ -8,7 +8,7 @@ use block_pointer::BlockPtr;
 use words::{bytes_at, is_zero, put, put_words, words_at};
 
 /// An object: the tree of its blocks.
-#[derive(Clone, Copy, Debug, PartialEq, Eq)]
+#[derive(Clone, Copy, PartialEq, Eq)]
 pub struct ObjectNode {
     /// The object's type, above 0.
     pub object_type: u8,

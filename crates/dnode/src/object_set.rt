@@ -6,7 +6,7 @@ use crate::refusal::Refusal;
 use words::{bytes_at, is_zero, put, put_words, words_at};
 
 /// What the objects of a set are.
-#[derive(Clone, Copy, Debug, PartialEq, Eq)]
+#[derive(Clone, Copy, PartialEq, Eq)]
 pub enum ObjectSetKind {
     /// Those of the pool itself.
     Meta,
@@ -15,7 +15,7 @@ pub enum ObjectSetKind {
 }
 
 /// A set of objects, by the object whose data are their dnodes.
-#[derive(Clone, Copy, Debug, PartialEq, Eq)]
+#[derive(Clone, Copy, PartialEq, Eq)]
 pub struct ObjectSet {
     /// Of type 10, with data blocks of 32 sectors.
     pub dnodes: ObjectNode,

@@ -22,7 +22,7 @@ use model_disk::Disk;
 use std::alloc::Global;
 
 /// A dnode as it was read.
-#[derive(Debug, Clone, Copy)]
+#[derive(Clone, Copy)]
 pub struct FoundDnode {
     pub dnode: Dnode,
     /// The transaction group in which its block was born. Where it has none it is the one that the blocks of the dnodes were

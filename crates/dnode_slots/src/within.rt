@@ -24,7 +24,7 @@ use model_disk::Disk;
 use std::alloc::{AllocError, Global};
 
 /// An object by its node, as it was read.
-#[derive(Debug, Clone, Copy)]
+#[derive(Clone, Copy)]
 pub struct FoundNode {
     pub node: ObjectNode,
     /// The transaction group in which the block with its dnode was born.
@@ -32,7 +32,7 @@ pub struct FoundNode {
 }
 
 /// The blocks of the dnodes of a set, and the objects that they have.
-#[derive(Debug, Drop)]
+#[derive(Drop)]
 pub struct FoundNodes {
     pub blocks: Vec<Block>,
     pub nodes: Vec<FoundNode>,

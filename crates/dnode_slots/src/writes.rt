@@ -3,7 +3,7 @@ use block_pointer::Block;
 use dnode::{Dnode, ObjectSet};
 
 /// A dnode that is written.
-#[derive(Debug, Clone, Copy, PartialEq, Eq)]
+#[derive(Clone, Copy, PartialEq, Eq)]
 pub struct NodeWrite {
     /// The number of the dnode: above 0, and below 32 * 128^5.
     pub number: u64,
@@ -11,7 +11,7 @@ pub struct NodeWrite {
 }
 
 /// An object set after dnodes were written.
-#[derive(Debug, Drop)]
+#[derive(Drop)]
 pub struct SetRewrite {
     pub set: ObjectSet,
     /// The blocks of the dnodes before that gave way to others.

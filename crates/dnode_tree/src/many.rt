@@ -67,7 +67,7 @@ pub fn get_many<D: Disk + Drop>(
 }
 
 /// What a read of several blocks carries through a tree.
-#[derive(Debug, Clone, Copy)]
+#[derive(Clone, Copy)]
 struct TreeReading<'a> {
     node: &'a ObjectNode,
     /// The numbers of the disks that are taken as missing.

@@ -19,7 +19,7 @@ use model_disk::Disk;
 use std::alloc::Global;
 
 /// A data block as it was read.
-#[derive(Debug, Drop)]
+#[derive(Drop)]
 pub struct DataBlock {
     pub bytes: Vec<u8>,
     /// The transaction group in which it was born, as the pointer to it says.

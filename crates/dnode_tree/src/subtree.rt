@@ -4,7 +4,7 @@ use block_pointer::BlockPtr;
 use dnode::Indirect;
 
 /// A part of a tree by its root.
-#[derive(Debug, Clone, Copy)]
+#[derive(Clone, Copy)]
 pub(crate) struct Subtree {
     /// How far the root stands above the data: at 0 it is a data block.
     pub level: u8,
@@ -14,7 +14,7 @@ pub(crate) struct Subtree {
 }
 
 /// The parts below a root.
-#[derive(Debug, Drop)]
+#[derive(Drop)]
 pub(crate) struct Parts {
     pub pointers: Indirect,
     /// How far their roots stand above the data.

@@ -116,7 +116,7 @@ pub fn walk_younger<D: Disk + Drop>(
 }
 
 /// What a walk carries through a tree.
-#[derive(Debug, Clone, Copy)]
+#[derive(Clone, Copy)]
 pub(crate) struct TreeWalk<'a> {
     pub node: &'a ObjectNode,
     /// Blocks that were born in this transaction group or before are left out; none are where none is named.

@@ -4,7 +4,7 @@ use block_store::CopyCount;
 use dnode::ObjectNode;
 
 /// The bytes that a data block is to have.
-#[derive(Debug, Drop)]
+#[derive(Drop)]
 pub struct BlockWrite {
     /// The id of the block, below 128^5.
     pub id: u64,
@@ -12,7 +12,7 @@ pub struct BlockWrite {
 }
 
 /// How many copies the blocks of an object have.
-#[derive(Debug, Clone, Copy)]
+#[derive(Clone, Copy)]
 pub struct CopyCounts {
     pub data: CopyCount,
     pub indirect: CopyCount,
@@ -32,7 +32,7 @@ impl CopyCounts {
 }
 
 /// An object after writes.
-#[derive(Debug, Drop)]
+#[derive(Drop)]
 pub struct Rewrite {
     pub node: ObjectNode,
     /// The blocks of the object before that gave way to others.
@@ -40,7 +40,7 @@ pub struct Rewrite {
 }
 
 /// What a rewrite of an object carries through its tree.
-#[derive(Debug, Clone, Copy)]
+#[derive(Clone, Copy)]
 pub(crate) struct Rewriting<'a> {
     /// The object before: the new one has its type and the size of its data blocks.
     pub node: &'a ObjectNode,

@@ -17,7 +17,7 @@ use std::marker::Model;
 use words::{bytes_at, word_at};
 
 /// A row of the directory.
-#[derive(Clone, Copy, Debug, PartialEq, Eq)]
+#[derive(Clone, Copy, PartialEq, Eq)]
 pub struct DirectoryRow {
     /// A name of 1 to 55 bytes that aren't zero, and zeros behind them.
     pub name: [u8; 56],
@@ -81,7 +81,7 @@ fn first_row(bytes: &[u8]) -> Result<(DirectoryRow, &[u8]), Refusal>
 }
 
 /// Names and the objects that they name: the names ascend in byte order, so each is there once.
-#[derive(Debug, Drop)]
+#[derive(Drop)]
 pub struct Directory {
     rows: Vec<DirectoryRow>,
 }

@@ -10,14 +10,14 @@ use object_table::Refusal;
 use words::{bytes_at, is_zero, put, put_words, words_at};
 
 /// What a dataset is.
-#[derive(Clone, Copy, Debug, PartialEq, Eq)]
+#[derive(Clone, Copy, PartialEq, Eq)]
 pub enum DatasetKind {
     Volume,
     Snapshot,
 }
 
 /// A dataset, beside its data.
-#[derive(Clone, Copy, Debug, PartialEq, Eq)]
+#[derive(Clone, Copy, PartialEq, Eq)]
 pub struct DatasetRecord {
     pub kind: DatasetKind,
     /// In bytes: whole blocks, one at least, and at most 2^40 bytes.

@@ -15,7 +15,7 @@ use std::alloc::{AllocError, Global};
 use std::marker::Model;
 
 /// Where a metaslab stands.
-#[derive(Clone, Copy, Debug, PartialEq, Eq)]
+#[derive(Clone, Copy, PartialEq, Eq)]
 pub struct MetaslabPlace {
     /// The number of its vdev.
     pub vdev: u64,
@@ -24,7 +24,7 @@ pub struct MetaslabPlace {
 }
 
 /// The space map of a metaslab.
-#[derive(Clone, Copy, Debug, PartialEq, Eq)]
+#[derive(Clone, Copy, PartialEq, Eq)]
 pub struct MetaslabMap {
     /// The metaslab.
     pub metaslab: MetaslabPlace,
@@ -82,7 +82,7 @@ fn first_map(bytes: &[u8]) -> Result<(MetaslabMap, &[u8]), Refusal>
 }
 
 /// The space maps of metaslabs: the metaslabs ascend by vdev and index, so each is there once.
-#[derive(Debug, Drop)]
+#[derive(Drop)]
 pub struct SpaceMaps {
     rows: Vec<MetaslabMap>,
 }

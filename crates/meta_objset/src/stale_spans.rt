@@ -14,7 +14,7 @@ use std::alloc::{AllocError, Global};
 use std::marker::Model;
 
 /// The groups whose blocks a disk missed.
-#[derive(Clone, Copy, Debug, PartialEq, Eq)]
+#[derive(Clone, Copy, PartialEq, Eq)]
 pub struct StaleSpan {
     /// The guid of the disk.
     pub disk: u64,
@@ -73,7 +73,7 @@ fn first_span(bytes: &[u8]) -> Result<(StaleSpan, &[u8]), Refusal>
 }
 
 /// A span for each disk that missed blocks: the disks' guids ascend, so each is there once.
-#[derive(Debug, Drop)]
+#[derive(Drop)]
 pub struct StaleSpans {
     rows: Vec<StaleSpan>,
 }

@@ -16,7 +16,7 @@ use std::marker::Model;
 /// `allocate` hands out free sectors. What was released with a group becomes free at the first `settle` for
 /// a group three or more later, while no group before it is pinned. A plan works on a clone: a dropped plan
 /// drops the clone, which takes no memory.
-#[derive(Debug, Drop)]
+#[derive(Drop)]
 pub struct Metaslab {
     free: FreeSet,
     released: Vec<Release>,

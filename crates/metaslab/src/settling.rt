@@ -9,7 +9,7 @@ use space_map::{FreeSet, Kind, Run};
 use std::alloc::AllocError;
 
 /// A run that a group released.
-#[derive(Clone, Copy, Debug)]
+#[derive(Clone, Copy)]
 pub(crate) struct Release {
     pub(crate) group: u64,
     pub(crate) run: Run,

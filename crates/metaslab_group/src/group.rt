@@ -12,7 +12,7 @@ use std::marker::Model;
 ///
 /// What a plan does is seen in the planned spaces alone, until it is kept or dropped. A metaslab is copied
 /// when a plan first touches it.
-#[derive(Debug, Drop)]
+#[derive(Drop)]
 pub struct MetaslabGroup {
     metaslabs: Vec<PlannedMetaslab>,
     pins: Vec<u64>,

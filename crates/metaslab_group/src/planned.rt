@@ -11,7 +11,7 @@ use std::marker::Model;
 /// which is made once the plan touches the metaslab.
 ///
 /// What the plan does is seen in the planned space alone, until it is kept or dropped.
-#[derive(Debug, Drop)]
+#[derive(Drop)]
 pub struct PlannedMetaslab {
     kept: Metaslab,
     copy: Option<Metaslab>,

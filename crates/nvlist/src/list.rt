@@ -22,14 +22,14 @@ pub(crate) const LIST: u32 = 19;
 pub(crate) const LISTS: u32 = 20;
 
 /// A list of pairs, whose names ascend in byte order.
-#[derive(Debug, Drop)]
+#[derive(Drop)]
 #[cycle(nvlist)]
 pub struct NvList {
     pub(crate) pairs: Vec<Pair>,
 }
 
 /// A name and its value.
-#[derive(Debug, Drop)]
+#[derive(Drop)]
 #[cycle(nvlist)]
 pub struct Pair {
     pub(crate) name: String,
@@ -37,7 +37,7 @@ pub struct Pair {
 }
 
 /// The value of a pair.
-#[derive(Debug, Drop)]
+#[derive(Drop)]
 #[cycle(nvlist)]
 pub enum Value {
     /// A number of 64 bits.

@@ -22,7 +22,7 @@ use model_disk::Disk;
 use std::alloc::Global;
 
 /// What has to be known of a table to add rows to it.
-#[derive(Debug, Drop)]
+#[derive(Drop)]
 pub struct TableEnd {
     /// How many rows it has.
     pub rows: u64,

@@ -2,7 +2,7 @@
 use crate::shape::RowShape;
 
 /// What an object with a table is.
-#[derive(Clone, Copy, Debug, PartialEq, Eq)]
+#[derive(Clone, Copy, PartialEq, Eq)]
 pub struct TableKind {
     /// The object's type, above 0.
     pub object_type: u8,

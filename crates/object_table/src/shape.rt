@@ -1,7 +1,7 @@
 //! How rows stand in a table.
 
 /// The bytes of a table's rows.
-#[derive(Clone, Copy, Debug, PartialEq, Eq)]
+#[derive(Clone, Copy, PartialEq, Eq)]
 pub struct RowShape {
     /// Of the first row, which has the number of the others: from 8 to 4,096.
     pub first_len: usize,

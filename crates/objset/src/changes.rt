@@ -4,7 +4,7 @@ use dnode::ObjectSetKind;
 use dnode_tree::{BlockWrite, CopyCounts};
 
 /// What becomes of an object.
-#[derive(Debug, Drop)]
+#[derive(Drop)]
 pub enum Change {
     /// An object is made where there is none.
     Create {
@@ -30,7 +30,7 @@ pub enum Change {
 }
 
 /// A change of one object.
-#[derive(Debug, Drop)]
+#[derive(Drop)]
 pub struct ObjectChange {
     /// Above 0, below 32 * 128^5.
     pub number: u64,
@@ -38,7 +38,7 @@ pub struct ObjectChange {
 }
 
 /// How many copies the blocks of a set have: its kind says it.
-#[derive(Debug, Clone, Copy)]
+#[derive(Clone, Copy)]
 pub struct SetCopies {
     /// Of the data blocks of objects.
     pub data: CopyCount,
@@ -90,7 +90,7 @@ impl SetCopies {
 }
 
 /// What a change of a set carries through its objects.
-#[derive(Debug, Clone, Copy)]
+#[derive(Clone, Copy)]
 pub(crate) struct Changing<'a> {
     /// The transaction group in which the new blocks are born.
     pub birth: u64,

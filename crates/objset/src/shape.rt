@@ -2,7 +2,7 @@
 use dnode::Dnode;
 
 /// What an object is, beside its data.
-#[derive(Clone, Copy, Debug, PartialEq, Eq)]
+#[derive(Clone, Copy, PartialEq, Eq)]
 pub struct ObjectShape {
     /// The object's type, above 0.
     pub object_type: u8,

@@ -25,7 +25,7 @@ use space_map_objects::{Refusal, read_free_set};
 use std::alloc::{AllocError, Global};
 
 /// What a metaslab's space map leaves free.
-#[derive(Debug, Drop)]
+#[derive(Drop)]
 pub struct FreeMetaslab {
     /// The metaslab.
     pub metaslab: MetaslabPlace,

@@ -45,7 +45,7 @@ const SPACE_MAPS: u64 = 4;
 const MOST_MAPS: usize = 1 << 40;
 
 /// The space maps of a pool as a group's plan goes on.
-#[derive(Debug, Drop)]
+#[derive(Drop)]
 pub(crate) struct MapPlan {
     pub maps: SpaceMaps,
     /// Whether a metaslab got its first map.

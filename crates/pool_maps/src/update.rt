@@ -14,7 +14,7 @@ use space_map::{FreeSet, append_update};
 use std::alloc::Global;
 
 /// What a metaslab's space map is to say of a plan.
-#[derive(Debug, Drop)]
+#[derive(Drop)]
 pub(crate) struct Update {
     /// The entries, of 8 bytes each, that lead from what the map leaves free to what it is to leave free.
     pub entries: Vec<u8>,

@@ -4,7 +4,7 @@ use crate::refusal::Refusal;
 use crate::text::{Bytes, Name};
 
 /// What is asked of the pool: one step of the machine, taken whole.
-#[derive(Debug, Drop)]
+#[derive(Drop)]
 pub enum Step {
     /// Takes a hold of the open group.
     Hold(u32),

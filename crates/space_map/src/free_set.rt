@@ -10,7 +10,7 @@ use std::alloc::{AllocError, Global};
 use std::marker::Model;
 
 /// The free sectors of a metaslab, as runs that ascend and do not touch.
-#[derive(Debug, Drop)]
+#[derive(Drop)]
 pub struct FreeSet {
     sectors: u64,
     runs: Vec<Run>,

@@ -10,7 +10,7 @@ use std::alloc::AllocError;
 use std::collections::VecDeque;
 
 /// A call of the pipeline.
-#[derive(Debug, Drop)]
+#[derive(Drop)]
 pub enum Call {
     Hold(u32),
     Accept(Item),

@@ -10,7 +10,7 @@ use std::alloc::{AllocError, Global};
 use std::marker::Model;
 
 /// The items of a group, each kind in the order accepted.
-#[derive(Debug, Drop)]
+#[derive(Drop)]
 pub struct Pending {
     writes: Vec<Write>,
     actions: Vec<Action>,

@@ -11,14 +11,14 @@ use std::collections::HashMap;
 pub const PIECE_BYTES: u64 = 131_072;
 
 /// The writes to one volume, by their positions among the writes of the group.
-#[derive(Debug, Drop)]
+#[derive(Drop)]
 pub(crate) struct PieceIndex {
     all: Vec<usize>,
     pieces: HashMap<u64, Vec<usize>>,
 }
 
 /// For each name the writes to its volume.
-#[derive(Debug, Drop)]
+#[derive(Drop)]
 pub(crate) struct PlaceIndex {
     volumes: HashMap<Vec<u8>, PieceIndex>,
 }

@@ -6,7 +6,7 @@ use block_pointer::{Block, BlockPtr, Copies};
 use words::LAST_COUNT;
 
 /// The root of what one transaction group committed.
-#[derive(Clone, Copy, Debug, PartialEq, Eq)]
+#[derive(Clone, Copy, PartialEq, Eq)]
 pub struct Uberblock {
     /// The transaction group, from 1 to 2^62.
     pub group: u64,

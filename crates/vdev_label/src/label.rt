@@ -1,7 +1,7 @@
 //! A label as a value.
 
 /// What a disk says of itself and of its pool.
-#[derive(Debug, Drop)]
+#[derive(Drop)]
 pub struct Label {
     /// How many times the pool was opened: from 1 to 2^62.
     pub claim: u64,
@@ -19,14 +19,14 @@ pub struct Label {
 }
 
 /// What its last user did with the pool.
-#[derive(Clone, Copy, Debug, PartialEq, Eq)]
+#[derive(Clone, Copy, PartialEq, Eq)]
 pub enum State {
     Active,
     Exported,
 }
 
 /// The vdevs of a pool, in the order of their numbers.
-#[derive(Debug, Drop)]
+#[derive(Drop)]
 pub struct Config {
     pub vdevs: Vec<Vdev>,
 }
@@ -35,7 +35,7 @@ pub struct Config {
 pub(crate) const SECTOR_SHIFT: u64 = 9;
 
 /// A RAID-Z vdev with sectors of 512 bytes. What its values are is not judged here.
-#[derive(Debug, Drop)]
+#[derive(Drop)]
 pub struct Vdev {
     pub guid: u64,
     /// How many columns of each extent are parity.

@@ -32,7 +32,7 @@ use objset::{Change, ObjectChange, plan_set};
 use std::alloc::{AllocError, Global};
 
 /// A volume after some of its blocks were written anew.
-#[derive(Debug, Drop)]
+#[derive(Drop)]
 pub struct Rewritten {
     pub volume: VolumeSet,
     /// The blocks of the volume before that gave way to others.
@@ -40,7 +40,7 @@ pub struct Rewritten {
 }
 
 /// An object set that is planned.
-#[derive(Debug, Drop)]
+#[derive(Drop)]
 pub(crate) struct PlannedSet {
     pub block: Block,
     /// The blocks of the objects before that gave way to others.

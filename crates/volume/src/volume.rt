@@ -12,7 +12,7 @@ pub(crate) const VOLUME_TYPE: u8 = 23;
 
 /// A volume's size and the block of its object set. The set's only object is number 1: the volume's data, of type 23, in
 /// blocks of the volume's block size. A block that was never written is a hole, and reads as zeros.
-#[derive(Clone, Copy, Debug)]
+#[derive(Clone, Copy)]
 pub struct VolumeSet {
     size: u64,
     block_size: u64,

@@ -29,7 +29,7 @@ use txg_pipeline::Pending;
 use volume_rules::lay_pending;
 
 /// What a group writes, and the name of a volume. Writes to other volumes don't count.
-#[derive(Clone, Copy, Debug)]
+#[derive(Clone, Copy)]
 pub struct GroupWrites<'a> {
     pub name: &'a Name,
     pub items: &'a Pending,

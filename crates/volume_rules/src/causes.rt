@@ -164,7 +164,7 @@ pub fn against_write(write: &Write, group: u64, found: Option<VolumeShape>) -> O
 }
 
 /// What hinders a destroy: whether snapshots of a volume are there, and whether clones of a snapshot are.
-#[derive(Clone, Copy, Debug, PartialEq, Eq, Drop)]
+#[derive(Clone, Copy, PartialEq, Eq, Drop)]
 pub struct Dependents {
     pub snapshots: bool,
     pub clones: bool,

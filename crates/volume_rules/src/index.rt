@@ -11,14 +11,14 @@ use std::collections::HashMap;
 use txg_pipeline::Pending;
 
 /// A name that a change makes, and what stands there.
-#[derive(Debug, Drop)]
+#[derive(Drop)]
 pub struct NewName {
     pub name: Name,
     pub entry: VolumeEntry,
 }
 
 /// What a change does to the names of a pool.
-#[derive(Debug, Drop)]
+#[derive(Drop)]
 pub enum NameChange {
     Nothing,
     Added(NewName),
@@ -29,7 +29,7 @@ pub enum NameChange {
 ///
 /// A name is added in two calls, so that what is accepted is also known: first `reserve`, which may fail, and then, once
 /// the group has accepted the change, `make`, which takes no memory.
-#[derive(Debug, Drop)]
+#[derive(Drop)]
 pub struct NameIndex {
     entries: HashMap<Vec<u8>, VolumeEntry>,
 }

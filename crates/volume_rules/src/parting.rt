@@ -13,7 +13,7 @@ use std::alloc::{AllocError, Global};
 use std::marker::Model;
 
 /// The actions of a group, parted. What a group makes and destroys again is in neither list.
-#[derive(Debug, Drop)]
+#[derive(Drop)]
 pub struct PartedActions {
     destroyed: Vec<Name>,
     made: Vec<Action>,

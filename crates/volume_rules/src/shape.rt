@@ -7,7 +7,7 @@ use pool_model::{Name, PlainVolume, VolumeKind};
 use std::alloc::AllocError;
 
 /// A volume's size, block size, creation group and kind.
-#[derive(Clone, Copy, Debug, PartialEq, Eq, Drop)]
+#[derive(Clone, Copy, PartialEq, Eq, Drop)]
 pub struct VolumeShape {
     /// In bytes.
     pub size: u64,
@@ -33,7 +33,7 @@ impl VolumeShape {
 }
 
 /// What an index has of a volume.
-#[derive(Debug, Drop)]
+#[derive(Drop)]
 pub struct VolumeEntry {
     pub shape: VolumeShape,
     /// Of a clone the name of its snapshot.
