@@ -7,7 +7,7 @@ use Rattle.uberblock_ring.specs.declared.uberblock.Uberblock.{Uberblock}
 use Rattle.pool_slots.specs.Configs.{ClaimConfigures, OpenConfigures}
 use Rattle.pool_slots.specs.Labels.{AreasStand, IsClaimWrite}
 use Rattle.pool_slots.specs.Opens.{ClaimGives, ClaimKeeps, OpenGives, OpenKeeps, OpenMarks}
-use Rattle.pool_slots.specs.Relabels.{AreFirst, AreMadeOf, IsRewrite, OpenMarksFirst, OpenRelabels, OpenRewrites, all_labels, of_areas}
+use Rattle.pool_slots.specs.Relabels.{AreFirst, AreMadeOf, IsRewrite, OpenMarksFirst, OpenRelabels, OpenRewrites, InAllLabels, of_areas}
 use Rattle.pool_slots.specs.Slots.{InUse, MakesOn}
 use Rattle.pool_slots.specs.Surveys.{Surveyed, IsWholeOf, OfSurveyed}
 use Rattle.pool_slots.specs.declared.found.Found.{Found}
@@ -77,7 +77,7 @@ rewrites_of out first old new u areas scan made makes =
     (λ which at bytes write. elim write [
       | inl slot ↦ inl slot
       | inr it ↦
-          let mine = made which it.area it.has in
+          let mine = made which it.picked.area it.picked.has in
           inr (record {
             number = it.number;
             is_label = it.is_label;
@@ -85,7 +85,7 @@ rewrites_of out first old new u areas scan made makes =
             from = mine.it.source;
             label = mine.label;
             shown = mine.source;
-            spells = it.same ∙ mine.spells;
+            spells = it.picked.same ∙ mine.spells;
           })
     ])
     (subst M scan.starts makes))
@@ -106,10 +106,10 @@ claim_gives out old new s u given whole is same makes gives rewind first few sur
     opened_is trees out rewind first old new p s given can few whole.found_on surveyed (made_as out old new s u is makes) honest same (subst P is gives)
 
 pub claim_relabels : (out : List Bool) (old new : Disks) (s : Surveyed) (u : Uberblock) (seen : List (Option Area)) → IsWholeOf out old.starts s → u ≡ s.claimed → seen ≡ s.areas
-    → Makes (IsClaimWrite old.starts out u) old new → AreasStand (content new) old.starts seen all_labels → OfSurveyed out s old (λ rewind first. OpenRelabels out first s.claimed new)
+    → Makes (IsClaimWrite old.starts out u) old new → AreasStand (content new) old.starts (InAllLabels seen) → OfSurveyed out s old (λ rewind first. OpenRelabels out first s.claimed new)
 claim_relabels out old new s u seen whole is also makes stand rewind first few surveyed known honest =
-    let P : List (Option Area) → Type 0 = λ xs. AreasStand (content new) old.starts xs all_labels in
-    let Q : List (List ℕ) → Type 0 = λ starts. AreasStand (content new) starts s.areas all_labels in
+    let P : List (Option Area) → Type 0 = λ xs. AreasStand (content new) old.starts (InAllLabels xs) in
+    let Q : List (List ℕ) → Type 0 = λ starts. AreasStand (content new) starts (InAllLabels s.areas) in
     let makes' = made_as out old new s u is makes in
     let same = surveyed.unwritten.starts in
     relabeled_by out first new s.claimed s.areas (made_from out rewind first old new s surveyed makes' known honest) whole.areas_on whole.fits (makes'.starts ∙ same) (subst Q same (subst P also stand))

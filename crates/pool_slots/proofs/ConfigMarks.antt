@@ -6,20 +6,19 @@ use Rattle.uberblock_ring.specs.Uberblock.{Fits}
 use Rattle.model_disk.specs.Joint.{Disks, bytes_of, content}
 use Rattle.model_disk.specs.Runs.{EachSince, Makes}
 use Rattle.model_disk.proofs.RunLemmas.{off_content}
-use Rattle.pool_slots.specs.Configures.{AreLong, AreNewAreas, AreOddMarked, IsConfigWrite, half_in_use}
-use Rattle.pool_slots.specs.Labels.{area_place}
+use Rattle.pool_slots.specs.Configures.{AreNewAreas, AreOddMarked, half_in_use}
+use Rattle.pool_slots.specs.Labels.{AreWhole, IsAreaWrite, area_place}
 use Rattle.pool_slots.specs.Marks.{LeavesMarked, MarkedAlways}
-use Rattle.pool_slots.specs.Slots.{AreSettled, AreThere, HaveLabels, InUse}
+use Rattle.pool_slots.specs.Slots.{AreSettled, AreThere, HaveLabels}
 use Rattle.pool_slots.specs.Writes.{ArePlaced, IsSlotWrite, in_use}
 use Rattle.pool_slots.specs.declared.blocks.BlockWrite.{BlockWrite}
 use Rattle.pool_slots.proofs.ConfigMoments.{EvenStand, area_of, first_off_odd, other_half}
 use Rattle.pool_slots.proofs.ConfigPhases.{first_writes, long_areas}
-use Rattle.pool_slots.proofs.ConfigWrites.{config_relabels, relabel_off_area}
 use Rattle.pool_slots.proofs.LabelPhases.{KeptMark, marked_always}
-use Rattle.pool_slots.proofs.LabelWrites.{off_area_of_slots}
+use Rattle.pool_slots.proofs.LabelWrites.{off_area_of_slots, off_area_writes}
 
 pub first_marks : (out : List Bool) (old new : Disks) (blocks : List BlockWrite) (areas : List (Vec ℕ Global)) (claim : ℕ) → AreThere out old.starts → HaveLabels old.starts → ArePlaced out old.starts blocks
-    → AreLong (InUse out) areas → AreSettled out old.calls → AreOddMarked out old claim → Makes (first_writes out old.starts blocks areas) old new → MarkedAlways out old new claim
+    → AreWhole (half_in_use out areas 0) → AreSettled out old.calls → AreOddMarked out old claim → Makes (first_writes out old.starts blocks areas) old new → MarkedAlways out old new claim
 first_marks out old new blocks areas claim there room placed long settled odd makes =
     marked_always out old new (first_writes out old.starts blocks areas) claim there settled makes
     (λ which used.
@@ -33,7 +32,7 @@ first_marks out old new blocks areas claim there room placed long settled odd ma
     })
 
 pub slots_marks : (out : List Bool) (old now new : Disks) (blocks : List BlockWrite) (areas : List (Vec ℕ Global)) (u : Uberblock) (claim : ℕ) → AreThere out old.starts → HaveLabels old.starts → Fits u
-    → ArePlaced out old.starts blocks → AreLong (InUse out) areas → AreOddMarked out old claim → Makes (first_writes out old.starts blocks areas) old now → AreSettled out now.calls
+    → ArePlaced out old.starts blocks → AreWhole (half_in_use out areas 0) → AreOddMarked out old claim → Makes (first_writes out old.starts blocks areas) old now → AreSettled out now.calls
     → Makes (IsSlotWrite now.starts u (in_use out)) now new → EachSince (length now.calls) (LeavesMarked out old.starts claim) new.calls
 slots_marks out old now new blocks areas u claim there room fits placed long odd first settled makes =
     let may = IsSlotWrite old.starts u (in_use out) in
@@ -60,14 +59,14 @@ slots_marks out old now new blocks areas u claim there room fits placed long odd
     })))
 
 pub last_marks : (out : List Bool) (old now new : Disks) (areas : List (Vec ℕ Global)) (u : Uberblock) (claim : ℕ) → AreThere out old.starts → HaveLabels old.starts → length areas ≡ length old.starts
-    → AreNewAreas out u areas → claim ≤ u.claim → EvenStand out old now areas → Makes (IsConfigWrite now.starts areas (half_in_use out 1)) now new
+    → AreNewAreas out u areas → claim ≤ u.claim → EvenStand out old now areas → Makes (IsAreaWrite now.starts (half_in_use out areas 1)) now new
     → EachSince (length now.calls) (LeavesMarked out old.starts claim) new.calls
 last_marks out old now new areas u claim there room count fresh least even makes =
-    let picks = half_in_use out 1 in
-    let may = IsConfigWrite old.starts areas picks in
-    let long = long_areas out u areas fresh in
+    let picks = half_in_use out areas 1 in
+    let may = IsAreaWrite old.starts picks in
+    let long = long_areas out u areas fresh 1 in
     let T : List (List ℕ) → Type 0 = AreThere out in
-    let M : List (List ℕ) → Type 0 = λ starts. Makes (IsConfigWrite starts areas picks) now new in
+    let M : List (List ℕ) → Type 0 = λ starts. Makes (IsAreaWrite starts picks) now new in
     let E : List (List ℕ) → Type 0 = λ starts. EachSince (length now.calls) (LeavesMarked out starts claim) new.calls in
     subst E even.starts (marked_always out now new may claim (subst T (sym even.starts) there) even.settled (subst M even.starts makes)
     (λ which used.
@@ -80,10 +79,8 @@ last_marks out old now new areas u claim there room count fresh least even makes
       shown = record {
         is_label = omega arith;
         valid = it.inscribed_as.valid;
-        bytes = λ i below. even.stand which 0 area.0 area.1 (omega arith) (used, inl refl) i below ∙ ap (λ (them : List ℕ). slice_get them i) it.inscribed_as.spells;
+        bytes = λ i below. even.stand which 0 area.0.items (omega arith) (record { used = used; area = area.0; has = area.1; same = refl }, inl refl) i below ∙ ap (λ (them : List ℕ). slice_get them i) it.inscribed_as.spells;
       };
       no_less = omega (arith, least, it.inscribed_as.claim);
-      off = λ i below at bytes write.
-          relabel_off_area old.starts which at 0 i bytes (config_relabels old.starts areas (InUse out) picks which at bytes long (λ w n both. both.0) write) (room which (there which used)) (omega arith)
-          (λ same. other_half 0 write.number (inl refl) write.picked.1 (sym same)) below;
+      off = off_area_writes old.starts picks which 0 long (room which (there which used)) (omega arith) (λ n b both same. other_half 0 n (inl refl) both.1 (sym same));
     })))

@@ -10,17 +10,16 @@ use Rattle.model_disk.specs.Joint.{JointCall, Disks, bytes_of, content, MayLeave
 use Rattle.model_disk.specs.Runs.{EachSince, HeldOn, IsMoment, IsOff, IsWholeIn, Makes}
 use Rattle.model_disk.proofs.ContentsLemmas.{covers-inside}
 use Rattle.model_disk.proofs.RunLemmas.{held_in_run, off_content, off_is_left}
-use Rattle.pool_slots.specs.Configures.{AreLong, AreNewAreas, AreRewritten, AreSeen, CanReconfigure, ConfigsStand, IsConfigWrite, IsSeen, LeavesConfigs, half_in_use}
-use Rattle.pool_slots.specs.Labels.{IsLabelShown, area_place}
+use Rattle.pool_slots.specs.Configures.{AreNewAreas, AreRewritten, AreSeen, CanReconfigure, IsAreaInUse, IsSeen, LeavesConfigs, half_in_use}
+use Rattle.pool_slots.specs.Labels.{AreWhole, AreasStand, IsAreaWrite, IsLabelShown, area_place}
 use Rattle.pool_slots.specs.Opens.{IsShownOn}
 use Rattle.pool_slots.specs.Possible.{held_by}
 use Rattle.pool_slots.specs.Slots.{AreSettled, AreThere, AreUntorn, HaveLabels, InUse, IsSlot, Shows, slot_at, spelled}
 use Rattle.pool_slots.specs.Writes.{ArePlaced, InHalf, IsBlockWrite, IsSlotWrite, SlotsStand, in_use}
 use Rattle.pool_slots.specs.declared.blocks.BlockWrite.{BlockWrite}
 use Rattle.pool_slots.proofs.ConfigPhases.{first_writes, long_areas}
-use Rattle.pool_slots.proofs.ConfigWrites.{config_relabels, label_stays, relabel_off_area, relabel_off_slot}
 use Rattle.pool_slots.proofs.LabelPhases.{KeptConfig, configured_always}
-use Rattle.pool_slots.proofs.LabelWrites.{area_in_label, off_area_of_slots}
+use Rattle.pool_slots.proofs.LabelWrites.{area_in_label, area_relabels, off_area_of_slots, off_area_writes, relabel_off_area, relabel_off_slot}
 use Rattle.pool_slots.proofs.Places.{apart_covers, length-spelled, range_off_slot}
 use Rattle.pool_slots.proofs.Writing.{label_half, not_both, slot_number_small}
 
@@ -49,20 +48,20 @@ block_off_slot out starts blocks which at label slot i bytes placed is below wri
     block_off out starts blocks which at bytes (λ s. slot_at s label slot) 1024 i write
     (range_off_slot (length (bytes_of starts write.block.disk)) write.block.at (length write.block.bytes.items) label slot ((placed write.k write.block write.is).off_labels label is.is_label) is) below
 
-first_off_slot : (out : List Bool) (starts : List (List ℕ)) (blocks : List BlockWrite) (areas : List (Vec ℕ Global)) (which label slot i : ℕ) → ArePlaced out starts blocks → AreLong (InUse out) areas
+first_off_slot : (out : List Bool) (starts : List (List ℕ)) (blocks : List BlockWrite) (areas : List (Vec ℕ Global)) (which label slot i : ℕ) → ArePlaced out starts blocks → AreWhole (half_in_use out areas 0)
     → 1048576 ≤ length (bytes_of starts which) → IsSlot label slot → i < 1024 → IsOff (first_writes out starts blocks areas which) (slot_at (length (bytes_of starts which)) label slot + i)
 first_off_slot out starts blocks areas which label slot i placed long room is below at bytes (inl block) = block_off_slot out starts blocks which at label slot i bytes placed is below block
 first_off_slot out starts blocks areas which label slot i placed long room is below at bytes (inr config) =
-    relabel_off_slot starts which at label slot i bytes (config_relabels starts areas (InUse out) (half_in_use out 0) which at bytes long (λ w n it. it.0) config) room is below
+    relabel_off_slot starts which at label slot i bytes (area_relabels starts (half_in_use out areas 0) which at bytes long config) room is below
 
 pub other_half : (n number : ℕ) → InHalf 0 n → InHalf 1 number → ¬ (n ≡ number)
 other_half n number even odd same = let P : ℕ → Type 0 = InHalf 0 in not_both number (subst P same even) odd
 
-pub first_off_odd : (out : List Bool) (starts : List (List ℕ)) (blocks : List BlockWrite) (areas : List (Vec ℕ Global)) (which number i : ℕ) → ArePlaced out starts blocks → AreLong (InUse out) areas
+pub first_off_odd : (out : List Bool) (starts : List (List ℕ)) (blocks : List BlockWrite) (areas : List (Vec ℕ Global)) (which number i : ℕ) → ArePlaced out starts blocks → AreWhole (half_in_use out areas 0)
     → 1048576 ≤ length (bytes_of starts which) → InHalf 1 number → number < 4 → i < 114688 → IsOff (first_writes out starts blocks areas which) (area_place (length (bytes_of starts which)) number + i)
 first_off_odd out starts blocks areas which number i placed long room odd is below at bytes (inl block) = block_off_area out starts blocks which at number i bytes placed is below block
 first_off_odd out starts blocks areas which number i placed long room odd is below at bytes (inr config) =
-    relabel_off_area starts which at number i bytes (config_relabels starts areas (InUse out) (half_in_use out 0) which at bytes long (λ w n it. it.0) config) room is
+    relabel_off_area starts which at number i bytes (area_relabels starts (half_in_use out areas 0) which at bytes long config) room is
     (other_half config.number number config.picked.1 odd) below
 
 -- ---- before the slots
@@ -72,7 +71,7 @@ true_isnt_false b is isnt = let e : true ≡ false = sym is ∙ isnt in cc
 
 -- no slot shows the uberblock
 first_unseen : (out : List Bool) (old new : Disks) (blocks : List BlockWrite) (areas : List (Vec ℕ Global)) (digest : List ℕ) (u : Uberblock) → AreThere out old.starts → HaveLabels old.starts
-    → ArePlaced out old.starts blocks → AreLong (InUse out) areas → CanReconfigure out old digest u → Makes (first_writes out old.starts blocks areas) old new
+    → ArePlaced out old.starts blocks → AreWhole (half_in_use out areas 0) → CanReconfigure out old digest u → Makes (first_writes out old.starts blocks areas) old new
     → (earlier : List JointCall) → IsMoment (length old.calls) new.calls earlier → (images : List (List ℕ)) → MayLeaveAll old.starts earlier images → AreUntorn out old.starts earlier images
     → ¬ IsSeen out images u
 first_unseen out old new blocks areas digest u there room placed long can makes earlier moment images left untorn seen =
@@ -101,7 +100,7 @@ first_unseen out old new blocks areas digest u there room placed long can makes 
     ]
 
 pub first_configs : (out : List Bool) (old new : Disks) (blocks : List BlockWrite) (areas : List (Vec ℕ Global)) (digest : List ℕ) (u : Uberblock) → AreThere out old.starts → HaveLabels old.starts
-    → ArePlaced out old.starts blocks → AreLong (InUse out) areas → CanReconfigure out old digest u → Makes (first_writes out old.starts blocks areas) old new
+    → ArePlaced out old.starts blocks → AreWhole (half_in_use out areas 0) → CanReconfigure out old digest u → Makes (first_writes out old.starts blocks areas) old new
     → EachSince (length old.calls) (LeavesConfigs out old.starts digest u) new.calls
 first_configs out old new blocks areas digest u there room placed long can makes earlier moment images left untorn =
     let may = first_writes out old.starts blocks areas in
@@ -124,13 +123,13 @@ first_configs out old new blocks areas digest u there room placed long can makes
 -- labels 0 and 2 stand, flushed
 pub record EvenStand (out : List Bool) (old now : Disks) (areas : List (Vec ℕ Global)) : Type 0 where
   pub starts : now.starts ≡ old.starts
-  pub stand : ConfigsStand (content now) old.starts areas (half_in_use out 0)
+  pub stand : AreasStand (content now) old.starts (half_in_use out areas 0)
   pub settled : AreSettled out now.calls
 
 pub even_made : (out : List Bool) (old mid now : Disks) (areas : List (Vec ℕ Global)) → mid.starts ≡ old.starts → now.starts ≡ mid.starts
-    → ConfigsStand (content now) mid.starts areas (half_in_use out 0) → AreSettled out now.calls → EvenStand out old now areas
+    → AreasStand (content now) mid.starts (half_in_use out areas 0) → AreSettled out now.calls → EvenStand out old now areas
 even_made out old mid now areas same same' stand settled =
-    let S : List (List ℕ) → Type 0 = λ starts. ConfigsStand (content now) starts areas (half_in_use out 0) in
+    let S : List (List ℕ) → Type 0 = λ starts. AreasStand (content now) starts (half_in_use out areas 0) in
     record { starts = same' ∙ same; stand = subst S same stand; settled = settled }
 
 pub area_of : (areas : List (Vec ℕ Global)) (which : ℕ) → which < length areas → (area : Vec ℕ Global) × (slice_get areas which ≡ Some area)
@@ -150,7 +149,7 @@ kept_even out old now u areas may there count new even off which used =
       shown = record {
         is_label = omega arith;
         valid = it.inscribed_as.valid;
-        bytes = λ i below. even.stand which 0 area.0 area.1 (omega arith) (used, inl refl) i below ∙ ap (λ (them : List ℕ). slice_get them i) it.inscribed_as.spells;
+        bytes = λ i below. even.stand which 0 area.0.items (omega arith) (record { used = used; area = area.0; has = area.1; same = refl }, inl refl) i below ∙ ap (λ (them : List ℕ). slice_get them i) it.inscribed_as.spells;
       };
       config = it.config;
       off = off which used;
@@ -158,7 +157,7 @@ kept_even out old now u areas may there count new even off which used =
 
 -- the last configuration stays where it was
 kept_odd : (out : List Bool) (old now : Disks) (blocks : List BlockWrite) (areas : List (Vec ℕ Global)) (digest : List ℕ) (u : Uberblock) (may : ℕ → ℕ → List ℕ → Type 0) → AreThere out old.starts
-    → HaveLabels old.starts → ArePlaced out old.starts blocks → AreLong (InUse out) areas → CanReconfigure out old digest u → Makes (first_writes out old.starts blocks areas) old now
+    → HaveLabels old.starts → ArePlaced out old.starts blocks → AreWhole (half_in_use out areas 0) → CanReconfigure out old digest u → Makes (first_writes out old.starts blocks areas) old now
     → ((which number : ℕ) → InUse out which → number < 4 → (i : ℕ) → i < 114688 → IsOff (may which) (area_place (length (bytes_of old.starts which)) number + i))
     → (which : ℕ) → InUse out which → KeptConfig (may which) (length (bytes_of now.starts which)) (content now which) digest
 kept_odd out old now blocks areas digest u may there room placed long can makes off which used =
@@ -191,7 +190,7 @@ slots_configs out old now new blocks areas digest u there room fits placed count
     let makes' : Makes may now new = subst M even.starts makes in
     let off = λ (which number : ℕ) (used : InUse out which) (is : number < 4). off_area_of_slots old.starts u (in_use out) which number fits (room which (there which used)) is in
     let last = configured_always out now new may digest there' even.settled makes'
-    (kept_odd out old now blocks areas digest u may there room placed (long_areas out u areas fresh) can first off) in
+    (kept_odd out old now blocks areas digest u may there room placed (long_areas out u areas fresh 0) can first off) in
     let next = configured_always out now new may u.config_digest there' even.settled makes'
     (kept_even out old now u areas may there count fresh even (λ which used. off which 0 used (omega arith))) in
     subst E even.starts (λ earlier moment images left untorn. inr (inl (last earlier moment images left, next earlier moment images left)))
@@ -203,17 +202,17 @@ even_stays out old now new u areas there room fits even makes settled =
     let M : List (List ℕ) → Type 0 = λ starts. Makes (IsSlotWrite starts u (in_use out)) now new in
     record {
       starts = makes.starts ∙ even.starts;
-      stand = λ which number area has is picked i below.
+      stand = λ which number bytes is picked i below.
           off_content (IsSlotWrite old.starts u (in_use out)) now new which (area_place (length (bytes_of old.starts which)) number + i) (subst M even.starts makes)
-          (off_area_of_slots old.starts u (in_use out) which number fits (room which (there which picked.0)) is i below)
-          ∙ even.stand which number area has is picked i below;
+          (off_area_of_slots old.starts u (in_use out) which number fits (room which (there which picked.0.used)) is i below)
+          ∙ even.stand which number bytes is picked i below;
       settled = settled;
     }
 
 -- ---- once the slots stand
 
-seen_still : (out : List Bool) (now new : Disks) (u : Uberblock) (areas : List (Vec ℕ Global)) → AreThere out now.starts → HaveLabels now.starts → Fits u → AreLong (InUse out) areas
-    → AreSettled out now.calls → SlotsStand (content now) now.starts u (in_use out) (length now.starts) → Makes (IsConfigWrite now.starts areas (half_in_use out 1)) now new
+seen_still : (out : List Bool) (now new : Disks) (u : Uberblock) (areas : List (Vec ℕ Global)) → AreThere out now.starts → HaveLabels now.starts → Fits u → AreWhole (half_in_use out areas 1)
+    → AreSettled out now.calls → SlotsStand (content now) now.starts u (in_use out) (length now.starts) → Makes (IsAreaWrite now.starts (half_in_use out areas 1)) now new
     → (earlier : List JointCall) → IsMoment (length now.calls) new.calls earlier → (images : List (List ℕ)) → MayLeaveAll now.starts earlier images → AreSeen out images u
 seen_still out now new u areas there room fits long settled stand makes earlier moment images left which used =
     let size = length (bytes_of now.starts which) in
@@ -229,9 +228,9 @@ seen_still out now new u areas there room fits long settled stand makes earlier 
         number = refl;
         bytes = λ i below.
             let same : slice_get (spelled u) i ≡ Some (get_or (spelled u) i 0) = slice_get-get_or (spelled u) i 0 below in
-            off_is_left (IsConfigWrite now.starts areas (half_in_use out 1)) now new earlier images makes moment left which (slot_at size 0 slot + i) (get_or (spelled u) i 0) (there which used)
+            off_is_left (IsAreaWrite now.starts (half_in_use out areas 1)) now new earlier images makes moment left which (slot_at size 0 slot + i) (get_or (spelled u) i 0) (there which used)
             (settled which used)
-            (λ at bytes write. relabel_off_slot now.starts which at 0 slot i bytes (config_relabels now.starts areas (InUse out) (half_in_use out 1) which at bytes long (λ w n it. it.0) write)
+            (λ at bytes write. relabel_off_slot now.starts which at 0 slot i bytes (area_relabels now.starts (half_in_use out areas 1) which at bytes long write)
             (room which (there which used)) is (omega (arith, below, length-spelled u fits)))
             (stand which 0 (there which used) (omega arith) used i below ∙ same) ∙ sym same;
       };
@@ -239,42 +238,41 @@ seen_still out now new u areas there room fits long settled stand makes earlier 
 
 pub last_configs : (out : List Bool) (old now new : Disks) (areas : List (Vec ℕ Global)) (digest : List ℕ) (u : Uberblock) → AreThere out old.starts → HaveLabels old.starts → Fits u
     → length areas ≡ length old.starts → AreNewAreas out u areas → EvenStand out old now areas → SlotsStand (content now) old.starts u (in_use out) (length old.starts)
-    → Makes (IsConfigWrite now.starts areas (half_in_use out 1)) now new → EachSince (length now.calls) (LeavesConfigs out old.starts digest u) new.calls
+    → Makes (IsAreaWrite now.starts (half_in_use out areas 1)) now new → EachSince (length now.calls) (LeavesConfigs out old.starts digest u) new.calls
 last_configs out old now new areas digest u there room fits count fresh even stand makes =
-    let picks = half_in_use out 1 in
-    let long = long_areas out u areas fresh in
+    let picks = half_in_use out areas 1 in
+    let long = long_areas out u areas fresh 1 in
     let T : List (List ℕ) → Type 0 = AreThere out in
     let R : List (List ℕ) → Type 0 = HaveLabels in
     let S : List (List ℕ) → Type 0 = λ starts. SlotsStand (content now) starts u (in_use out) (length starts) in
-    let M : List (List ℕ) → Type 0 = λ starts. Makes (IsConfigWrite starts areas picks) now new in
+    let M : List (List ℕ) → Type 0 = λ starts. Makes (IsAreaWrite starts picks) now new in
     let E : List (List ℕ) → Type 0 = λ starts. EachSince (length now.calls) (LeavesConfigs out starts digest u) new.calls in
     let there' : AreThere out now.starts = subst T (sym even.starts) there in
     let room' : HaveLabels now.starts = subst R (sym even.starts) room in
     let stand' : S now.starts = subst S (sym even.starts) stand in
-    let next = configured_always out now new (IsConfigWrite old.starts areas picks) u.config_digest there' even.settled (subst M even.starts makes)
-    (kept_even out old now u areas (IsConfigWrite old.starts areas picks) there count fresh even
-    (λ which used i below at bytes write.
-    relabel_off_area old.starts which at 0 i bytes (config_relabels old.starts areas (InUse out) picks which at bytes long (λ w n it. it.0) write) (room which (there which used)) (omega arith)
-    (λ same. other_half 0 write.number (inl refl) write.picked.1 (sym same)) below)) in
+    let next = configured_always out now new (IsAreaWrite old.starts picks) u.config_digest there' even.settled (subst M even.starts makes)
+    (kept_even out old now u areas (IsAreaWrite old.starts picks) there count fresh even
+    (λ which used. off_area_writes old.starts picks which 0 long (room which (there which used)) (omega arith) (λ n b it same. other_half 0 n (inl refl) it.1 (sym same)))) in
     subst E even.starts (λ earlier moment images left untorn.
     inr (inr (next earlier moment images left, seen_still out now new u areas there' room' fits long even.settled stand' makes earlier moment images left)))
 
 -- ---- in the end
 
-pub all_rewritten : (out : List Bool) (old now new : Disks) (areas : List (Vec ℕ Global)) → AreThere out old.starts → HaveLabels old.starts → AreLong (InUse out) areas → EvenStand out old now areas
-    → Makes (IsConfigWrite now.starts areas (half_in_use out 1)) now new → ConfigsStand (content new) now.starts areas (half_in_use out 1) → AreRewritten out areas new
+pub all_rewritten : (out : List Bool) (old now new : Disks) (areas : List (Vec ℕ Global)) → AreThere out old.starts → HaveLabels old.starts → AreWhole (half_in_use out areas 1) → EvenStand out old now areas
+    → Makes (IsAreaWrite now.starts (half_in_use out areas 1)) now new → AreasStand (content new) now.starts (half_in_use out areas 1) → AreRewritten out areas new
 all_rewritten out old now new areas there room long even makes stand which number area l used is has valid spells =
-    let picks = half_in_use out 1 in
+    let picks = half_in_use out areas 1 in
     let size = length (bytes_of old.starts which) in
-    let M : List (List ℕ) → Type 0 = λ starts. Makes (IsConfigWrite starts areas picks) now new in
-    let S : List (List ℕ) → Type 0 = λ starts. ConfigsStand (content new) starts areas picks in
+    let M : List (List ℕ) → Type 0 = λ starts. Makes (IsAreaWrite starts picks) now new in
+    let S : List (List ℕ) → Type 0 = λ starts. AreasStand (content new) starts picks in
     let P : List (List ℕ) → Type 0 = λ starts. IsLabelShown (length (bytes_of starts which)) (content new which) number l in
+    let mine : IsAreaInUse out areas which number area.items = record { used = used; area = area; has = has; same = refl } in
     let stands : (i : ℕ) → i < 114688 → content new which (area_place size number + i) ≡ slice_get area.items i = elim (label_half number is) [
       | inl low ↦ λ i below.
-          label_stays old.starts areas (InUse out) picks now new which number long (λ w n it. it.0) (room which (there which used)) is (subst M even.starts makes)
-          (λ it. not_both number low it.1) i below
-          ∙ even.stand which number area has is (used, low) i below
-      | inr high ↦ (subst S even.starts stand) which number area has is (used, high)
+          off_content (IsAreaWrite old.starts picks) now new which (area_place size number + i) (subst M even.starts makes)
+          (off_area_writes old.starts picks which number long (room which (there which used)) is (λ n b it same. other_half number n low it.1 (sym same)) i below)
+          ∙ even.stand which number area.items is (mine, low) i below
+      | inr high ↦ (subst S even.starts stand) which number area.items is (mine, high)
     ] in
     subst P (sym (makes.starts ∙ even.starts)) (record {
       is_label = is;

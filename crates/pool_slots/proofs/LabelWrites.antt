@@ -1,6 +1,7 @@
 -- Writes of labels: what they leave.
-use Rattle.std.proofs.Common.{◌≡◌, ◌⊎◌, inl, inr, ◌<◌, ◌≤◌, ◌∙◌, ℕ, ◌+◌, ◌*◌, Bool, List, ◌∷◌, length, slice_get, get_or, Option, Some, None, Result, refl, sym, ap, subst, arith}
-use Rattle.std.proofs.lemmas.Option.{slice_get-get_or, slice_get_within}
+use Rattle.std.proofs.Common.{◌≡◌, ◌⊎◌, inl, inr, ◌<◌, ◌≤◌, ◌∙◌, ℕ, ◌+◌, ◌*◌, Bool, true, false, List, ◌∷◌, length, slice_get, get_or, Option, Some, None, Vec, Result, Ok, Err, OnOk, Bor, refl, sym, ap, subst, arith}
+use Rattle.std.specs.declared.alloc.Global.{Global}
+use Rattle.std.proofs.lemmas.Option.{slice_get-get_or, slice_get_read}
 use Rattle.std.proofs.lemmas.Bool.{cases_lt}
 use Rattle.uberblock_ring.specs.declared.uberblock.Uberblock.{Uberblock}
 use Rattle.uberblock_ring.specs.Uberblock.{Fits}
@@ -8,19 +9,26 @@ use Rattle.uberblock_ring.specs.Slot.{slot_number}
 use Rattle.model_disk.specs.Call.{write_call}
 use Rattle.model_disk.specs.Contents.{covers}
 use Rattle.model_disk.specs.Joint.{Disks, on, bytes_of, content}
-use Rattle.model_disk.specs.Runs.{IsOff, Makes}
+use Rattle.model_disk.specs.Runs.{IsOff, Makes, no_write}
 use Rattle.model_disk.proofs.ContentsLemmas.{covers-outside}
+use Rattle.model_disk.proofs.LawLemmas.{written_bytes_stand}
 use Rattle.model_disk.proofs.RunLemmas.{off_content}
 use Rattle.vdev_label.specs.Place.{label_at}
 use Rattle.pool_slots.specs.Commits.{AreOffLabels}
-use Rattle.pool_slots.specs.Labels.{AreWhole, AreasStand, HasArea, InAreaTurn, IsAreaWrite, area_place, at_label}
+use Rattle.pool_slots.specs.Configures.{IsPlanFor, picks_of}
+use Rattle.pool_slots.specs.Labels.{AreWhole, AreasStand, InAreaTurn, IsAreaWrite, IsPicked, area_place, copies, of_disk, of_label, turn_of}
+use Rattle.pool_slots.specs.Phases.{IsRelabel}
 use Rattle.pool_slots.specs.Possible.{Possible, Trees, Leads}
 use Rattle.pool_slots.specs.Slots.{AreThere, InUse, HaveLabels, IsSlot, MakesOn, is_disk, slot_at}
-use Rattle.pool_slots.specs.Writes.{IsSlotWrite, on_disk}
+use Rattle.pool_slots.specs.Writes.{IsSlotWrite}
 use Rattle.pool_slots.specs.declared.labeled.Area.{Area}
-use Rattle.pool_slots.proofs.Phases.{IsPhase, MakesOn-more, MakesOn-wider}
+use Rattle.pool_slots.specs.declared.labeled.Pick.{Pick}
+use Rattle.pool_slots.specs.declared.labeled.Pick.TheVariants.{Half}
+use Rattle.pool_slots.specs.declared.labeled.AreaPlan.{AreaPlan}
+use Rattle.pool_slots.specs.declared.labeled.AreaPlan.TheVariants.{Claim, Config}
+use Rattle.pool_slots.proofs.Phases.{IsPhase, MakesOn-more, MakesOn-wider, none_same}
 use Rattle.pool_slots.proofs.Places.{apart_covers, labels_apart, length-spelled}
-use Rattle.pool_slots.proofs.Writing.{MakesOn-write, slot_number_small}
+use Rattle.pool_slots.proofs.Writing.{MakesOn-write, on_used, slot_number_small}
 
 -- ---- where areas lie
 
@@ -50,38 +58,52 @@ pub area_in_label : (size number : ℕ) → (label_at size number ≤ area_place
 unfolding area_place
 area_in_label size number = (omega arith, omega arith)
 
+-- ---- where a label that is written anew lies
+
+pub relabel_covers : (starts : List (List ℕ)) (d at i : ℕ) (bytes : List ℕ) (it : IsRelabel starts d at bytes)
+    → covers at (length bytes) i ≡ covers (area_place (length (bytes_of starts d)) it.number) 114688 i
+relabel_covers starts d at i bytes it =
+    ap (λ (place : ℕ). covers place (length bytes) i) it.place ∙ ap (λ (n : ℕ). covers (area_place (length (bytes_of starts d)) it.number) n i) it.whole
+
+pub relabel_off_area : (starts : List (List ℕ)) (d at number i : ℕ) (bytes : List ℕ) (it : IsRelabel starts d at bytes) → 1048576 ≤ length (bytes_of starts d) → number < 4 → ¬ (it.number ≡ number)
+    → i < 114688 → covers at (length bytes) (area_place (length (bytes_of starts d)) number + i) ≡ false
+relabel_off_area starts d at number i bytes it room is other below =
+    let size = length (bytes_of starts d) in
+    relabel_covers starts d at (area_place size number + i) bytes it
+    ∙ apart_covers (area_place size it.number) 114688 (area_place size number) 114688 (areas_apart size it.number number (omega (arith, room)) it.is_label is other) i below
+
+pub relabel_off_slot : (starts : List (List ℕ)) (d at label slot i : ℕ) (bytes : List ℕ) (it : IsRelabel starts d at bytes) → 1048576 ≤ length (bytes_of starts d) → IsSlot label slot → i < 1024
+    → covers at (length bytes) (slot_at (length (bytes_of starts d)) label slot + i) ≡ false
+relabel_off_slot starts d at label slot i bytes it room is below =
+    let size = length (bytes_of starts d) in
+    relabel_covers starts d at (slot_at size label slot + i) bytes it
+    ∙ apart_covers (area_place size it.number) 114688 (slot_at size label slot) 1024 (area_off_slot size it.number label slot (omega (arith, room)) it.is_label is) i below
+
+abbrev pub area_relabels : (starts : List (List ℕ)) (picks : ℕ → ℕ → List ℕ → Type 0) (which at : ℕ) (bytes : List ℕ) → AreWhole picks → IsAreaWrite starts picks which at bytes
+    → IsRelabel starts which at bytes
+area_relabels starts picks which at bytes whole it = record { number = it.number; is_label = it.is_label; place = it.place; whole = whole which it.number bytes it.picked }
+
 -- ---- what a write of a label has no byte of
 
--- the bytes of such a write
-write_covers : (starts : List (List ℕ)) (areas : List (Option Area)) (picks : ℕ → ℕ → Type 0) (d at i : ℕ) (bytes : List ℕ) → AreWhole areas → (write : IsAreaWrite starts areas picks d at bytes)
-    → covers at (length bytes) i ≡ covers (area_place (length (bytes_of starts d)) write.number) 114688 i
-write_covers starts areas picks d at i bytes whole write =
-    ap (λ (place : ℕ). covers place (length bytes) i) write.place
-    ∙ ap (λ (n : ℕ). covers (area_place (length (bytes_of starts d)) write.number) n i) (ap length write.same ∙ whole d write.area write.has)
+pub off_area_writes : (starts : List (List ℕ)) (picks : ℕ → ℕ → List ℕ → Type 0) (d number : ℕ) → AreWhole picks → 1048576 ≤ length (bytes_of starts d) → number < 4
+    → ((n : ℕ) (b : List ℕ) → picks d n b → ¬ (n ≡ number)) → (i : ℕ) → i < 114688 → IsOff (IsAreaWrite starts picks d) (area_place (length (bytes_of starts d)) number + i)
+off_area_writes starts picks d number whole room is apart i below at bytes write =
+    relabel_off_area starts d at number i bytes (area_relabels starts picks d at bytes whole write) room is (apart write.number bytes write.picked) below
 
-pub off_area_writes : (starts : List (List ℕ)) (areas : List (Option Area)) (picks : ℕ → ℕ → Type 0) (d number : ℕ) → AreWhole areas → 1048576 ≤ length (bytes_of starts d) → number < 4
-    → ((n : ℕ) → picks d n → ¬ (n ≡ number)) → (i : ℕ) → i < 114688 → IsOff (IsAreaWrite starts areas picks d) (area_place (length (bytes_of starts d)) number + i)
-off_area_writes starts areas picks d number whole room is apart i below at bytes write =
-    let size = length (bytes_of starts d) in
-    write_covers starts areas picks d at (area_place size number + i) bytes whole write
-    ∙ apart_covers (area_place size write.number) 114688 (area_place size number) 114688
-    (areas_apart size write.number number (omega (arith, room)) write.is_label is (apart write.number write.picked)) i below
+pub off_slot_of_areas : (starts : List (List ℕ)) (picks : ℕ → ℕ → List ℕ → Type 0) (d label slot : ℕ) → AreWhole picks → 1048576 ≤ length (bytes_of starts d) → IsSlot label slot
+    → (i : ℕ) → i < 1024 → IsOff (IsAreaWrite starts picks d) (slot_at (length (bytes_of starts d)) label slot + i)
+off_slot_of_areas starts picks d label slot whole room is i below at bytes write =
+    relabel_off_slot starts d at label slot i bytes (area_relabels starts picks d at bytes whole write) room is below
 
-pub off_slot_of_areas : (starts : List (List ℕ)) (areas : List (Option Area)) (picks : ℕ → ℕ → Type 0) (d label slot : ℕ) → AreWhole areas → 1048576 ≤ length (bytes_of starts d) → IsSlot label slot
-    → (i : ℕ) → i < 1024 → IsOff (IsAreaWrite starts areas picks d) (slot_at (length (bytes_of starts d)) label slot + i)
-off_slot_of_areas starts areas picks d label slot whole room is i below at bytes write =
-    let size = length (bytes_of starts d) in
-    write_covers starts areas picks d at (slot_at size label slot + i) bytes whole write
-    ∙ apart_covers (area_place size write.number) 114688 (slot_at size label slot) 1024 (area_off_slot size write.number label slot (omega (arith, room)) write.is_label is) i below
-
-pub off_tree_of_areas : (trees : Trees) (out : List Bool) (starts : List (List ℕ)) (areas : List (Option Area)) (picks : ℕ → ℕ → Type 0) (v : Uberblock) (d i value : ℕ) → AreWhole areas
-    → AreOffLabels trees out starts → InUse out d → trees v.root d i ≡ Some value → IsOff (IsAreaWrite starts areas picks d) i
-off_tree_of_areas trees out starts areas picks v d i value whole off used is at bytes write =
+-- a tree's byte is in no label
+pub off_tree_of_areas : (trees : Trees) (out : List Bool) (starts : List (List ℕ)) (picks : ℕ → ℕ → List ℕ → Type 0) (v : Uberblock) (d i value : ℕ) → AreWhole picks
+    → AreOffLabels trees out starts → InUse out d → trees v.root d i ≡ Some value → IsOff (IsAreaWrite starts picks d) i
+off_tree_of_areas trees out starts picks v d i value whole off used is at bytes write =
     let size = length (bytes_of starts d) in
     let in_label = area_in_label size write.number in
     let sides : (i < area_place size write.number) ⊎ (area_place size write.number + 114688 ≤ i) =
     elim (off v.root d i value used is write.number write.is_label) [ inl before ↦ inl (omega (arith, before, in_label.0)) | inr after ↦ inr (omega (arith, after, in_label.1)) ] in
-    write_covers starts areas picks d at i bytes whole write ∙ covers-outside (area_place size write.number) 114688 i sides
+    relabel_covers starts d at i bytes (area_relabels starts picks d at bytes whole write) ∙ covers-outside (area_place size write.number) 114688 i sides
 
 -- a write of a slot has no byte of a label's area
 pub off_area_of_slots : (starts : List (List ℕ)) (u : Uberblock) (picks : ℕ → ℕ → Type 0) (d number : ℕ) → Fits u → 1048576 ≤ length (bytes_of starts d) → number < 4
@@ -96,19 +118,101 @@ off_area_of_slots starts u picks d number fits room is i below at bytes write =
 
 -- ---- a phase that writes labels
 
-pub area_phase : (trees : Trees) (out : List Bool) (disks : Disks) (p : Possible) (areas : List (Option Area)) (picks : ℕ → ℕ → Type 0) → AreThere out disks.starts → HaveLabels disks.starts
-    → AreWhole areas → AreOffLabels trees out disks.starts → Leads trees out disks.starts (content disks) p → IsPhase trees out disks (IsAreaWrite disks.starts areas picks) p
-area_phase trees out disks p areas picks there room whole off_labels leads =
+pub area_phase : (trees : Trees) (out : List Bool) (disks : Disks) (p : Possible) (picks : ℕ → ℕ → List ℕ → Type 0) → AreThere out disks.starts → HaveLabels disks.starts
+    → AreWhole picks → AreOffLabels trees out disks.starts → Leads trees out disks.starts (content disks) p → IsPhase trees out disks (IsAreaWrite disks.starts picks) p
+area_phase trees out disks p picks there room whole off_labels leads =
     record {
-      whole = λ which label slot used is to written write. inr (λ i inside. off_slot_of_areas disks.starts areas picks which label slot whole (room which (there which used)) is i inside to written write);
-      off = λ v possible which i value used is. off_tree_of_areas trees out disks.starts areas picks v which i value whole off_labels used is;
-      written = λ which label slot w used is fits write. absurd (omega (arith, ap length write.same, length-spelled w fits, whole which write.area write.has));
+      whole = λ which label slot used is to written write. inr (λ i inside. off_slot_of_areas disks.starts picks which label slot whole (room which (there which used)) is i inside to written write);
+      off = λ v possible which i value used is. off_tree_of_areas trees out disks.starts picks v which i value whole off_labels used is;
+      written = λ which label slot w used is fits write. absurd (omega (arith, length-spelled w fits, whole which write.number _ write.picked));
       safe = λ which used.
           let top = (leads which used).top in
-          record { top = top; off = λ i inside. off_slot_of_areas disks.starts areas picks which top.label top.slot whole (room which (there which used)) top.is_slot i inside };
+          record { top = top; off = λ i inside. off_slot_of_areas disks.starts picks which top.label top.slot whole (room which (there which used)) top.is_slot i inside };
     }
 
 -- ---- what stands
+
+pub makes_area : {T E : Type 0} (r : Result T E) (starts : List (List ℕ)) (picks : ℕ → ℕ → List ℕ → Type 0) (old new : Disks) (which number : ℕ) (bytes : List ℕ) → number < 4
+    → picks which number bytes → new.starts ≡ old.starts → new.calls ≡ on which (write_call r (area_place (length (bytes_of starts which)) number) bytes) ∷ old.calls
+    → MakesOn (is_disk which) (IsAreaWrite starts picks) old new
+makes_area r starts picks old new which number bytes is picked same calls =
+    MakesOn-write r (IsAreaWrite starts picks) old new which (area_place (length (bytes_of starts which)) number) bytes same calls
+    (record { number = number; is_label = is; picked = picked; place = refl })
+
+-- more labels are picked, on more disks
+pub wider : (used others : ℕ → Type 0) (starts : List (List ℕ)) (picks also : ℕ → ℕ → List ℕ → Type 0) (old new : Disks) → ((which : ℕ) → used which → others which)
+    → ((which number : ℕ) (bytes : List ℕ) → picks which number bytes → also which number bytes) → MakesOn used (IsAreaWrite starts picks) old new → MakesOn others (IsAreaWrite starts also) old new
+wider used others starts picks also old new wide more makes =
+    MakesOn-wider used others (IsAreaWrite starts picks) (IsAreaWrite starts also) old new wide
+    (λ which at bytes write. record { number = write.number; is_label = write.is_label; picked = more which write.number bytes write.picked; place = write.place }) makes
+
+pub stand_flushed : (wrote new : Disks) (starts : List (List ℕ)) (picks : ℕ → ℕ → List ℕ → Type 0) → Makes no_write wrote new → AreasStand (content wrote) starts picks
+    → AreasStand (content new) starts picks
+stand_flushed wrote new starts picks flush stand which number bytes is picked i below = none_same wrote new which _ flush ∙ stand which number bytes is picked i below
+
+-- ---- label by label, and disk by disk
+
+-- of what is picked, that of one index, which is a label's number or a disk's
+abbrev pub at_index : (ℕ → ℕ → ℕ) → ℕ → (ℕ → ℕ → List ℕ → Type 0) → ℕ → ℕ → List ℕ → Type 0
+at_index index k picks which number bytes = (index which number ≡ k) × picks which number bytes
+
+-- and that of the indices below it
+abbrev pub below_index : (ℕ → ℕ → ℕ) → ℕ → (ℕ → ℕ → List ℕ → Type 0) → ℕ → ℕ → List ℕ → Type 0
+below_index index k picks which number bytes = (index which number < k) × picks which number bytes
+
+abbrev pub by_disk : ℕ → ℕ → ℕ
+by_disk which number = which
+
+abbrev pub by_label : ℕ → ℕ → ℕ
+by_label which number = number
+
+less_or_same : (n k : ℕ) → n < k + 1 → (n < k) ⊎ (n ≡ k)
+less_or_same n k below = elim (cases_lt n k) [ inl less ↦ inl less | inr more ↦ inr (omega (arith, below, more)) ]
+
+pub made_next : (index : ℕ → ℕ → ℕ) (k : ℕ) (used : ℕ → Type 0) (picks : ℕ → ℕ → List ℕ → Type 0) (first loop new : Disks) → MakesOn used (IsAreaWrite first.starts picks) first loop
+    → MakesOn used (IsAreaWrite loop.starts (at_index index k picks)) loop new → MakesOn used (IsAreaWrite first.starts picks) first new
+made_next index k used picks first loop new before makes =
+    let P : List (List ℕ) → Type 0 = λ starts. MakesOn used (IsAreaWrite starts (at_index index k picks)) loop new in
+    MakesOn-more used (IsAreaWrite first.starts picks) first loop new before
+    (wider used used first.starts (at_index index k picks) picks loop new (λ w it. it) (λ w n b it. it.1) (subst P before.makes.starts makes))
+
+pub stand_next : (index : ℕ → ℕ → ℕ) (k : ℕ) (used : ℕ → Type 0) (picks : ℕ → ℕ → List ℕ → Type 0) (first loop new : Disks) → AreWhole picks
+    → ((which number : ℕ) (bytes : List ℕ) → picks which number bytes → 1048576 ≤ length (bytes_of first.starts which)) → MakesOn used (IsAreaWrite first.starts picks) first loop
+    → AreasStand (content loop) first.starts (below_index index k picks) → MakesOn used (IsAreaWrite loop.starts (at_index index k picks)) loop new
+    → AreasStand (content new) loop.starts (at_index index k picks) → AreasStand (content new) first.starts (below_index index (k + 1) picks)
+stand_next index k used picks first loop new whole room before stood makes stand which number bytes is picked =
+    let now = at_index index k picks in
+    let P : List (List ℕ) → Type 0 = λ starts. Makes (IsAreaWrite starts now) loop new in
+    let Q : List (List ℕ) → Type 0 = λ starts. AreasStand (content new) starts now in
+    elim (less_or_same (index which number) k picked.0) [
+      | inl less ↦ λ i below.
+          off_content (IsAreaWrite first.starts now) loop new which (area_place (length (bytes_of first.starts which)) number + i) (subst P before.makes.starts makes.makes)
+          (off_area_writes first.starts now which number (λ w n b it. whole w n b it.1) (room which number bytes picked.1) is
+          (λ n b it same. omega (arith, less, it.0, ap (index which) same)) i below)
+          ∙ stood which number bytes is (less, picked.1) i below
+      | inr same ↦ subst Q before.makes.starts stand which number bytes is (same, picked.1)
+    ]
+
+-- ---- the labels of one disk
+
+pub area_stands : {E : Type 0} (r : Result (Unit {0}) E) (old new : Disks) (which number : ℕ) (area : List ℕ) (pick : Pick) → length area ≡ 114688 → new.starts ≡ old.starts
+    → new.calls ≡ on which (write_call r (area_place (length (bytes_of old.starts which)) number) area) ∷ old.calls
+    → OnOk r (AreasStand (content new) old.starts (of_label number (copies which area pick)))
+area_stands (Err e) old new which number area pick long same calls = tt
+area_stands (Ok x) old new which number area pick long same calls = λ d n b is picked i below.
+    let P : ℕ → ℕ → Type 0 = λ w m. content new w (area_place (length (bytes_of old.starts w)) m + i) ≡ slice_get area i in
+    let here : P which number = written_bytes_stand old new which (area_place (length (bytes_of old.starts which)) number) area same calls i (omega (arith, below, long)) in
+    subst (λ w. P w n) (sym picked.1.0) (subst (λ m. P which m) (sym picked.0) here) ∙ ap (λ (them : List ℕ). slice_get them i) (sym picked.1.2)
+
+-- where it has room for them
+pub copies_room : (starts : List (List ℕ)) (disk : ℕ) (area : List ℕ) (pick : Pick) → 1048576 ≤ length (bytes_of starts disk)
+    → (which number : ℕ) (bytes : List ℕ) → copies disk area pick which number bytes → 1048576 ≤ length (bytes_of starts which)
+copies_room starts disk area pick room which number bytes it = let P : ℕ → Type 0 = λ w. 1048576 ≤ length (bytes_of starts w) in subst P (sym it.0) room
+
+pub copies_whole : (disk : ℕ) (area : List ℕ) (pick : Pick) → length area ≡ 114688 → AreWhole (copies disk area pick)
+copies_whole disk area pick long which number bytes it = ap length it.2 ∙ long
+
+-- ---- the disks of a claim
 
 none_some : (area : Area) → Some None ≡ Some (Some area) → ⊥
 none_some area e = cc
@@ -116,94 +220,112 @@ none_some area e = cc
 same_area : (a b : Area) → Some (Some a) ≡ Some (Some b) → a ≡ b
 same_area a b e = cc
 
-pub makes_area : {T E : Type 0} (r : Result T E) (starts : List (List ℕ)) (areas : List (Option Area)) (picks : ℕ → ℕ → Type 0) (old new : Disks) (which number : ℕ) (area : Area) → number < 4
-    → slice_get areas which ≡ Some (Some area) → picks which number → new.starts ≡ old.starts
-    → new.calls ≡ on which (write_call r (area_place (length (bytes_of starts which)) number) area.bytes.items) ∷ old.calls → MakesOn (is_disk which) (IsAreaWrite starts areas picks) old new
-makes_area r starts areas picks old new which number area is has picked same calls =
-    MakesOn-write r (IsAreaWrite starts areas picks) old new which (area_place (length (bytes_of starts which)) number) area.bytes.items same calls
-    (record { number = number; is_label = is; area = area; has = has; picked = picked; place = refl; same = refl })
-
--- what stood in labels that aren't written, and what was written
-pub stand_joined : (starts : List (List ℕ)) (areas : List (Option Area)) (writes before now all : ℕ → ℕ → Type 0) (old new : Disks) → AreWhole areas → HaveLabels starts → length areas ≤ length starts
-    → Makes (IsAreaWrite starts areas writes) old new → AreasStand (content old) starts areas before → AreasStand (content new) starts areas now
-    → ((which number : ℕ) → all which number → (before which number × ((n : ℕ) → writes which n → ¬ (n ≡ number))) ⊎ now which number) → AreasStand (content new) starts areas all
-stand_joined starts areas writes before now all old new whole room count makes stood stand split which number area has is picked i inside =
-    elim (split which number picked) [
-      | inl earlier ↦
-          let within : which < length starts = omega (arith, count, slice_get_within areas which (Some area) has) in
-          off_content (IsAreaWrite starts areas writes) old new which (area_place (length (bytes_of starts which)) number + i) makes
-          (off_area_writes starts areas writes which number whole (room which within) is earlier.1 i inside) ∙ stood which number area has is earlier.0 i inside
-      | inr later ↦ stand which number area has is later i inside
-    ]
-
-pub stand_none : (starts : List (List ℕ)) (areas : List (Option Area)) (first : Bool) (disks : Disks) (which : ℕ) → ((area : Area) → ¬ (slice_get areas which ≡ Some (Some area)))
-    → AreasStand (content disks) starts areas (on_disk which (InAreaTurn areas first))
-stand_none starts areas first disks which none d n it at is picked =
-    let P : ℕ → Type 0 = λ w. slice_get areas w ≡ Some (Some it) in absurd (none it (subst P picked.0 at))
-
-pub wider : (used others : ℕ → Type 0) (starts : List (List ℕ)) (areas : List (Option Area)) (picks also : ℕ → ℕ → Type 0) (old new : Disks) → ((which : ℕ) → used which → others which)
-    → ((which number : ℕ) → picks which number → also which number) → MakesOn used (IsAreaWrite starts areas picks) old new → MakesOn others (IsAreaWrite starts areas also) old new
-wider used others starts areas picks also old new wide more makes =
-    MakesOn-wider used others (IsAreaWrite starts areas picks) (IsAreaWrite starts areas also) old new wide
-    (λ which at bytes write. record {
-      number = write.number;
-      is_label = write.is_label;
-      area = write.area;
-      has = write.has;
-      picked = more which write.number write.picked;
-      place = write.place;
-      same = write.same;
-    }) makes
-
--- writes after others, in the words of the first disks
-pub made_more : (old loop new : Disks) (used : ℕ → Type 0) (areas : List (Option Area)) (picks : ℕ → ℕ → Type 0) → MakesOn used (IsAreaWrite old.starts areas picks) old loop
-    → MakesOn used (IsAreaWrite loop.starts areas picks) loop new → MakesOn used (IsAreaWrite old.starts areas picks) old new
-made_more old loop new used areas picks before makes =
-    let P : List (List ℕ) → Type 0 = λ starts. MakesOn used (IsAreaWrite starts areas picks) loop new in
-    MakesOn-more used (IsAreaWrite old.starts areas picks) old loop new before (subst P before.makes.starts makes)
-
-less_or_same : (n k : ℕ) → n < k + 1 → (n < k) ⊎ (n ≡ k)
-less_or_same n k below = elim (cases_lt n k) [ inl less ↦ inl less | inr more ↦ inr (omega (arith, below, more)) ]
-
--- the labels of a disk, one more of them
-pub label_next : (old loop new : Disks) (areas : List (Option Area)) (first : Bool) (disk k : ℕ) → AreWhole areas → HaveLabels old.starts → length areas ≤ length old.starts
-    → MakesOn (is_disk disk) (IsAreaWrite old.starts areas (on_disk disk (InAreaTurn areas first))) old loop
-    → AreasStand (content loop) old.starts areas (λ which number. (number < k) × on_disk disk (InAreaTurn areas first) which number)
-    → MakesOn (is_disk disk) (IsAreaWrite loop.starts areas (at_label disk k (InAreaTurn areas first))) loop new
-    → AreasStand (content new) loop.starts areas (at_label disk k (InAreaTurn areas first))
-    → AreasStand (content new) old.starts areas (λ which number. (number < k + 1) × on_disk disk (InAreaTurn areas first) which number)
-label_next old loop new areas first disk k whole room count before stood makes stand =
-    let P : List (List ℕ) → Type 0 = λ starts. Makes (IsAreaWrite starts areas (at_label disk k (InAreaTurn areas first))) loop new in
-    let Q : List (List ℕ) → Type 0 = λ starts. AreasStand (content new) starts areas (at_label disk k (InAreaTurn areas first)) in
-    stand_joined old.starts areas (at_label disk k (InAreaTurn areas first)) (λ which number. (number < k) × on_disk disk (InAreaTurn areas first) which number) (at_label disk k (InAreaTurn areas first))
-    (λ which number. (number < k + 1) × on_disk disk (InAreaTurn areas first) which number) loop new whole room count (subst P before.makes.starts makes.makes) stood (subst Q before.makes.starts stand)
-    (λ which number it. elim (less_or_same number k it.0) [
-      | inl less ↦ inl ((less, it.1), λ n written same. omega (arith, less, written.1, same))
-      | inr same ↦ inr (it.1.0, same, it.1.1)
-    ])
-
--- the disks, one more of them
-pub disk_next : (old loop new : Disks) (areas : List (Option Area)) (first : Bool) (k : ℕ) → AreWhole areas → HaveLabels old.starts → length areas ≤ length old.starts
-    → MakesOn (HasArea areas) (IsAreaWrite old.starts areas (InAreaTurn areas first)) old loop
-    → AreasStand (content loop) old.starts areas (λ which number. (which < k) × InAreaTurn areas first which number)
-    → MakesOn (HasArea areas) (IsAreaWrite loop.starts areas (on_disk k (InAreaTurn areas first))) loop new
-    → AreasStand (content new) loop.starts areas (on_disk k (InAreaTurn areas first))
-    → AreasStand (content new) old.starts areas (λ which number. (which < k + 1) × InAreaTurn areas first which number)
-disk_next old loop new areas first k whole room count before stood makes stand =
-    let P : List (List ℕ) → Type 0 = λ starts. Makes (IsAreaWrite starts areas (on_disk k (InAreaTurn areas first))) loop new in
-    let Q : List (List ℕ) → Type 0 = λ starts. AreasStand (content new) starts areas (on_disk k (InAreaTurn areas first)) in
-    stand_joined old.starts areas (on_disk k (InAreaTurn areas first)) (λ which number. (which < k) × InAreaTurn areas first which number) (on_disk k (InAreaTurn areas first))
-    (λ which number. (which < k + 1) × InAreaTurn areas first which number) loop new whole room count (subst P before.makes.starts makes.makes) stood (subst Q before.makes.starts stand)
-    (λ which number it. elim (less_or_same which k it.0) [
-      | inl less ↦ inl ((less, it.1), λ n written same. omega (arith, less, written.0))
-      | inr same ↦ inr (same, it.1)
-    ])
-
-pub has_area : (areas : List (Option Area)) (which : ℕ) (area : Area) → slice_get areas which ≡ Some (Some area) → (other : ℕ) → is_disk which other → HasArea areas other
-has_area areas which area has other same = let P : ℕ → Type 0 = HasArea areas in subst P (sym same) (area, has)
-
-pub area_at : (areas : List (Option Area)) (which : ℕ) (o d : Option Area) → which < length areas → d ≡ get_or areas which d → d ≡ o → slice_get areas which ≡ Some o
+area_at : (areas : List (Option Area)) (which : ℕ) (o d : Option Area) → which < length areas → d ≡ get_or areas which d → d ≡ o → slice_get areas which ≡ Some o
 area_at areas which o d inside is at = slice_get-get_or areas which d inside ∙ ap (λ (x : Option Area). Some x) (sym is ∙ at)
 
-pub no_area : (areas : List (Option Area)) (which : ℕ) → slice_get areas which ≡ Some None → (area : Area) → ¬ (slice_get areas which ≡ Some (Some area))
-no_area areas which none area at = absurd (none_some area (sym none ∙ at))
+-- it is some label's turn
+some_turn : (first : Bool) (area : Area) → (number : ℕ) × IsPicked (turn_of first area) number
+some_turn true area = (area.first, refl)
+some_turn false area = (area.first + 1, λ same. absurd (omega (arith, same)))
+
+-- what is picked on a disk has its turn by the disk's area
+pub is_turn : (areas : List (Option Area)) (first : Bool) (which : ℕ) (area : Area) → slice_get areas which ≡ Some (Some area) → (number : ℕ) (bytes : List ℕ) → InAreaTurn areas first which number bytes
+    → IsPicked (turn_of first area) number
+is_turn areas first which area has number bytes it =
+    let P : Area → Type 0 = λ a. IsPicked (turn_of first a) number in
+    subst P (same_area it.area area (sym it.has ∙ has)) it.turn
+
+-- ---- the disks of a commit with which the configuration changes
+
+same_vec : (a b : Vec ℕ Global) → Some a ≡ Some b → a ≡ b
+same_vec a b e = cc
+
+-- the area of that disk, as it is read
+area_there : (areas : List (Vec ℕ Global)) (starts : List (List ℕ)) (which : ℕ) (area : Vec ℕ Global) → length areas ≡ length starts → which < length starts → area ≡ get_or areas which area
+    → slice_get areas which ≡ Some area
+area_there areas starts which area count below is = slice_get_read areas (length starts) which area (sym count) below is
+
+-- ---- what is planned
+
+-- it is for disks in use
+pub planned_used : (out : List Bool) (starts : List (List ℕ)) (plan : AreaPlan) → IsPlanFor out starts plan → (which number : ℕ) (bytes : List ℕ) → picks_of out plan which number bytes → InUse out which
+planned_used out starts (Claim areas first) fits which number bytes it = (fits.1 which).1 (it.area, it.has)
+planned_used out starts (Config areas half) fits which number bytes it = it.0.used
+
+-- a disk that is out has none
+pub none_planned : (out : List Bool) (starts : List (List ℕ)) (plan : AreaPlan) (disk : ℕ) → IsPlanFor out starts plan → ¬ InUse out disk
+    → (which number : ℕ) (bytes : List ℕ) → ¬ of_disk disk (picks_of out plan) which number bytes
+none_planned out starts plan disk fits unused which number bytes it =
+    let P : ℕ → Type 0 = InUse out in unused (subst P it.0 (planned_used out starts plan fits which number bytes it.1))
+
+pub none_claimed : (out : List Bool) (starts : List (List ℕ)) (plan : AreaPlan) (areas : Bor (List (Option Area))) (first : Bool) (disk : ℕ) (d : Option Area) → plan ≡ Claim areas first
+    → IsPlanFor out starts plan → disk < length starts → d ≡ get_or areas.now disk d → d ≡ None → (which number : ℕ) (bytes : List ℕ) → ¬ of_disk disk (picks_of out plan) which number bytes
+none_claimed out starts plan areas first disk d is fits below read none which number bytes picked =
+    let F : AreaPlan → Type 0 = IsPlanFor out starts in
+    let Q : AreaPlan → Type 0 = λ p. of_disk disk (picks_of out p) which number bytes in
+    let fits' : F (Claim areas first) = subst F is fits in
+    let it : Q (Claim areas first) = subst Q is picked in
+    let P : ℕ → Type 0 = λ w. slice_get areas.now w ≡ Some (Some it.1.area) in
+    none_some it.1.area (sym (area_at areas.now disk None d (omega (arith, below, fits'.0)) read none) ∙ subst P it.0 it.1.has)
+
+-- this area is planned for these labels of a disk, and no other for any
+pub record Suits (out : List Bool) (plan : AreaPlan) (disk : ℕ) (area : List ℕ) (pick : Pick) : Type 0 where
+  pub long : length area ≡ 114688
+  pub to_plan : (which number : ℕ) (bytes : List ℕ) → copies disk area pick which number bytes → of_disk disk (picks_of out plan) which number bytes
+  pub of_plan : (which number : ℕ) (bytes : List ℕ) → of_disk disk (picks_of out plan) which number bytes → copies disk area pick which number bytes
+
+pub claim_suits : (out : List Bool) (starts : List (List ℕ)) (plan : AreaPlan) (areas : Bor (List (Option Area))) (first : Bool) (disk : ℕ) (area : Area) (d : Option Area) (pick : Pick) (items : List ℕ)
+    → plan ≡ Claim areas first → AreWhole (picks_of out plan) → IsPlanFor out starts plan → disk < length starts → d ≡ get_or areas.now disk d → d ≡ Some area → pick ≡ turn_of first area
+    → items ≡ area.bytes.items → Suits out plan disk items pick
+claim_suits out starts plan areas first disk area d pick items is whole fits below read some picked same =
+    let W : AreaPlan → Type 0 = λ p. AreWhole (picks_of out p) in
+    let F : AreaPlan → Type 0 = IsPlanFor out starts in
+    let S : AreaPlan → Type 0 = λ p. Suits out p disk items pick in
+    let whole' : W (Claim areas first) = subst W is whole in
+    let fits' : F (Claim areas first) = subst F is fits in
+    let has = area_at areas.now disk (Some area) d (omega (arith, below, fits'.0)) read some in
+    let turn = some_turn first area in
+    subst S (sym is) (record {
+      long = whole' disk turn.0 items (record { area = area; has = has; turn = turn.1; same = same });
+      to_plan = λ which number bytes it.
+          let P : ℕ → Type 0 = λ w. slice_get areas.now w ≡ Some (Some area) in
+          let Q : Pick → Type 0 = λ p. IsPicked p number in
+          (it.0, record { area = area; has = subst P (sym it.0) has; turn = subst Q picked it.1; same = it.2 ∙ same });
+      of_plan = λ which number bytes it.
+          let P : ℕ → Type 0 = λ w. slice_get areas.now w ≡ Some (Some it.1.area) in
+          let one : it.1.area ≡ area = same_area it.1.area area (sym (subst P it.0 it.1.has) ∙ has) in
+          let Q : Pick → Type 0 = λ p. IsPicked p number in
+          let R : Area → Type 0 = λ a. IsPicked (turn_of first a) number in
+          (it.0, subst Q (sym picked) (subst R one it.1.turn), it.1.same ∙ ap (λ (a : Area). a.bytes.items) one ∙ sym same);
+    })
+
+pub config_suits : (out : List Bool) (starts : List (List ℕ)) (plan : AreaPlan) (areas : Bor (List (Vec ℕ Global))) (half disk : ℕ) (area : Vec ℕ Global) (items : List ℕ) → plan ≡ Config areas half
+    → AreWhole (picks_of out plan) → IsPlanFor out starts plan → disk < length starts → InUse out disk → area ≡ get_or areas.now disk area → items ≡ area.items → Suits out plan disk items (Half half)
+config_suits out starts plan areas half disk area items is whole fits below used read same =
+    let W : AreaPlan → Type 0 = λ p. AreWhole (picks_of out p) in
+    let F : AreaPlan → Type 0 = IsPlanFor out starts in
+    let S : AreaPlan → Type 0 = λ p. Suits out p disk items (Half half) in
+    let whole' : W (Config areas half) = subst W is whole in
+    let fits' : F (Config areas half) = subst F is fits in
+    let has = area_there areas.now starts disk area fits' below read in
+    subst S (sym is) (record {
+      long = whole' disk half items (record { used = used; area = area; has = has; same = same }, inl refl);
+      to_plan = λ which number bytes it.
+          let P : ℕ → Type 0 = λ w. slice_get areas.now w ≡ Some area in
+          (it.0, (record { used = on_used out disk used which it.0; area = area; has = subst P (sym it.0) has; same = it.2 ∙ same }, it.1));
+      of_plan = λ which number bytes it.
+          let P : ℕ → Type 0 = λ w. slice_get areas.now w ≡ Some it.1.0.area in
+          let one : it.1.0.area ≡ area = same_vec it.1.0.area area (sym (subst P it.0 it.1.0.has) ∙ has) in
+          (it.0, it.1.1, it.1.0.same ∙ ap (λ (a : Vec ℕ Global). a.items) one ∙ sym same);
+    })
+
+-- so that it is written to them
+pub suits_makes : (out : List Bool) (plan : AreaPlan) (disk : ℕ) (area : List ℕ) (pick : Pick) (old new : Disks) → Suits out plan disk area pick → InUse out disk
+    → MakesOn (is_disk disk) (IsAreaWrite old.starts (copies disk area pick)) old new → MakesOn (InUse out) (IsAreaWrite old.starts (of_disk disk (picks_of out plan))) old new
+suits_makes out plan disk area pick old new suits used makes =
+    wider (is_disk disk) (InUse out) old.starts (copies disk area pick) (of_disk disk (picks_of out plan)) old new (on_used out disk used) suits.to_plan makes
+
+pub suits_stand : {T E : Type 0} (r : Result T E) (out : List Bool) (plan : AreaPlan) (disk : ℕ) (area : List ℕ) (pick : Pick) (held : ℕ → ℕ → Option ℕ) (starts : List (List ℕ)) → Suits out plan disk area pick
+    → OnOk r (AreasStand held starts (copies disk area pick)) → OnOk r (AreasStand held starts (of_disk disk (picks_of out plan)))
+suits_stand (Ok x) out plan disk area pick held starts suits stand = λ which number bytes is it. stand which number bytes is (suits.of_plan which number bytes it)
+suits_stand (Err e) out plan disk area pick held starts suits stand = tt

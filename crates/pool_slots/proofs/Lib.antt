@@ -27,7 +27,6 @@ mod Choices
 pub mod LabelAreas
 pub mod LabelScans
 mod LabelWrites
-mod ConfigWrites
 pub mod LabelPlans
 mod LabelPhases
 mod FourConfigs

@@ -13,13 +13,13 @@ use Rattle.pool_slots.specs.Labels.{AreasOn, AreasStand, InAreaTurn, IsAreaWrite
 use Rattle.pool_slots.specs.Marks.{AreMarked, LeavesMarked, SparesMark}
 use Rattle.pool_slots.specs.Opens.{AreKnown, AreOn, AreSpared, CanOpen, ClaimGives, ClaimKeeps, ClaimsAt, IsClaimOf, MarksAt, MayClaim, OpenTakes, also_begun}
 use Rattle.pool_slots.specs.Possible.{Possible, Trees, LeavesLeading}
-use Rattle.pool_slots.specs.Relabels.{AreFirst, AreMadeOf, AreMarkedFirst, IsClaimLabelWrite, IsRelabeled, all_labels}
+use Rattle.pool_slots.specs.Relabels.{AreFirst, AreMadeOf, AreMarkedFirst, IsClaimLabelWrite, IsRelabeled, InAllLabels}
 use Rattle.pool_slots.specs.Slots.{AreThere, InUse}
 use Rattle.pool_slots.specs.declared.found.Found.{Found}
 use Rattle.pool_slots.specs.declared.labeled.Area.{Area}
 use Rattle.pool_slots.proofs.ClaimPhases.{also}
 use Rattle.pool_slots.proofs.Finding.{honest_before}
-use Rattle.pool_slots.proofs.LabelPhases.{each_joined, marked_always, same_area}
+use Rattle.pool_slots.proofs.LabelPhases.{each_joined, marked_always}
 use Rattle.pool_slots.proofs.LabelPlans.{claim_label_small, relabeled_valid}
 use Rattle.pool_slots.proofs.LabelScans.{label_later}
 use Rattle.pool_slots.proofs.OpenSteps.{chosen, claim_always, leads_before, takes_of}
@@ -127,7 +127,7 @@ made_from out rewind first disks new s surveyed makes known honest =
 
 -- so each disk's labels are
 pub relabeled_by : (out : List Bool) (old new : Disks) (u : Uberblock) (areas : List (Option Area)) → AreMadeOf old u areas → AreasOn out areas → Fits u → new.starts ≡ old.starts
-    → AreasStand (content new) old.starts areas all_labels → (which : ℕ) → InUse out which → IsRelabeled old u new which
+    → AreasStand (content new) old.starts (InAllLabels areas) → (which : ℕ) → InUse out which → IsRelabeled old u new which
 relabeled_by out old new u areas made on fits starts stand which used =
     let area = (on which).0 used in
     let mine = made which area.0 area.1 in
@@ -142,17 +142,16 @@ relabeled_by out old new u areas made on fits starts stand which used =
           subst P (sym starts) (record {
             is_label = is;
             valid = relabeled_valid mine.label u mine.source.valid fits;
-            bytes = λ i below. stand which number area.0 area.1 is tt i below ∙ ap (λ (them : List ℕ). slice_get them i) mine.spells;
+            bytes = λ i below. stand which number area.0.bytes.items is (record { area = area.0; has = area.1; same = refl }) i below ∙ ap (λ (them : List ℕ). slice_get them i) mine.spells;
           });
     }
 
 -- a claim label is written where its disk's labels say
 first_write : (starts : List (List ℕ)) (old : Disks) (u : Uberblock) (areas : List (Option Area)) → AreMadeOf old u areas → old.starts ≡ starts → (which at : ℕ) (bytes : List ℕ)
-    → IsAreaWrite starts areas (InAreaTurn areas true) which at bytes → IsClaimLabelWrite old u which at bytes
+    → IsAreaWrite starts (InAreaTurn areas true) which at bytes → IsClaimLabelWrite old u which at bytes
 first_write starts old u areas made same which at bytes write =
-    let mine = made which write.area write.has in
-    let one : write.picked.area ≡ write.area = same_area write.picked.area write.area (sym write.picked.has ∙ write.has) in
-    let number : write.number ≡ mine.it.first = write.picked.turn ∙ ap (λ (a : Area). a.first) one ∙ mine.first in
+    let mine = made which write.picked.area write.picked.has in
+    let number : write.number ≡ mine.it.first = write.picked.turn ∙ mine.first in
     let P : List (List ℕ) → Type 0 = λ them. at ≡ area_place (length (bytes_of them which)) write.number in
     let Q : ℕ → Type 0 = λ n. at ≡ area_place (length (bytes_of old.starts which)) n in
     record { it = mine.it; read = mine.read; place = subst Q number (subst P (sym same) write.place) }
@@ -162,7 +161,7 @@ pub marked_by : (out : List Bool) (old disks new : Disks) (u : Uberblock) (areas
     → AreFirst out disks areas new → AreMarkedFirst out old u new
 marked_by out old disks new u areas scan made on fits first =
     let M : (ℕ → ℕ → List ℕ → Type 0) → Type 0 = λ may. Makes may old first.now in
-    let wrote = Makes-wider (IsAreaWrite disks.starts areas (InAreaTurn areas true)) (IsClaimLabelWrite old u) disks first.now
+    let wrote = Makes-wider (IsAreaWrite disks.starts (InAreaTurn areas true)) (IsClaimLabelWrite old u) disks first.now
     (first_write disks.starts old u areas made (sym scan.starts)) first.alone in
     let long : length old.calls ≤ length first.now.calls = omega (arith, longer old disks no_write scan, longer disks first.now (IsClaimLabelWrite old u) wrote) in
     record {
@@ -175,7 +174,7 @@ marked_by out old disks new u areas scan made on fits first =
           let mine = made which area.0 area.1 in
           let valid = relabeled_valid mine.label u mine.source.valid fits in
           let small : mine.it.first < 4 = claim_label_small (length (bytes_of old.starts which)) (content old which) u.config_digest mine.it mine.read in
-          let turn : InAreaTurn areas true which mine.it.first = record { area = area.0; has = area.1; turn = sym mine.first } in
+          let turn : InAreaTurn areas true which mine.it.first area.0.bytes.items = record { area = area.0; has = area.1; turn = sym mine.first; same = refl } in
           let P : List (List ℕ) → Type 0 = λ them. IsLabelShown (length (bytes_of them which)) (content first.now which) mine.it.first (relabeled mine.label u.claim u.group Active) in
           record {
             it = mine.it;
@@ -184,7 +183,7 @@ marked_by out old disks new u areas scan made on fits first =
             shown = subst P (sym first.alone.starts) (record {
               is_label = small;
               valid = valid;
-              bytes = λ i below. first.stand which mine.it.first area.0 area.1 small turn i below ∙ ap (λ (them : List ℕ). slice_get them i) mine.spells;
+              bytes = λ i below. first.stand which mine.it.first area.0.bytes.items small turn i below ∙ ap (λ (them : List ℕ). slice_get them i) mine.spells;
             });
             claim = refl;
           };

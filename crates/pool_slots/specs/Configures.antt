@@ -1,5 +1,5 @@
 -- Commits of groups with which the configuration changes.
-use Rattle.std.specs.Prelude.{◌≡◌, ◌⊎◌, ◌≤◌, ◌<◌, ℕ, ◌+◌, Bool, List, length, slice_get, Option, Some, Vec}
+use Rattle.std.specs.Prelude.{◌≡◌, ◌⊎◌, ◌≤◌, ◌<◌, ℕ, Bool, List, length, slice_get, Option, Some, Vec}
 use Rattle.std.specs.declared.alloc.Global.{Global}
 use Rattle.model_disk.specs.Joint.{JointCall, Disks, bytes_of, content, MayLeaveAll}
 use Rattle.model_disk.specs.Runs.{EachSince}
@@ -7,14 +7,16 @@ use Rattle.uberblock_ring.specs.declared.uberblock.Uberblock.{Uberblock}
 use Rattle.vdev_label.specs.Plain.{PlainLabel}
 use Rattle.pool_slots.specs.Commits.{IsNext}
 use Rattle.pool_slots.specs.Configs.{IsConfigured, of_config}
-use Rattle.pool_slots.specs.Labels.{IsInscribed, IsLabelShown, IsValid, area_place, inscribed}
+use Rattle.pool_slots.specs.Labels.{AreasOn, InAreaTurn, IsAreaWrite, IsInscribed, IsLabelShown, IsValid, inscribed}
 use Rattle.pool_slots.specs.Lives.{fresh}
 use Rattle.pool_slots.specs.Marks.{MarkedAlways}
 use Rattle.pool_slots.specs.Opens.{IsHighestShown, IsShown, IsShownOn}
 use Rattle.pool_slots.specs.Possible.{Trees, held_by}
 use Rattle.pool_slots.specs.Slots.{AreSettled, AreUntorn, InUse}
-use Rattle.pool_slots.specs.Writes.{InHalf, IsCommitWrite, in_use}
+use Rattle.pool_slots.specs.Writes.{InHalf, IsCommitWrite}
 use Rattle.pool_slots.specs.declared.blocks.BlockWrite.{BlockWrite}
+use Rattle.pool_slots.specs.declared.labeled.AreaPlan.{AreaPlan}
+use Rattle.pool_slots.specs.declared.labeled.AreaPlan.TheVariants.{Claim, Config}
 
 -- ---- what is written
 
@@ -28,34 +30,31 @@ pub record IsNewArea (u : Uberblock) (bytes : List ℕ) : Type 0 where
 abbrev pub AreNewAreas : List Bool → Uberblock → List (Vec ℕ Global) → Type 0
 AreNewAreas out u areas = (which : ℕ) (area : Vec ℕ Global) → InUse out which → slice_get areas which ≡ Some area → IsNewArea u area.items
 
--- labels 0 and 2 of the disks in use, or labels 1 and 3
-abbrev pub half_in_use : List Bool → ℕ → ℕ → ℕ → Type 0
-half_in_use out half which number = InUse out which × InHalf half number
-
--- a disk's area, in one of the labels that are picked
-pub record IsConfigWrite (starts : List (List ℕ)) (areas : List (Vec ℕ Global)) (picks : ℕ → ℕ → Type 0) (which at : ℕ) (bytes : List ℕ) : Type 0 where
-  pub number : ℕ
-  pub is_label : number < 4
-  pub picked : picks which number
+-- the area of a disk in use, for each of its labels
+pub record IsAreaInUse (out : List Bool) (areas : List (Vec ℕ Global)) (which number : ℕ) (bytes : List ℕ) : Type 0 where
+  pub used : InUse out which
   pub area : Vec ℕ Global
   pub has : slice_get areas which ≡ Some area
-  pub place : at ≡ area_place (length (bytes_of starts which)) number
   pub same : bytes ≡ area.items
 
--- it stands in each label that is picked
-abbrev pub ConfigsStand : (ℕ → ℕ → Option ℕ) → List (List ℕ) → List (Vec ℕ Global) → (ℕ → ℕ → Type 0) → Type 0
-ConfigsStand held starts areas picks =
-    (which number : ℕ) (area : Vec ℕ Global) → slice_get areas which ≡ Some area → number < 4 → picks which number
-    → (i : ℕ) → i < 114688 → held which (area_place (length (bytes_of starts which)) number + i) ≡ slice_get area.items i
+-- for labels 0 and 2, or for labels 1 and 3
+abbrev pub half_in_use : List Bool → List (Vec ℕ Global) → ℕ → ℕ → ℕ → List ℕ → Type 0
+half_in_use out areas half which number bytes = IsAreaInUse out areas which number bytes × InHalf half number
 
--- as long as an area is
-abbrev pub AreLong : (ℕ → Type 0) → List (Vec ℕ Global) → Type 0
-AreLong used areas = (which : ℕ) (area : Vec ℕ Global) → used which → slice_get areas which ≡ Some area → length area.items ≡ 114688
+-- the areas that are planned
+abbrev pub picks_of : List Bool → AreaPlan → ℕ → ℕ → List ℕ → Type 0
+picks_of out (Claim areas first) = InAreaTurn areas.now first
+picks_of out (Config areas half) = half_in_use out areas.now half
+
+-- there is one for each disk in use
+abbrev pub IsPlanFor : List Bool → List (List ℕ) → AreaPlan → Type 0
+IsPlanFor out starts (Claim areas first) = (length areas.now ≡ length starts) × AreasOn out areas.now
+IsPlanFor out starts (Config areas half) = length areas.now ≡ length starts
 
 -- a block, the uberblock's slot on a disk in use, or a disk's area in a label of that disk, which is in use
 abbrev pub IsReconfigureWrite : List Bool → List (List ℕ) → List BlockWrite → Uberblock → List (Vec ℕ Global) → ℕ → ℕ → List ℕ → Type 0
 IsReconfigureWrite out starts blocks u areas which at bytes =
-    IsCommitWrite out starts blocks u which at bytes ⊎ IsConfigWrite starts areas (in_use out) which at bytes
+    IsCommitWrite out starts blocks u which at bytes ⊎ IsAreaWrite starts (IsAreaInUse out areas) which at bytes
 
 -- each label of each disk in use shows the disk's new label
 abbrev pub AreRewritten : List Bool → List (Vec ℕ Global) → Disks → Type 0

@@ -11,9 +11,11 @@ use Rattle.vdev_label.specs.Plain.{PlainLabel}
 use Rattle.vdev_label.specs.declared.label.State.TheVariants.{Active}
 use Rattle.pool_slots.specs.Shown.{IsSummary}
 use Rattle.pool_slots.specs.Slots.{InUse}
-use Rattle.pool_slots.specs.Writes.{IsSlotWrite, in_use}
+use Rattle.pool_slots.specs.Writes.{InHalf, IsSlotWrite, in_use}
 use Rattle.pool_slots.specs.declared.labeled.Area.{Area}
 use Rattle.pool_slots.specs.declared.labeled.Labeled.{Labeled}
+use Rattle.pool_slots.specs.declared.labeled.Pick.{Pick}
+use Rattle.pool_slots.specs.declared.labeled.Pick.TheVariants.{One, Others, Half}
 use Rattle.pool_slots.specs.declared.labeled.Shown.{Shown}
 
 -- ---- what is shown
@@ -114,45 +116,52 @@ pub record FitsArea (u : Uberblock) (area : Area) : Type 0 where
 abbrev pub AreasFit : Uberblock → List (Option Area) → Type 0
 AreasFit u areas = (which : ℕ) (area : Area) → slice_get areas which ≡ Some (Some area) → FitsArea u area
 
+-- one label, all but one, or labels 0 and 2, or labels 1 and 3
+abbrev pub IsPicked : Pick → ℕ → Type 0
+IsPicked (One label) number = number ≡ label
+IsPicked (Others label) number = ¬ (number ≡ label)
+IsPicked (Half half) number = InHalf half number
+
 -- In a claim's first turn (true) each disk's claim label, in its last (false) the other three.
-abbrev pub IsTurn : Bool → Area → ℕ → Type 0
-IsTurn true area number = number ≡ area.first
-IsTurn false area number = ¬ (number ≡ area.first)
+abbrev pub turn_of : Bool → Area → Pick
+turn_of true area = One area.first
+turn_of false area = Others area.first
 
-pub record InAreaTurn (areas : List (Option Area)) (first : Bool) (which number : ℕ) : Type 0 where
+-- a disk's area, for the labels whose turn it is
+pub record InAreaTurn (areas : List (Option Area)) (first : Bool) (which number : ℕ) (bytes : List ℕ) : Type 0 where
   pub area : Area
   pub has : slice_get areas which ≡ Some (Some area)
-  pub turn : IsTurn first area number
-
--- one label of what is picked
-abbrev pub at_label : ℕ → ℕ → (ℕ → ℕ → Type 0) → ℕ → ℕ → Type 0
-at_label disk label picks which number = (which ≡ disk) × (number ≡ label) × picks which number
-
--- a disk's area, in one of the labels that are picked
-pub record IsAreaWrite (starts : List (List ℕ)) (areas : List (Option Area)) (picks : ℕ → ℕ → Type 0) (which at : ℕ) (bytes : List ℕ) : Type 0 where
-  pub number : ℕ
-  pub is_label : number < 4
-  pub area : Area
-  pub has : slice_get areas which ≡ Some (Some area)
-  pub picked : picks which number
-  pub place : at ≡ area_place (length (bytes_of starts which)) number
+  pub turn : IsPicked (turn_of first area) number
   pub same : bytes ≡ area.bytes.items
 
--- the area stands in that label of a disk of this size
-abbrev pub AreaStands : (ℕ → Option ℕ) → ℕ → ℕ → Area → Type 0
-AreaStands held size number area = (i : ℕ) → i < 114688 → held (area_place size number + i) ≡ slice_get area.bytes.items i
+-- one area, for the labels of one disk that are picked
+abbrev pub copies : ℕ → List ℕ → Pick → ℕ → ℕ → List ℕ → Type 0
+copies disk area pick which number bytes = (which ≡ disk) × IsPicked pick number × (bytes ≡ area)
 
--- it does in each label that is picked
-abbrev pub AreasStand : (ℕ → ℕ → Option ℕ) → List (List ℕ) → List (Option Area) → (ℕ → ℕ → Type 0) → Type 0
-AreasStand held starts areas picks =
-    (which number : ℕ) (area : Area) → slice_get areas which ≡ Some (Some area) → number < 4 → picks which number → AreaStands (held which) (length (bytes_of starts which)) number area
+-- of what is picked, that of one disk
+abbrev pub of_disk : ℕ → (ℕ → ℕ → List ℕ → Type 0) → ℕ → ℕ → List ℕ → Type 0
+of_disk disk picks which number bytes = (which ≡ disk) × picks which number bytes
 
--- as long as an area is
-abbrev pub IsWhole : Area → Type 0
-IsWhole area = length area.bytes.items ≡ 114688
+-- and that of the labels of one number
+abbrev pub of_label : ℕ → (ℕ → ℕ → List ℕ → Type 0) → ℕ → ℕ → List ℕ → Type 0
+of_label label picks which number bytes = (number ≡ label) × picks which number bytes
 
-abbrev pub AreWhole : List (Option Area) → Type 0
-AreWhole areas = (which : ℕ) (area : Area) → slice_get areas which ≡ Some (Some area) → IsWhole area
+-- an area, in a label for which it is picked
+pub record IsAreaWrite (starts : List (List ℕ)) (picks : ℕ → ℕ → List ℕ → Type 0) (which at : ℕ) (bytes : List ℕ) : Type 0 where
+  pub number : ℕ
+  pub is_label : number < 4
+  pub picked : picks which number bytes
+  pub place : at ≡ area_place (length (bytes_of starts which)) number
+
+-- it stands in each such label
+abbrev pub AreasStand : (ℕ → ℕ → Option ℕ) → List (List ℕ) → (ℕ → ℕ → List ℕ → Type 0) → Type 0
+AreasStand held starts picks =
+    (which number : ℕ) (bytes : List ℕ) → number < 4 → picks which number bytes
+    → (i : ℕ) → i < 114688 → held which (area_place (length (bytes_of starts which)) number + i) ≡ slice_get bytes i
+
+-- each is as long as an area is
+abbrev pub AreWhole : (ℕ → ℕ → List ℕ → Type 0) → Type 0
+AreWhole picks = (which number : ℕ) (bytes : List ℕ) → picks which number bytes → length bytes ≡ 114688
 
 -- each label of each disk in use shows the claim
 abbrev pub AreClaimed : List Bool → Disks → Uberblock → Type 0

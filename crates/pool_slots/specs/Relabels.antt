@@ -93,18 +93,20 @@ pub record IsMadeOf (disks : Disks) (u : Uberblock) (which : ℕ) (area : Area) 
 abbrev pub AreMadeOf : Disks → Uberblock → List (Option Area) → Type 0
 AreMadeOf disks u areas = (which : ℕ) (area : Area) → slice_get areas which ≡ Some (Some area) → IsMadeOf disks u which area
 
--- each label
-abbrev pub all_labels : ℕ → ℕ → Type 0
-all_labels which number = Unit {0}
+-- a disk's area, for each label
+pub record InAllLabels (areas : List (Option Area)) (which number : ℕ) (bytes : List ℕ) : Type 0 where
+  pub area : Area
+  pub has : slice_get areas which ≡ Some (Some area)
+  pub same : bytes ≡ area.bytes.items
 
 -- one of these areas in a label of its disk, or a slot of the uberblock on a disk in use
 abbrev pub of_areas : List (List ℕ) → List Bool → Uberblock → List (Option Area) → ℕ → ℕ → List ℕ → Type 0
-of_areas starts out u areas which at bytes = IsSlotWrite starts u (in_use out) which at bytes ⊎ IsAreaWrite starts areas all_labels which at bytes
+of_areas starts out u areas which at bytes = IsSlotWrite starts u (in_use out) which at bytes ⊎ IsAreaWrite starts (InAllLabels areas) which at bytes
 
 -- at some moment the claim labels alone were written, and stand flushed
 pub record AreFirst (out : List Bool) (old : Disks) (areas : List (Option Area)) (new : Disks) : Type 0 where
   pub now : Disks
   pub moment : IsMoment (length old.calls) new.calls now.calls
-  pub alone : Makes (IsAreaWrite old.starts areas (InAreaTurn areas true)) old now
+  pub alone : Makes (IsAreaWrite old.starts (InAreaTurn areas true)) old now
   pub settled : AreSettled out now.calls
-  pub stand : AreasStand (content now) old.starts areas (InAreaTurn areas true)
+  pub stand : AreasStand (content now) old.starts (InAreaTurn areas true)

@@ -5,15 +5,15 @@ ghost use Rattle.model_disk.specs.Runs.{Makes};
 ghost use Rattle.uberblock_ring.specs.Uberblock.{Fits};
 ghost use Rattle.pool_slots.specs.Failures.{IsFailure};
 ghost use Rattle.pool_slots.specs.Configs.{ClaimConfigures};
-ghost use Rattle.pool_slots.specs.Labels.{AreClaimed, AreWhole, AreasFit, AreasOn, AreasStand, InAreaTurn, IsAreaWrite, IsClaimWrite};
+ghost use Rattle.pool_slots.specs.Labels.{AreClaimed, AreasFit, AreasOn, AreasStand, IsClaimWrite};
 ghost use Rattle.pool_slots.specs.Opens.{AreOn, ClaimGives, ClaimKeeps, SlotsGive, SlotsKeep};
-ghost use Rattle.pool_slots.specs.Relabels.{AreFirst, all_labels, of_areas};
+ghost use Rattle.pool_slots.specs.Relabels.{AreFirst, InAllLabels, of_areas};
 ghost use Rattle.pool_slots.specs.Slots.{AreSettled, HaveLabels, InUse, MakesOn};
 ghost use Rattle.pool_slots.specs.Writes.{IsSlotWrite, in_use};
 
 use crate::found::Found;
-use crate::label_writes::write_labels;
-use crate::labeled::Area;
+use crate::label_writes::settle_areas;
+use crate::labeled::{Area, AreaPlan};
 use crate::refusal::DiskFailure;
 use crate::writes::{flush_all, write_turn};
 use model_disk::{Disk, DiskArray};
@@ -45,29 +45,6 @@ fn claim_slots<D: Disk + Drop>(
     flush_all(disks, out)
 }
 
-/// Writes the labels whose turn it is, and flushes all disks in use.
-fn settle_labels<D: Disk + Drop>(
-    disks: &mut DiskArray<D>,
-    out: &[bool],
-    areas: &[Option<Area>],
-    first: bool,
-) -> Result<(), DiskFailure>
-    requires out { length out.now ≡ length disks.old.starts }
-    requires count { length areas.now ≡ length disks.old.starts }
-    requires on { AreasOn out.now areas.now }
-    requires whole { AreWhole areas.now }
-    requires labels { HaveLabels disks.old.starts }
-    ensures makes { MakesOn (InUse out.now)
-        (IsAreaWrite disks.old.starts areas.now (InAreaTurn areas.now first)) disks.old disks.new }
-    ensures stand { OnOk result (AreasStand (content disks.new) disks.old.starts areas.now
-        (InAreaTurn areas.now first)) }
-    ensures settled { OnOk result (AreSettled out.now disks.new.calls) }
-    ensures fault { IfErr result (IsFailure disks.old disks.new) }
-{
-    write_labels(disks, areas, first)?;
-    flush_all(disks, out)
-}
-
 /// Writes the claim label of each disk in use, then the slots, then the other labels, each flushed
 /// before the next begins. The first fault ends it.
 pub(crate) fn write_claim<D: Disk + Drop>(
@@ -96,10 +73,10 @@ pub(crate) fn write_claim<D: Disk + Drop>(
     ensures claimed { OnOk result (ClaimGives out.now disks.old uberblock.now all.now disks.new) }
     ensures labeled { OnOk result (AreClaimed out.now disks.new uberblock.now) }
     ensures stand { OnOk result
-        (AreasStand (content disks.new) disks.old.starts areas.now all_labels) }
+        (AreasStand (content disks.new) disks.old.starts (InAllLabels areas.now)) }
     ensures first { OnOk result (AreFirst out.now disks.old areas.now disks.new) }
 {
-    settle_labels(disks, out, areas, true)?;
+    settle_areas(disks, out, AreaPlan::Claim(areas, true))?;
     claim_slots(disks, out, all, uberblock)?;
-    settle_labels(disks, out, areas, false)
+    settle_areas(disks, out, AreaPlan::Claim(areas, false))
 }

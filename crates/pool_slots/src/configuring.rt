@@ -1,15 +1,16 @@
 //! A commit of a group with which the configuration changes.
-ghost use Rattle.std.specs.Prelude.{◌≡◌, ◌<◌, length, IfErr, OnOk};
+ghost use Rattle.std.specs.Prelude.{◌≡◌, length, IfErr, OnOk};
 ghost use Rattle.model_disk.specs.Joint.{content};
 ghost use Rattle.uberblock_ring.specs.Uberblock.{Fits};
 ghost use Rattle.pool_slots.specs.Commits.{CommitGives, CommitKeeps};
-ghost use Rattle.pool_slots.specs.Configures.{AreLong, AreNewAreas, AreRewritten, ConfigsStand, IsConfigWrite, IsReconfigureWrite, ReconfigureKeeps, ReconfigureMarks, ReconfigureOpens, half_in_use};
+ghost use Rattle.pool_slots.specs.Configures.{AreNewAreas, AreRewritten, IsReconfigureWrite, ReconfigureKeeps, ReconfigureMarks, ReconfigureOpens};
 ghost use Rattle.pool_slots.specs.Failures.{IsFailure};
 ghost use Rattle.pool_slots.specs.Slots.{AreSettled, HaveLabels, InUse, MakesOn};
 ghost use Rattle.pool_slots.specs.Writes.{AreApart, ArePlaced, BlocksStand, IsBlockWrite, IsSlotWrite, SlotsStand, in_use};
 
 use crate::blocks::BlockWrite;
-use crate::config_writes::write_configs;
+use crate::label_writes::settle_areas;
+use crate::labeled::AreaPlan;
 use crate::refusal::DiskFailure;
 use crate::writes::{flush_all, write_all, write_blocks};
 use model_disk::{Disk, DiskArray};
@@ -33,29 +34,6 @@ fn settle_blocks<D: Disk + Drop>(
     flush_all(disks, out)
 }
 
-/// Writes each disk's area to labels 0 and 2 of the disks in use, or to labels 1 and 3, and flushes them.
-fn settle_configs<D: Disk + Drop>(
-    disks: &mut DiskArray<D>,
-    out: &[bool],
-    areas: &[Vec<u8>],
-    half: u64,
-) -> Result<(), DiskFailure>
-    requires out { length out.now ≡ length disks.old.starts }
-    requires count { length areas.now ≡ length disks.old.starts }
-    requires half { half < 2 }
-    requires whole { AreLong (InUse out.now) areas.now }
-    requires labels { HaveLabels disks.old.starts }
-    ensures makes { MakesOn (InUse out.now)
-        (IsConfigWrite disks.old.starts areas.now (half_in_use out.now half)) disks.old disks.new }
-    ensures stand { OnOk result
-        (ConfigsStand (content disks.new) disks.old.starts areas.now (half_in_use out.now half)) }
-    ensures settled { OnOk result (AreSettled out.now disks.new.calls) }
-    ensures fault { IfErr result (IsFailure disks.old disks.new) }
-{
-    write_configs(disks, out, areas, half)?;
-    flush_all(disks, out)
-}
-
 /// Writes the uberblock's slots on all disks in use, and flushes them.
 fn settle_slots<D: Disk + Drop>(
     disks: &mut DiskArray<D>,
@@ -76,12 +54,12 @@ fn settle_slots<D: Disk + Drop>(
     flush_all(disks, out)
 }
 
-/// Commits a group with which the configuration changes. `areas` has of each disk the area of its new
-/// label, with the configuration; of a disk that is out it may be anything.
+/// Commits a group with which the configuration changes. `areas` has of each disk the area of its
+/// new label, with the configuration; of a disk that is out it may be anything.
 ///
-/// Four phases are written, each flushed on all disks in use before the next begins: the blocks, the new
-/// labels 0 and 2 of each disk, the slots of the uberblock, and the new labels 1 and 3. The first fault
-/// ends it.
+/// Four phases are written, each flushed on all disks in use before the next begins: the blocks,
+/// the new labels 0 and 2 of each disk, the slots of the uberblock, and the new labels 1 and 3. The
+/// first fault ends it.
 pub fn commit_config<D: Disk + Drop>(
     disks: &mut DiskArray<D>,
     out: &[bool],
@@ -97,20 +75,25 @@ pub fn commit_config<D: Disk + Drop>(
     requires count { length areas.now ≡ length disks.old.starts }
     requires areas { AreNewAreas out.now uberblock.now areas.now }
 
-    // No disk that is out is called, and all that is written are the blocks, the slots, and each disk's area in its own labels.
+    // No disk that is out is called, and all that is written are the blocks, the slots, and each
+    // disk's area in its own labels.
     ensures makes { MakesOn (InUse out.now) (IsReconfigureWrite
         out.now disks.old.starts blocks.now uberblock.now areas.now) disks.old disks.new }
 
-    // Stopped at any moment, inside a device call too, the disks lead to the last uberblock or to this one.
+    // Stopped at any moment, inside a device call too, the disks lead to the last uberblock or to
+    // this one.
     ensures any_moment { CommitKeeps out.now disks.old blocks.now uberblock.now disks.new }
 
-    // Each of them has a label with the last configuration until each shows this uberblock, and one with its own before any shows it.
+    // Each of them has a label with the last configuration until each shows this uberblock, and one
+    // with its own before any shows it.
     ensures configs { ReconfigureKeeps out.now disks.old uberblock.now disks.new }
 
-    // So an open of what a stop leaves finds labels with the configuration of the uberblock that it takes.
+    // So an open of what a stop leaves finds labels with the configuration of the uberblock that it
+    // takes.
     ensures opens { ReconfigureOpens out.now disks.old blocks.now uberblock.now disks.new }
 
-    // And each disk in use shows a claim no less than this, if it is no more than the uberblock's, where label 1 or label 3 of each did before.
+    // And each disk in use shows a claim no less than this, if it is no more than the uberblock's,
+    // where label 1 or label 3 of each did before.
     ensures labels_any_moment { ReconfigureMarks out.now disks.old uberblock.now disks.new }
 
     // Then they lead to this one alone.
@@ -124,7 +107,7 @@ pub fn commit_config<D: Disk + Drop>(
     ensures fault { IfErr result (IsFailure disks.old disks.new) }
 {
     settle_blocks(disks, out, blocks)?;
-    settle_configs(disks, out, areas, 0)?;
+    settle_areas(disks, out, AreaPlan::Config(areas, 0))?;
     settle_slots(disks, out, uberblock)?;
-    settle_configs(disks, out, areas, 1)
+    settle_areas(disks, out, AreaPlan::Config(areas, 1))
 }

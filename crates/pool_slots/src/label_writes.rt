@@ -1,15 +1,16 @@
-//! The writes of labels in a claim.
-ghost use Rattle.std.specs.Prelude.{◌≡◌, ◌↔◌, ◌<◌, ◌≤◌, ◌∷◌, length, slice_get, IsTrue, Some, IfErr, OnOk};
+//! The writes of areas to labels.
+ghost use Rattle.std.specs.Prelude.{◌≡◌, ◌↔◌, ◌<◌, ◌≤◌, ◌∷◌, length, IsTrue, IfErr, OnOk};
 ghost use Rattle.model_disk.specs.Call.{write_call};
 ghost use Rattle.model_disk.specs.Joint.{bytes_of, content, on};
+ghost use Rattle.pool_slots.specs.Configures.{IsPlanFor, picks_of};
 ghost use Rattle.pool_slots.specs.Failures.{IsFailure};
-ghost use Rattle.pool_slots.specs.Labels.{AreWhole, AreasStand, HasArea, InAreaTurn, IsAreaWrite, IsTurn, IsWhole, area_place, at_label};
-ghost use Rattle.pool_slots.specs.Slots.{HaveLabels, MakesOn, is_disk};
-ghost use Rattle.pool_slots.specs.Writes.{on_disk};
+ghost use Rattle.pool_slots.specs.Labels.{AreWhole, AreasStand, IsAreaWrite, IsPicked, area_place, copies, of_disk, of_label, turn_of};
+ghost use Rattle.pool_slots.specs.Slots.{AreSettled, HaveLabels, InUse, MakesOn, is_disk};
 
 use crate::calls::write_at;
-use crate::labeled::Area;
+use crate::labeled::{Area, AreaPlan, Pick};
 use crate::refusal::DiskFailure;
+use crate::writes::flush_all;
 use model_disk::{Disk, DiskArray};
 use vdev_label::{LABELS, label_offset};
 
@@ -18,7 +19,7 @@ const AREA_START: u64 = 0x4000;
 
 /// Writes an area to a label of a disk.
 #[tactic(auto, unfolding(crate::specs::Labels::area_place))]
-pub(crate) fn write_area<D: Disk + Drop>(
+fn write_area<D: Disk + Drop>(
     disks: &mut DiskArray<D>,
     which: usize,
     number: u64,
@@ -38,110 +39,149 @@ pub(crate) fn write_area<D: Disk + Drop>(
     write_at(disks, which, at, area)
 }
 
-/// Whether it is a label's turn: in the first turn that of the claim label, else of another.
-fn is_turn(area: &Area, number: u64, first: bool) -> bool
-    ensures { IsTrue result ↔ IsTurn first area.now number }
+/// Whether the label of this number is picked.
+fn is_picked(pick: Pick, number: u64) -> bool
+    ensures { IsTrue result ↔ IsPicked pick number }
 {
-    if first {
-        number == area.first
-    } else {
-        number != area.first
+    match pick {
+        Pick::One(label) => number == label,
+        Pick::Others(label) => number != label,
+        Pick::Half(half) => number == half || number >= 2 && number - 2 == half,
     }
 }
 
-/// Writes an area to a label of a disk, if it is the label's turn.
-fn write_in_turn<D: Disk + Drop>(
+/// Writes an area to a label of a disk, if it is picked.
+fn write_if_picked<D: Disk + Drop>(
     disks: &mut DiskArray<D>,
-    areas: &[Option<Area>],
     which: usize,
     number: u64,
-    area: &Area,
-    first: bool,
+    area: &[u8],
+    pick: Pick,
 ) -> Result<(), DiskFailure>
     requires which { which < length disks.old.starts }
     requires number { number < LABELS }
-    requires has { slice_get areas.now which ≡ Some (Some area.now) }
-    requires whole { IsWhole area.now }
-    requires room { HaveLabels disks.old.starts }
-    ensures makes { MakesOn (is_disk which) (IsAreaWrite disks.old.starts areas.now
-        (at_label which number (InAreaTurn areas.now first))) disks.old disks.new }
-    ensures stand { OnOk result (AreasStand (content disks.new) disks.old.starts areas.now
-        (at_label which number (InAreaTurn areas.now first))) }
+    requires whole { length area.now ≡ 114688 }
+    requires room { 1048576 ≤ length (bytes_of disks.old.starts which) }
+    ensures makes { MakesOn (is_disk which) (IsAreaWrite disks.old.starts
+        (of_label number (copies which area.now pick))) disks.old disks.new }
+    ensures stand { OnOk result (AreasStand (content disks.new) disks.old.starts
+        (of_label number (copies which area.now pick))) }
     ensures fault { IfErr result (IsFailure disks.old disks.new) }
 {
-    if is_turn(area, number, first) {
-        write_area(disks, which, number, &area.bytes)
+    if is_picked(pick, number) {
+        write_area(disks, which, number, area)
     } else {
         Ok(())
     }
 }
 
-/// Writes an area to the labels of a disk whose turn it is.
-fn write_labels_of<D: Disk + Drop>(
+/// Writes an area to the labels of a disk that are picked.
+fn write_picked<D: Disk + Drop>(
     disks: &mut DiskArray<D>,
-    areas: &[Option<Area>],
     which: usize,
-    area: &Area,
-    first: bool,
+    area: &[u8],
+    pick: Pick,
 ) -> Result<(), DiskFailure>
     requires which { which < length disks.old.starts }
-    requires count { length areas.now ≡ length disks.old.starts }
-    requires all_whole { AreWhole areas.now }
-    requires has { slice_get areas.now which ≡ Some (Some area.now) }
-    requires room { HaveLabels disks.old.starts }
-    ensures makes { MakesOn (is_disk which) (IsAreaWrite disks.old.starts areas.now
-        (on_disk which (InAreaTurn areas.now first))) disks.old disks.new }
-    ensures stand { OnOk result (AreasStand (content disks.new) disks.old.starts areas.now
-        (on_disk which (InAreaTurn areas.now first))) }
+    requires whole { length area.now ≡ 114688 }
+    requires room { 1048576 ≤ length (bytes_of disks.old.starts which) }
+    ensures makes { MakesOn (is_disk which)
+        (IsAreaWrite disks.old.starts (copies which area.now pick)) disks.old disks.new }
+    ensures stand { OnOk result
+        (AreasStand (content disks.new) disks.old.starts (copies which area.now pick)) }
     ensures fault { IfErr result (IsFailure disks.old disks.new) }
 {
     for number in 0..LABELS {
-        write_in_turn(disks, areas, which, number, area, first)?;
+        write_if_picked(disks, which, number, area, pick)?;
     }
     Ok(())
 }
 
-/// The same of a disk that has an area; nothing on another.
-fn write_labels_on<D: Disk + Drop>(
-    disks: &mut DiskArray<D>,
-    areas: &[Option<Area>],
-    which: usize,
-    first: bool,
-) -> Result<(), DiskFailure>
-    requires which { which < length disks.old.starts }
-    requires count { length areas.now ≡ length disks.old.starts }
-    requires whole { AreWhole areas.now }
-    requires room { HaveLabels disks.old.starts }
-    ensures makes { MakesOn (HasArea areas.now) (IsAreaWrite disks.old.starts areas.now
-        (on_disk which (InAreaTurn areas.now first))) disks.old disks.new }
-    ensures stand { OnOk result (AreasStand (content disks.new) disks.old.starts areas.now
-        (on_disk which (InAreaTurn areas.now first))) }
-    ensures fault { IfErr result (IsFailure disks.old disks.new) }
+/// Which labels of a disk are written: in the first turn the claim label, then the other three.
+fn pick_for(area: &Area, first: bool) -> Pick
+    ensures { result ≡ turn_of first area.now }
 {
-    match &areas[which] {
-        Some(area) => write_labels_of(disks, areas, which, area, first),
-        None => Ok(()),
+    if first {
+        Pick::One(area.first)
+    } else {
+        Pick::Others(area.first)
     }
 }
 
-/// Writes the labels whose turn it is, on each disk that has an area: where it is the first turn each
-/// disk's claim label, else the other three.
-pub(crate) fn write_labels<D: Disk + Drop>(
+/// Writes the labels of a disk for which an area is planned, if the disk is in use.
+fn write_on<D: Disk + Drop>(
     disks: &mut DiskArray<D>,
-    areas: &[Option<Area>],
-    first: bool,
+    out: &[bool],
+    plan: AreaPlan<'_>,
+    which: usize,
 ) -> Result<(), DiskFailure>
-    requires count { length areas.now ≡ length disks.old.starts }
-    requires whole { AreWhole areas.now }
-    requires room { HaveLabels disks.old.starts }
-    ensures makes { MakesOn (HasArea areas.now) (IsAreaWrite disks.old.starts areas.now
-        (InAreaTurn areas.now first)) disks.old disks.new }
-    ensures stand { OnOk result (AreasStand (content disks.new) disks.old.starts areas.now
-        (InAreaTurn areas.now first)) }
+    requires which { which < length disks.old.starts }
+    requires out { length out.now ≡ length disks.old.starts }
+    requires planned { IsPlanFor out.now disks.old.starts plan }
+    requires whole { AreWhole (picks_of out.now plan) }
+    requires labels { HaveLabels disks.old.starts }
+    ensures makes { MakesOn (InUse out.now) (IsAreaWrite disks.old.starts
+        (of_disk which (picks_of out.now plan.entry))) disks.old disks.new }
+    ensures stand { OnOk result (AreasStand (content disks.new) disks.old.starts
+        (of_disk which (picks_of out.now plan.entry))) }
+    ensures fault { IfErr result (IsFailure disks.old disks.new) }
+{
+    if out[which] {
+        return Ok(());
+    }
+    match plan {
+        AreaPlan::Claim(areas, first) => match &areas[which] {
+            Some(area) => write_picked(disks, which, &area.bytes, pick_for(area, first)),
+            None => Ok(()),
+        },
+        AreaPlan::Config(areas, half) => write_picked(
+            disks,
+            which,
+            &areas[which],
+            Pick::Half(half),
+        ),
+    }
+}
+
+/// Writes the areas that are planned, on the disks in use.
+fn write_areas<D: Disk + Drop>(
+    disks: &mut DiskArray<D>,
+    out: &[bool],
+    plan: AreaPlan<'_>,
+) -> Result<(), DiskFailure>
+    requires out { length out.now ≡ length disks.old.starts }
+    requires planned { IsPlanFor out.now disks.old.starts plan }
+    requires whole { AreWhole (picks_of out.now plan) }
+    requires labels { HaveLabels disks.old.starts }
+    ensures makes { MakesOn (InUse out.now)
+        (IsAreaWrite disks.old.starts (picks_of out.now plan.entry)) disks.old disks.new }
+    ensures stand { OnOk result
+        (AreasStand (content disks.new) disks.old.starts (picks_of out.now plan.entry)) }
     ensures fault { IfErr result (IsFailure disks.old disks.new) }
 {
     for which in 0..disks.len() {
-        write_labels_on(disks, areas, which, first)?;
+        write_on(disks, out, plan, which)?;
     }
     Ok(())
+}
+
+/// Writes the areas that are planned, and flushes all disks in use.
+pub(crate) fn settle_areas<D: Disk + Drop>(
+    disks: &mut DiskArray<D>,
+    out: &[bool],
+    plan: AreaPlan<'_>,
+) -> Result<(), DiskFailure>
+    requires out { length out.now ≡ length disks.old.starts }
+    requires planned { IsPlanFor out.now disks.old.starts plan }
+    requires whole { AreWhole (picks_of out.now plan) }
+    requires labels { HaveLabels disks.old.starts }
+    ensures makes { MakesOn (InUse out.now)
+        (IsAreaWrite disks.old.starts (picks_of out.now plan.entry)) disks.old disks.new }
+    ensures stand { OnOk result
+        (AreasStand (content disks.new) disks.old.starts (picks_of out.now plan.entry)) }
+    ensures settled { OnOk result (AreSettled out.now disks.new.calls) }
+    ensures fault { IfErr result (IsFailure disks.old disks.new) }
+{
+    write_areas(disks, out, plan)?;
+    flush_all(disks, out)
 }

@@ -6,7 +6,6 @@ mod blocks;
 mod calls;
 mod claiming;
 mod committing;
-mod config_writes;
 mod configuring;
 mod found;
 mod going_back;

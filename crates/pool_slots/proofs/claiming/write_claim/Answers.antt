@@ -5,7 +5,7 @@ use Rattle.pool_slots.proofs.Failing.{failure_later, fails_later}
 use Rattle.pool_slots.specs.Labels.{AreClaimed, AreasStand, InAreaTurn, IsAreaWrite, IsClaimWrite}
 use Rattle.pool_slots.specs.Configs.{LeavesConfigured}
 use Rattle.pool_slots.specs.Opens.{ClaimGives, ClaimsAt}
-use Rattle.pool_slots.specs.Relabels.{AreFirst, all_labels, of_areas}
+use Rattle.pool_slots.specs.Relabels.{AreFirst, InAllLabels, of_areas}
 use Rattle.pool_slots.specs.Slots.{AreSettled, HaveLabels, InUse}
 use Rattle.pool_slots.specs.Writes.{IsSlotWrite, in_use}
 use Rattle.pool_slots.specs.Commits.{AreOffLabels}
@@ -18,21 +18,21 @@ use Rattle.pool_slots.proofs.Results.{on_ok_is, on_ok_use, if_err_is}
 use Rattle.pool_slots.proofs.Used.{are_there}
 use Rattle.pool_slots.proofs.claiming.write_claim.Goals as goal
 
-pub settle_labels-requires-clause-whole : goal.settle_labels-requires-clause-whole
-settle_labels-requires-clause-whole g c = are_whole c.args.uberblock.now c.args.areas.now c.requires.areas
+pub settle_areas-requires-clause-whole : goal.settle_areas-requires-clause-whole
+settle_areas-requires-clause-whole g c = are_whole c.args.uberblock.now c.args.areas.now c.requires.areas _
 
-pub settle_labels-requires-2-clause-whole : goal.settle_labels-requires-2-clause-whole
-settle_labels-requires-2-clause-whole g c = are_whole c.args.uberblock.now c.args.areas.now c.requires.areas
+pub settle_areas-requires-2-clause-whole : goal.settle_areas-requires-2-clause-whole
+settle_areas-requires-2-clause-whole g c = are_whole c.args.uberblock.now c.args.areas.now c.requires.areas _
 
-pub returns-in_err-settle_labels-clause-makes : goal.returns-in_err-settle_labels-clause-makes
-returns-in_err-settle_labels-clause-makes g c =
+pub returns-in_err-settle_areas-clause-makes : goal.returns-in_err-settle_areas-clause-makes
+returns-in_err-settle_areas-clause-makes g c =
     let out = c.args.out.now in
     let old = c.args.disks.now in
     let all = c.args.all.now in
     let areas = c.args.areas.now in
     let u = c.args.uberblock.now in
-    let mid = c.settle_labels.new.disks in
-    areas_made old mid old.starts out u areas (InAreaTurn areas true) c.requires.on c.requires.areas refl c.settle_labels.ensures.makes
+    let mid = c.settle_areas.new.disks in
+    areas_made old mid old.starts out u areas true c.requires.on c.requires.areas refl c.settle_areas.ensures.makes
 
 pub returns-in_err-claim_slots-clause-makes : goal.returns-in_err-claim_slots-clause-makes
 returns-in_err-claim_slots-clause-makes g c =
@@ -41,11 +41,11 @@ returns-in_err-claim_slots-clause-makes g c =
     let all = c.args.all.now in
     let areas = c.args.areas.now in
     let u = c.args.uberblock.now in
-    let mid = c.settle_labels.new.disks in
+    let mid = c.settle_areas.new.disks in
     let wrote = c.claim_slots.new.disks in
     MakesOn-more (InUse out) (IsClaimWrite old.starts out u) old mid wrote
-    (areas_made old mid old.starts out u areas (InAreaTurn areas true) c.requires.on c.requires.areas refl c.settle_labels.ensures.makes)
-    (slots_made mid wrote old.starts out u c.settle_labels.ensures.makes.makes.starts c.claim_slots.ensures.makes)
+    (areas_made old mid old.starts out u areas true c.requires.on c.requires.areas refl c.settle_areas.ensures.makes)
+    (slots_made mid wrote old.starts out u c.settle_areas.ensures.makes.makes.starts c.claim_slots.ensures.makes)
 
 pub returns-clause-makes : goal.returns-clause-makes
 returns-clause-makes g c =
@@ -54,19 +54,19 @@ returns-clause-makes g c =
     let all = c.args.all.now in
     let areas = c.args.areas.now in
     let u = c.args.uberblock.now in
-    let mid = c.settle_labels.new.disks in
+    let mid = c.settle_areas.new.disks in
     let wrote = c.claim_slots.new.disks in
-    let new = c.settle_labels-2.new.disks in
+    let new = c.settle_areas-2.new.disks in
     let before = MakesOn-more (InUse out) (IsClaimWrite old.starts out u) old mid wrote
-    (areas_made old mid old.starts out u areas (InAreaTurn areas true) c.requires.on c.requires.areas refl c.settle_labels.ensures.makes)
-    (slots_made mid wrote old.starts out u c.settle_labels.ensures.makes.makes.starts c.claim_slots.ensures.makes) in
+    (areas_made old mid old.starts out u areas true c.requires.on c.requires.areas refl c.settle_areas.ensures.makes)
+    (slots_made mid wrote old.starts out u c.settle_areas.ensures.makes.makes.starts c.claim_slots.ensures.makes) in
     MakesOn-more (InUse out) (IsClaimWrite old.starts out u) old wrote new before
-    (areas_made wrote new old.starts out u areas (InAreaTurn areas false) c.requires.on c.requires.areas before.makes.starts c.settle_labels-2.ensures.makes)
+    (areas_made wrote new old.starts out u areas false c.requires.on c.requires.areas before.makes.starts c.settle_areas-2.ensures.makes)
 
-pub returns-in_err-settle_labels-clause-alone : goal.returns-in_err-settle_labels-clause-alone
-returns-in_err-settle_labels-clause-alone g c =
+pub returns-in_err-settle_areas-clause-alone : goal.returns-in_err-settle_areas-clause-alone
+returns-in_err-settle_areas-clause-alone g c =
     let old = c.args.disks.now in
-    areas_alone old c.settle_labels.new.disks old.starts c.args.out.now c.args.uberblock.now c.args.areas.now (InAreaTurn c.args.areas.now true) refl c.settle_labels.ensures.makes
+    areas_alone old c.settle_areas.new.disks old.starts c.args.out.now c.args.uberblock.now c.args.areas.now true refl c.settle_areas.ensures.makes
 
 pub returns-in_err-claim_slots-clause-alone : goal.returns-in_err-claim_slots-clause-alone
 returns-in_err-claim_slots-clause-alone g c =
@@ -74,11 +74,11 @@ returns-in_err-claim_slots-clause-alone g c =
     let old = c.args.disks.now in
     let areas = c.args.areas.now in
     let u = c.args.uberblock.now in
-    let mid = c.settle_labels.new.disks in
+    let mid = c.settle_areas.new.disks in
     let wrote = c.claim_slots.new.disks in
     Makes-more (of_areas old.starts out u areas) old mid wrote
-    (areas_alone old mid old.starts out u areas (InAreaTurn areas true) refl c.settle_labels.ensures.makes)
-    (slots_alone mid wrote old.starts out u areas c.settle_labels.ensures.makes.makes.starts c.claim_slots.ensures.makes)
+    (areas_alone old mid old.starts out u areas true refl c.settle_areas.ensures.makes)
+    (slots_alone mid wrote old.starts out u areas c.settle_areas.ensures.makes.makes.starts c.claim_slots.ensures.makes)
 
 pub returns-clause-alone : goal.returns-clause-alone
 returns-clause-alone g c =
@@ -86,24 +86,24 @@ returns-clause-alone g c =
     let old = c.args.disks.now in
     let areas = c.args.areas.now in
     let u = c.args.uberblock.now in
-    let mid = c.settle_labels.new.disks in
+    let mid = c.settle_areas.new.disks in
     let wrote = c.claim_slots.new.disks in
     let before = Makes-more (of_areas old.starts out u areas) old mid wrote
-    (areas_alone old mid old.starts out u areas (InAreaTurn areas true) refl c.settle_labels.ensures.makes)
-    (slots_alone mid wrote old.starts out u areas c.settle_labels.ensures.makes.makes.starts c.claim_slots.ensures.makes) in
-    Makes-more (of_areas old.starts out u areas) old wrote c.settle_labels-2.new.disks before
-    (areas_alone wrote c.settle_labels-2.new.disks old.starts out u areas (InAreaTurn areas false) before.starts c.settle_labels-2.ensures.makes)
+    (areas_alone old mid old.starts out u areas true refl c.settle_areas.ensures.makes)
+    (slots_alone mid wrote old.starts out u areas c.settle_areas.ensures.makes.makes.starts c.claim_slots.ensures.makes) in
+    Makes-more (of_areas old.starts out u areas) old wrote c.settle_areas-2.new.disks before
+    (areas_alone wrote c.settle_areas-2.new.disks old.starts out u areas false before.starts c.settle_areas-2.ensures.makes)
 
-pub returns-in_err-settle_labels-clause-any_moment : goal.returns-in_err-settle_labels-clause-any_moment
-returns-in_err-settle_labels-clause-any_moment g c = λ trees p may.
+pub returns-in_err-settle_areas-clause-any_moment : goal.returns-in_err-settle_areas-clause-any_moment
+returns-in_err-settle_areas-clause-any_moment g c = λ trees p may.
     let out = c.args.out.now in
     let old = c.args.disks.now in
     let all = c.args.all.now in
     let areas = c.args.areas.now in
     let u = c.args.uberblock.now in
-    let mid = c.settle_labels.new.disks in
+    let mid = c.settle_areas.new.disks in
     let there = are_there out old.starts c.requires.out in
-    first_claims trees out old mid p u all areas there c.requires.labels (are_whole u areas c.requires.areas) c.requires.on may c.settle_labels.ensures.makes.makes
+    first_claims trees out old mid p u all areas there c.requires.labels (are_whole u areas c.requires.areas true) c.requires.on may c.settle_areas.ensures.makes.makes
 
 pub returns-in_err-claim_slots-clause-any_moment : goal.returns-in_err-claim_slots-clause-any_moment
 returns-in_err-claim_slots-clause-any_moment g c = λ trees p may.
@@ -112,14 +112,14 @@ returns-in_err-claim_slots-clause-any_moment g c = λ trees p may.
     let all = c.args.all.now in
     let areas = c.args.areas.now in
     let u = c.args.uberblock.now in
-    let mid = c.settle_labels.new.disks in
+    let mid = c.settle_areas.new.disks in
     let wrote = c.claim_slots.new.disks in
     let whole = are_whole u areas c.requires.areas in
     let there = are_there out old.starts c.requires.out in
-    let first : FirstStands out old mid u areas = record { starts = c.settle_labels.ensures.makes.makes.starts; stand = c.in_ok-settle_labels.ensures.stand; settled = c.in_ok-settle_labels.ensures.settled } in
-    let may' = may_later trees out old mid areas (InAreaTurn areas true) p u all there c.requires.labels whole c.settle_labels.ensures.makes.makes first.settled may in
+    let first : FirstStands out old mid u areas = record { starts = c.settle_areas.ensures.makes.makes.starts; stand = c.in_ok-settle_areas.ensures.stand; settled = c.in_ok-settle_areas.ensures.settled } in
+    let may' = may_later trees out old mid (InAreaTurn areas true) p u all there c.requires.labels (whole true) c.settle_areas.ensures.makes.makes first.settled may in
     each_joined (ClaimsAt trees out old p u areas) (IsSlotWrite mid.starts u (in_use out)) old mid wrote c.claim_slots.ensures.makes.makes
-    (first_claims trees out old mid p u all areas there c.requires.labels whole c.requires.on may c.settle_labels.ensures.makes.makes)
+    (first_claims trees out old mid p u all areas there c.requires.labels (whole true) c.requires.on may c.settle_areas.ensures.makes.makes)
     (slots_claim trees out old mid wrote p u areas there c.requires.labels c.requires.fits c.requires.on c.requires.areas first c.claim_slots.ensures.makes.makes (c.claim_slots.ensures.any_moment trees p may'))
 
 pub returns-clause-any_moment : goal.returns-clause-any_moment
@@ -129,31 +129,31 @@ returns-clause-any_moment g c = λ trees p may.
     let all = c.args.all.now in
     let areas = c.args.areas.now in
     let u = c.args.uberblock.now in
-    let mid = c.settle_labels.new.disks in
+    let mid = c.settle_areas.new.disks in
     let wrote = c.claim_slots.new.disks in
-    let new = c.settle_labels-2.new.disks in
+    let new = c.settle_areas-2.new.disks in
     let whole = are_whole u areas c.requires.areas in
     let there = are_there out old.starts c.requires.out in
-    let first : FirstStands out old mid u areas = record { starts = c.settle_labels.ensures.makes.makes.starts; stand = c.in_ok-settle_labels.ensures.stand; settled = c.in_ok-settle_labels.ensures.settled } in
+    let first : FirstStands out old mid u areas = record { starts = c.settle_areas.ensures.makes.makes.starts; stand = c.in_ok-settle_areas.ensures.stand; settled = c.in_ok-settle_areas.ensures.settled } in
     let second = first_stays out old mid wrote u areas c.requires.labels (omega (arith, c.requires.count)) c.requires.fits first c.claim_slots.ensures.makes.makes c.in_ok-claim_slots.ensures.settled in
-    let may' = may_later trees out old mid areas (InAreaTurn areas true) p u all there c.requires.labels whole c.settle_labels.ensures.makes.makes first.settled may in
-    each_joined (ClaimsAt trees out old p u areas) (IsAreaWrite wrote.starts areas (InAreaTurn areas false)) old wrote new c.settle_labels-2.ensures.makes.makes
+    let may' = may_later trees out old mid (InAreaTurn areas true) p u all there c.requires.labels (whole true) c.settle_areas.ensures.makes.makes first.settled may in
+    each_joined (ClaimsAt trees out old p u areas) (IsAreaWrite wrote.starts (InAreaTurn areas false)) old wrote new c.settle_areas-2.ensures.makes.makes
     (each_joined (ClaimsAt trees out old p u areas) (IsSlotWrite mid.starts u (in_use out)) old mid wrote c.claim_slots.ensures.makes.makes
-    (first_claims trees out old mid p u all areas there c.requires.labels whole c.requires.on may c.settle_labels.ensures.makes.makes)
+    (first_claims trees out old mid p u all areas there c.requires.labels (whole true) c.requires.on may c.settle_areas.ensures.makes.makes)
     (slots_claim trees out old mid wrote p u areas there c.requires.labels c.requires.fits c.requires.on c.requires.areas first c.claim_slots.ensures.makes.makes (c.claim_slots.ensures.any_moment trees p may')))
-    (others_claim trees out old wrote new p u areas there c.requires.labels whole may.off_labels c.requires.on c.requires.areas second (c.in_ok-claim_slots.ensures.claimed trees p may').1
-    c.settle_labels-2.ensures.makes.makes)
+    (others_claim trees out old wrote new p u areas there c.requires.labels (whole false) may.off_labels c.requires.on c.requires.areas second (c.in_ok-claim_slots.ensures.claimed trees p may').1
+    c.settle_areas-2.ensures.makes.makes)
 
-pub returns-in_err-settle_labels-clause-configured : goal.returns-in_err-settle_labels-clause-configured
-returns-in_err-settle_labels-clause-configured g c = λ digest may.
+pub returns-in_err-settle_areas-clause-configured : goal.returns-in_err-settle_areas-clause-configured
+returns-in_err-settle_areas-clause-configured g c = λ digest may.
     let out = c.args.out.now in
     let old = c.args.disks.now in
     let areas = c.args.areas.now in
     let u = c.args.uberblock.now in
-    let mid = c.settle_labels.new.disks in
+    let mid = c.settle_areas.new.disks in
     let whole = are_whole u areas c.requires.areas in
     let there = are_there out old.starts c.requires.out in
-    first_configured out old mid areas digest there c.requires.labels whole c.requires.on may c.settle_labels.ensures.makes.makes
+    first_configured out old mid areas digest there c.requires.labels (whole true) c.requires.on may c.settle_areas.ensures.makes.makes
 
 pub returns-in_err-claim_slots-clause-configured : goal.returns-in_err-claim_slots-clause-configured
 returns-in_err-claim_slots-clause-configured g c = λ digest may.
@@ -161,13 +161,13 @@ returns-in_err-claim_slots-clause-configured g c = λ digest may.
     let old = c.args.disks.now in
     let areas = c.args.areas.now in
     let u = c.args.uberblock.now in
-    let mid = c.settle_labels.new.disks in
+    let mid = c.settle_areas.new.disks in
     let whole = are_whole u areas c.requires.areas in
     let there = are_there out old.starts c.requires.out in
     let wrote = c.claim_slots.new.disks in
-    let first : FirstStands out old mid u areas = record { starts = c.settle_labels.ensures.makes.makes.starts; stand = c.in_ok-settle_labels.ensures.stand; settled = c.in_ok-settle_labels.ensures.settled } in
+    let first : FirstStands out old mid u areas = record { starts = c.settle_areas.ensures.makes.makes.starts; stand = c.in_ok-settle_areas.ensures.stand; settled = c.in_ok-settle_areas.ensures.settled } in
     each_joined (LeavesConfigured out old.starts digest) (IsSlotWrite mid.starts u (in_use out)) old mid wrote c.claim_slots.ensures.makes.makes
-    (first_configured out old mid areas digest there c.requires.labels whole c.requires.on may c.settle_labels.ensures.makes.makes)
+    (first_configured out old mid areas digest there c.requires.labels (whole true) c.requires.on may c.settle_areas.ensures.makes.makes)
     (slots_configured out old mid wrote u areas digest there c.requires.labels c.requires.fits c.requires.on c.requires.areas may first c.claim_slots.ensures.makes.makes)
 
 pub returns-clause-configured : goal.returns-clause-configured
@@ -176,18 +176,18 @@ returns-clause-configured g c = λ digest may.
     let old = c.args.disks.now in
     let areas = c.args.areas.now in
     let u = c.args.uberblock.now in
-    let mid = c.settle_labels.new.disks in
+    let mid = c.settle_areas.new.disks in
     let whole = are_whole u areas c.requires.areas in
     let there = are_there out old.starts c.requires.out in
     let wrote = c.claim_slots.new.disks in
-    let first : FirstStands out old mid u areas = record { starts = c.settle_labels.ensures.makes.makes.starts; stand = c.in_ok-settle_labels.ensures.stand; settled = c.in_ok-settle_labels.ensures.settled } in
-    let new = c.settle_labels-2.new.disks in
+    let first : FirstStands out old mid u areas = record { starts = c.settle_areas.ensures.makes.makes.starts; stand = c.in_ok-settle_areas.ensures.stand; settled = c.in_ok-settle_areas.ensures.settled } in
+    let new = c.settle_areas-2.new.disks in
     let second = first_stays out old mid wrote u areas c.requires.labels (omega (arith, c.requires.count)) c.requires.fits first c.claim_slots.ensures.makes.makes c.in_ok-claim_slots.ensures.settled in
-    each_joined (LeavesConfigured out old.starts digest) (IsAreaWrite wrote.starts areas (InAreaTurn areas false)) old wrote new c.settle_labels-2.ensures.makes.makes
+    each_joined (LeavesConfigured out old.starts digest) (IsAreaWrite wrote.starts (InAreaTurn areas false)) old wrote new c.settle_areas-2.ensures.makes.makes
     (each_joined (LeavesConfigured out old.starts digest) (IsSlotWrite mid.starts u (in_use out)) old mid wrote c.claim_slots.ensures.makes.makes
-    (first_configured out old mid areas digest there c.requires.labels whole c.requires.on may c.settle_labels.ensures.makes.makes)
+    (first_configured out old mid areas digest there c.requires.labels (whole true) c.requires.on may c.settle_areas.ensures.makes.makes)
     (slots_configured out old mid wrote u areas digest there c.requires.labels c.requires.fits c.requires.on c.requires.areas may first c.claim_slots.ensures.makes.makes))
-    (others_configured out old wrote new u areas digest there c.requires.labels whole c.requires.on c.requires.areas may second c.settle_labels-2.ensures.makes.makes)
+    (others_configured out old wrote new u areas digest there c.requires.labels (whole false) c.requires.on c.requires.areas may second c.settle_areas-2.ensures.makes.makes)
 
 pub returns-clause-claimed : goal.returns-clause-claimed
 returns-clause-claimed g c =
@@ -196,21 +196,21 @@ returns-clause-claimed g c =
     let all = c.args.all.now in
     let areas = c.args.areas.now in
     let u = c.args.uberblock.now in
-    let mid = c.settle_labels.new.disks in
+    let mid = c.settle_areas.new.disks in
     let wrote = c.claim_slots.new.disks in
-    let new = c.settle_labels-2.new.disks in
+    let new = c.settle_areas-2.new.disks in
     let whole = are_whole u areas c.requires.areas in
     let there = are_there out old.starts c.requires.out in
-    let first : FirstStands out old mid u areas = record { starts = c.settle_labels.ensures.makes.makes.starts; stand = c.in_ok-settle_labels.ensures.stand; settled = c.in_ok-settle_labels.ensures.settled } in
+    let first : FirstStands out old mid u areas = record { starts = c.settle_areas.ensures.makes.makes.starts; stand = c.in_ok-settle_areas.ensures.stand; settled = c.in_ok-settle_areas.ensures.settled } in
     let second = first_stays out old mid wrote u areas c.requires.labels (omega (arith, c.requires.count)) c.requires.fits first c.claim_slots.ensures.makes.makes c.in_ok-claim_slots.ensures.settled in
-    on_ok_use c.settle_labels-2.result (AreSettled out new.calls) (ClaimGives out old u all new)
+    on_ok_use c.settle_areas-2.result (AreSettled out new.calls) (ClaimGives out old u all new)
     (λ settled trees p may.
-    let may' = may_later trees out old mid areas (InAreaTurn areas true) p u all there c.requires.labels whole c.settle_labels.ensures.makes.makes first.settled may in
+    let may' = may_later trees out old mid (InAreaTurn areas true) p u all there c.requires.labels (whole true) c.settle_areas.ensures.makes.makes first.settled may in
     let R : List (List ℕ) → Type 0 = HaveLabels in
     let O : List (List ℕ) → Type 0 = AreOffLabels trees out in
-    at_later trees out wrote new areas (InAreaTurn areas false) u (subst R (sym second.starts) c.requires.labels) whole (subst O (sym second.starts) may.off_labels) c.settle_labels-2.ensures.makes.makes settled
+    at_later trees out wrote new (InAreaTurn areas false) u (subst R (sym second.starts) c.requires.labels) (whole false) (subst O (sym second.starts) may.off_labels) c.settle_areas-2.ensures.makes.makes settled
     (c.in_ok-claim_slots.ensures.claimed trees p may').0)
-    c.settle_labels-2.ensures.settled
+    c.settle_areas-2.ensures.settled
 
 pub returns-clause-labeled : goal.returns-clause-labeled
 returns-clause-labeled g c =
@@ -219,17 +219,17 @@ returns-clause-labeled g c =
     let all = c.args.all.now in
     let areas = c.args.areas.now in
     let u = c.args.uberblock.now in
-    let mid = c.settle_labels.new.disks in
+    let mid = c.settle_areas.new.disks in
     let wrote = c.claim_slots.new.disks in
-    let new = c.settle_labels-2.new.disks in
+    let new = c.settle_areas-2.new.disks in
     let whole = are_whole u areas c.requires.areas in
     let there = are_there out old.starts c.requires.out in
-    let first : FirstStands out old mid u areas = record { starts = c.settle_labels.ensures.makes.makes.starts; stand = c.in_ok-settle_labels.ensures.stand; settled = c.in_ok-settle_labels.ensures.settled } in
+    let first : FirstStands out old mid u areas = record { starts = c.settle_areas.ensures.makes.makes.starts; stand = c.in_ok-settle_areas.ensures.stand; settled = c.in_ok-settle_areas.ensures.settled } in
     let second = first_stays out old mid wrote u areas c.requires.labels (omega (arith, c.requires.count)) c.requires.fits first c.claim_slots.ensures.makes.makes c.in_ok-claim_slots.ensures.settled in
-    on_ok_use c.settle_labels-2.result (AreasStand (content new) wrote.starts areas (InAreaTurn areas false)) (AreClaimed out new u)
-    (λ stand. all_claimed out old new u areas c.requires.on c.requires.areas (c.settle_labels-2.ensures.makes.makes.starts ∙ second.starts)
-    (all_stand out old wrote new u areas there c.requires.labels whole c.requires.on second c.settle_labels-2.ensures.makes.makes stand))
-    c.settle_labels-2.ensures.stand
+    on_ok_use c.settle_areas-2.result (AreasStand (content new) wrote.starts (InAreaTurn areas false)) (AreClaimed out new u)
+    (λ stand. all_claimed out old new u areas c.requires.on c.requires.areas (c.settle_areas-2.ensures.makes.makes.starts ∙ second.starts)
+    (all_stand out old wrote new u areas there c.requires.labels (whole false) c.requires.on second c.settle_areas-2.ensures.makes.makes stand))
+    c.settle_areas-2.ensures.stand
 
 pub returns-clause-stand : goal.returns-clause-stand
 returns-clause-stand g c =
@@ -238,37 +238,37 @@ returns-clause-stand g c =
     let all = c.args.all.now in
     let areas = c.args.areas.now in
     let u = c.args.uberblock.now in
-    let mid = c.settle_labels.new.disks in
+    let mid = c.settle_areas.new.disks in
     let wrote = c.claim_slots.new.disks in
-    let new = c.settle_labels-2.new.disks in
+    let new = c.settle_areas-2.new.disks in
     let whole = are_whole u areas c.requires.areas in
     let there = are_there out old.starts c.requires.out in
-    let first : FirstStands out old mid u areas = record { starts = c.settle_labels.ensures.makes.makes.starts; stand = c.in_ok-settle_labels.ensures.stand; settled = c.in_ok-settle_labels.ensures.settled } in
+    let first : FirstStands out old mid u areas = record { starts = c.settle_areas.ensures.makes.makes.starts; stand = c.in_ok-settle_areas.ensures.stand; settled = c.in_ok-settle_areas.ensures.settled } in
     let second = first_stays out old mid wrote u areas c.requires.labels (omega (arith, c.requires.count)) c.requires.fits first c.claim_slots.ensures.makes.makes c.in_ok-claim_slots.ensures.settled in
-    on_ok_use c.settle_labels-2.result (AreasStand (content new) wrote.starts areas (InAreaTurn areas false)) (AreasStand (content new) old.starts areas all_labels)
-    (λ stand. all_stand out old wrote new u areas there c.requires.labels whole c.requires.on second c.settle_labels-2.ensures.makes.makes stand)
-    c.settle_labels-2.ensures.stand
+    on_ok_use c.settle_areas-2.result (AreasStand (content new) wrote.starts (InAreaTurn areas false)) (AreasStand (content new) old.starts (InAllLabels areas))
+    (λ stand. all_stand out old wrote new u areas there c.requires.labels (whole false) c.requires.on second c.settle_areas-2.ensures.makes.makes stand)
+    c.settle_areas-2.ensures.stand
 
 pub returns-clause-first : goal.returns-clause-first
 returns-clause-first g c =
     let out = c.args.out.now in
     let old = c.args.disks.now in
     let areas = c.args.areas.now in
-    let mid = c.settle_labels.new.disks in
+    let mid = c.settle_areas.new.disks in
     let wrote = c.claim_slots.new.disks in
-    let new = c.settle_labels-2.new.disks in
+    let new = c.settle_areas-2.new.disks in
     let slots = c.claim_slots.ensures.makes.makes in
-    let others = c.settle_labels-2.ensures.makes.makes in
-    on_ok_is c.settle_labels-2.result (AreFirst out old areas new) (record {
+    let others = c.settle_areas-2.ensures.makes.makes in
+    on_ok_is c.settle_areas-2.result (AreFirst out old areas new) (record {
       now = mid;
       moment = record {
         newer = others.newer ++ slots.newer;
         is = others.calls ∙ ap (λ (them : List JointCall). others.newer ++ them) slots.calls ∙ sym (append_assoc others.newer slots.newer mid.calls);
-        since = inr (longer old mid (IsAreaWrite old.starts areas (InAreaTurn areas true)) c.settle_labels.ensures.makes.makes);
+        since = inr (longer old mid (IsAreaWrite old.starts (InAreaTurn areas true)) c.settle_areas.ensures.makes.makes);
       };
-      alone = c.settle_labels.ensures.makes.makes;
-      settled = c.in_ok-settle_labels.ensures.settled;
-      stand = c.in_ok-settle_labels.ensures.stand;
+      alone = c.settle_areas.ensures.makes.makes;
+      settled = c.in_ok-settle_areas.ensures.settled;
+      stand = c.in_ok-settle_areas.ensures.stand;
     })
 
 pub returns-in_err-claim_slots-clause-fault : goal.returns-in_err-claim_slots-clause-fault
@@ -278,10 +278,10 @@ returns-in_err-claim_slots-clause-fault g c =
     let all = c.args.all.now in
     let areas = c.args.areas.now in
     let u = c.args.uberblock.now in
-    let mid = c.settle_labels.new.disks in
+    let mid = c.settle_areas.new.disks in
     let wrote = c.claim_slots.new.disks in
     if_err_is c.from_residual-in_err-claim_slots.result c.in_err-claim_slots.field-0.0 (IsFailure old wrote) c.from_residual-in_err-claim_slots.ensures.1
-    (fails_later (IsAreaWrite old.starts areas (InAreaTurn areas true)) old mid wrote c.settle_labels.ensures.makes.makes c.in_err-claim_slots.field-0.0.disk c.in_err-claim_slots.ensures.fault)
+    (fails_later (IsAreaWrite old.starts (InAreaTurn areas true)) old mid wrote c.settle_areas.ensures.makes.makes c.in_err-claim_slots.field-0.0.disk c.in_err-claim_slots.ensures.fault)
 
 pub returns-clause-fault : goal.returns-clause-fault
 returns-clause-fault g c =
@@ -290,10 +290,10 @@ returns-clause-fault g c =
     let all = c.args.all.now in
     let areas = c.args.areas.now in
     let u = c.args.uberblock.now in
-    let mid = c.settle_labels.new.disks in
+    let mid = c.settle_areas.new.disks in
     let wrote = c.claim_slots.new.disks in
-    let new = c.settle_labels-2.new.disks in
+    let new = c.settle_areas-2.new.disks in
     let before = MakesOn-more (InUse out) (IsClaimWrite old.starts out u) old mid wrote
-    (areas_made old mid old.starts out u areas (InAreaTurn areas true) c.requires.on c.requires.areas refl c.settle_labels.ensures.makes)
-    (slots_made mid wrote old.starts out u c.settle_labels.ensures.makes.makes.starts c.claim_slots.ensures.makes) in
-    failure_later c.settle_labels-2.result (IsClaimWrite old.starts out u) old wrote new before.makes c.settle_labels-2.ensures.fault
+    (areas_made old mid old.starts out u areas true c.requires.on c.requires.areas refl c.settle_areas.ensures.makes)
+    (slots_made mid wrote old.starts out u c.settle_areas.ensures.makes.makes.starts c.claim_slots.ensures.makes) in
+    failure_later c.settle_areas-2.result (IsClaimWrite old.starts out u) old wrote new before.makes c.settle_areas-2.ensures.fault
