@@ -1,2 +1,4 @@
+pub mod Members
+pub mod Naming
 pub mod Places
-pub mod Taking
+pub mod Turns

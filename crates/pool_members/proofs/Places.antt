@@ -4,7 +4,7 @@ use Rattle.std.specs.List.{AllPairs}
 use Rattle.std.specs.Option.{option_to_list}
 use Rattle.std.proofs.Math.Seq.{get_or-append_seam}
 use Rattle.std.proofs.lemmas.List.{append-nil, get_or_append_left, get_or_default, length-append}
-use Rattle.std.proofs.lemmas.List.Elements.{All-push, All-contains, All-nil, Contains-append_right}
+use Rattle.std.proofs.lemmas.List.Elements.{All-push, All-contains, Contains-append_right}
 use Rattle.std.proofs.lemmas.List.Quantifiers.{all_pairs_push}
 use Rattle.pool_members.specs.Arranged.{places, AreEachOnce}
 use Rattle.pool_members.specs.declared.arranging.Child.{Child}
@@ -23,10 +23,7 @@ pub places-present : (front rest : List Child) (child : Child) (place : ℕ) →
 places-present front rest child place is =
     places-append front (child ∷ rest) ∙ ap (λ m. places front ++ (option_to_list m ++ places rest)) is
 
--- no child: each once
-pub each_once-none : (count : ℕ) → AreEachOnce count []
-each_once-none count = record { among = All-nil (λ place. place < count); once = λ i j d front below. absurd (omega (arith, below)) }
-
+-- one more child: each once
 pub each_once-absent : (count : ℕ) (front : List Child) (child : Child) → child.disk ≡ None → AreEachOnce count front
     → AreEachOnce count (front ++ child ∷ [])
 each_once-absent count front child is each =

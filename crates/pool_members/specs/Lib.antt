@@ -1,2 +1,2 @@
 pub mod Arranged
-pub mod Left
+pub mod Namers

@@ -1,8 +1,8 @@
 //! The order of a pool's children.
-ghost use Rattle.std.specs.Prelude.{◌≡◌, Err, None, Some, IfOk, MatchOption, OnOk, length, map, slice_get, slice_set, unwrap_or};
+ghost use Rattle.std.specs.Prelude.{◌≡◌, [], Err, None, IfOk, IfErr, OnOk, length, map, replicate, is_none};
 ghost use Rattle.model_disk.specs.Member.{start_of, calls_of, disk_of};
 ghost use Rattle.pool_members.specs.Arranged.{AreArranged, AreEachOnce, disk_for};
-ghost use Rattle.pool_members.specs.Left.{IsMember, LacksDisk, left_after};
+ghost use Rattle.pool_members.specs.Namers.{AreNamers};
 ghost use Rattle.pool_members.specs.declared.refusal.Refusal.TheVariants.{NotEachOnce};
 
 use crate::Refusal;
@@ -10,7 +10,7 @@ use model_disk::{Disk, Member};
 use std::alloc::{AllocError, Global};
 
 /// A child of a pool, as the disks are put in order.
-#[derive(Clone, Copy, Debug, PartialEq, Eq)]
+#[derive(Clone, Copy, PartialEq, Eq)]
 pub struct Child {
     /// The place at which its disk was handed in, if it was.
     pub disk: Option<usize>,
@@ -25,48 +25,102 @@ pub struct Arranged<D: Disk + Drop> {
     pub out: Vec<bool>,
 }
 
-/// The disks, each to be taken once.
-fn to_be_taken<D: Disk + Drop>(alloc: Global, disks: Vec<D>) -> Result<Vec<Option<D>>, AllocError>
-    ensures { IfOk result (λ left. left.items ≡ map Some disks.items) }
+/// What stands for each child's disk while it is absent, for all children.
+fn stand_ins<D: Disk + Drop>(
+    alloc: Global,
+    children: &[Child],
+) -> Result<Vec<Member<D>>, AllocError>
+    ensures disks { IfOk result (λ members. map disk_of members.items
+        ≡ map (λ _. None) children.now) }
+    ensures starts { IfOk result (λ members. map (start_of D.Disk) members.items
+        ≡ map (λ child. replicate child.size 0) children.now) }
+    ensures calls { IfOk result (λ members. map (calls_of D.Disk) members.items
+        ≡ map (λ _. []) children.now) }
 {
-    let mut left = Vec::with_capacity(alloc, disks.len())?;
-    for disk in disks {
-        left.push(Some(disk))?;
+    let mut members = Vec::with_capacity(alloc, children.len())?;
+    for child in children {
+        members.push(Member::absent(child.size))?;
     }
-    Ok(left)
+    Ok(members)
 }
 
-/// Takes the disk at this place, if it is still there.
-fn take<D: Disk + Drop>(left: &mut Vec<Option<D>>, place: usize) -> Option<D>
-    ensures disk { result ≡ unwrap_or (slice_get left.old.items place) None }
-    ensures left { left.new.items ≡ slice_set left.old.items place None }
+/// Which children name no disk.
+fn marks(alloc: Global, children: &[Child]) -> Result<Vec<bool>, AllocError>
+    ensures { IfOk result (λ out. out.items
+        ≡ map (λ child. is_none child.disk) children.now) }
 {
-    if place < left.len() {
-        left[place].take()
-    } else {
-        None
-    }
+    children
+        .iter()
+        .map(|child| child.disk.is_none())
+        .collect(alloc)
 }
 
-/// The child's disk, or what stands for it. None where its disk is not there, or not any more.
-fn member<D: Disk + Drop>(left: &mut Vec<Option<D>>, child: &Child) -> Option<Member<D>>
-    ensures left { left.new.items ≡ left_after left.old.items child.now.disk }
-    ensures member { MatchOption result (LacksDisk left.old.items child.now.disk)
-        (IsMember D.Disk left.old.items child.now) }
+/// Finds of each of so many places the child that names it.
+fn find_namers(
+    alloc: Global,
+    count: usize,
+    children: &[Child],
+) -> Result<Vec<Option<usize>>, Refusal>
+    ensures named { IfOk result (λ namers. AreNamers count children.now namers.items) }
+    ensures once { OnOk result (AreEachOnce count children.now) }
+    ensures refused { result ≡ Err NotEachOnce → ¬ AreEachOnce count children.now }
 {
-    match child.disk {
-        Some(place) => take(left, place).map(Member::present),
-        None => Some(Member::absent(child.size)),
+    let mut namers = vec![in alloc; None; count]?;
+    for (index, child) in children.iter().enumerate() {
+        if let Some(place) = child.disk {
+            if place >= count || namers[place].is_some() {
+                return Err(Refusal::NotEachOnce);
+            }
+            namers[place] = Some(index);
+        }
     }
+    Ok(namers)
+}
+
+/// All that needs memory, as it is made before a disk is moved.
+#[derive(Drop)]
+struct Plan<D: Disk + Drop> {
+    /// What stands for each child's disk while it is absent, for all children.
+    members: Vec<Member<D>>,
+    /// Which children name no disk.
+    out: Vec<bool>,
+    /// Of each place, the child that names it.
+    namers: Vec<Option<usize>>,
+}
+
+/// Makes the plan for so many disks.
+fn prepare<D: Disk + Drop>(
+    alloc: Global,
+    count: usize,
+    children: &[Child],
+) -> Result<Plan<D>, Refusal>
+    ensures disks { IfOk result (λ plan. map disk_of plan.members.items
+        ≡ map (λ _. None) children.now) }
+    ensures starts { IfOk result (λ plan. map (start_of D.Disk) plan.members.items
+        ≡ map (λ child. replicate child.size 0) children.now) }
+    ensures calls { IfOk result (λ plan. map (calls_of D.Disk) plan.members.items
+        ≡ map (λ _. []) children.now) }
+    ensures out { IfOk result (λ plan. plan.out.items
+        ≡ map (λ child. is_none child.disk) children.now) }
+    ensures named { IfOk result (λ plan. AreNamers count children.now plan.namers.items) }
+    ensures once { OnOk result (AreEachOnce count children.now) }
+    ensures refused { result ≡ Err NotEachOnce → ¬ AreEachOnce count children.now }
+{
+    Ok(Plan {
+        members: stand_ins(alloc, children)?,
+        out: marks(alloc, children)?,
+        namers: find_namers(alloc, count, children)?,
+    })
 }
 
 /// Puts disks in the order of a pool's children: the disk that the child names, by the place at which it was handed in,
-/// and what stands for one that is absent. Disks that no child names are dropped, and after an error all are.
+/// and what stands for one that is absent. Disks that no child names are dropped. After an error the disks come back as they
+/// were handed in, in that order.
 pub fn arrange<D: Disk + Drop>(
     alloc: Global,
     disks: Vec<D>,
     children: &[Child],
-) -> Result<Arranged<D>, Refusal>
+) -> Result<Arranged<D>, (Refusal, Vec<D>)>
     ensures disks { IfOk result (λ arranged. map disk_of arranged.disks.items
         ≡ map (disk_for disks.items) children.now) }
     ensures arranged { IfOk result (λ arranged. AreArranged
@@ -74,18 +128,22 @@ pub fn arrange<D: Disk + Drop>(
         (map (start_of D.Disk) arranged.disks.items)
         (map (calls_of D.Disk) arranged.disks.items) arranged.out.items) }
     ensures once { OnOk result (AreEachOnce (length disks.items) children.now) }
-    ensures refused { result ≡ Err NotEachOnce
-        → ¬ AreEachOnce (length disks.items) children.now }
+    ensures refused { IfErr result (λ failed. failed.0 ≡ NotEachOnce
+        → ¬ AreEachOnce (length disks.items) children.now) }
+    ensures back { IfErr result (λ failed. failed.1 ≡ disks) }
 {
-    let mut left = to_be_taken(alloc, disks)?;
-    let mut members = Vec::with_capacity(alloc, children.len())?;
-    let mut out = Vec::with_capacity(alloc, children.len())?;
-    for child in children {
-        let Some(member) = member(&mut left, child) else {
-            return Err(Refusal::NotEachOnce);
-        };
-        members.push(member)?;
-        out.push(child.disk.is_none())?;
+    let Plan {
+        mut members,
+        out,
+        namers,
+    } = match prepare(alloc, disks.len(), children) {
+        Ok(plan) => plan,
+        Err(refusal) => return Err((refusal, disks)),
+    };
+    for (place, disk) in disks.into_iter().enumerate() {
+        if let Some(child) = namers[place] {
+            members[child] = Member::present(disk);
+        }
     }
     Ok(Arranged {
         disks: members,

@@ -23,9 +23,16 @@ fn absent(size: u64) -> Child {
     Child { disk: None, size }
 }
 
-/// The last of them, none, and the first.
+/// The last of these, none, and the first.
+fn arranged_of(alloc: Global, disks: Vec<MemDisk>) -> Result<Arranged<MemDisk>, Refusal> {
+    match arrange(alloc, disks, &[there(2), absent(40), there(0)]) {
+        Ok(arranged) => Ok(arranged),
+        Err((refusal, _)) => Err(refusal),
+    }
+}
+
 fn arranged(alloc: Global) -> Result<Arranged<MemDisk>, Refusal> {
-    arrange(alloc, three(alloc)?, &[there(2), absent(40), there(0)])
+    arranged_of(alloc, three(alloc)?)
 }
 
 /// The size of a disk and its first byte, where it can be read.
@@ -41,14 +48,18 @@ fn show(disks: &mut DiskArray<Member<MemDisk>>, which: usize) -> (u64, Option<u8
     (size, Some(byte[0]))
 }
 
-/// What each of them shows.
-fn shown(alloc: Global) -> Result<[(u64, Option<u8>); 3], Refusal> {
-    let mut disks = DiskArray::new(arranged(alloc)?.disks);
-    Ok([
+/// What each of the first three shows.
+fn show_three(members: Vec<Member<MemDisk>>) -> [(u64, Option<u8>); 3] {
+    let mut disks = DiskArray::new(members);
+    [
         show(&mut disks, 0),
         show(&mut disks, 1),
         show(&mut disks, 2),
-    ])
+    ]
+}
+
+fn shown(alloc: Global) -> Result<[(u64, Option<u8>); 3], Refusal> {
+    Ok(show_three(arranged(alloc)?.disks))
 }
 
 /// Whether a write of nothing and a flush fail.
@@ -67,14 +78,15 @@ fn byte_in(member: Member<MemDisk>) -> Option<u8> {
 fn why(alloc: Global, children: &[Child]) -> Result<Option<Refusal>, AllocError> {
     match arrange(alloc, three(alloc)?, children) {
         Ok(_) => Ok(None),
-        Err(refusal) => Ok(Some(refusal)),
+        Err((refusal, _)) => Ok(Some(refusal)),
     }
 }
 
+const SHOWN: [(u64, Option<u8>); 3] = [(16, Some(9)), (40, None), (16, Some(7))];
+
 #[test]
 fn disks_are_put_in_order(rt: HostRuntime) {
-    let wanted = [(16, Some(9)), (40, None), (16, Some(7))];
-    assert!(rt; shown(rt.alloc()) == Ok(wanted));
+    assert!(rt; shown(rt.alloc()) == Ok(SHOWN));
 }
 
 /// Whether these are marked.
@@ -114,4 +126,54 @@ fn each_disk_is_named_once(rt: HostRuntime) {
     let twice = why(rt.alloc(), &[there(1), absent(8), there(1)]);
     assert!(rt; twice == Ok(Some(Refusal::NotEachOnce)));
     assert!(rt; why(rt.alloc(), &[there(3)]) == Ok(Some(Refusal::NotEachOnce)));
+}
+
+/// Three disks in memory of 8, 16 and 24 bytes.
+fn of_three_sizes(alloc: Global) -> Result<Vec<MemDisk>, AllocError> {
+    let mut disks = Vec::with_capacity(alloc, 3)?;
+    for size in [8, 16, 24] {
+        disks.push(MemDisk::new(alloc, size)?)?;
+    }
+    Ok(disks)
+}
+
+/// Whether the disks have these sizes, in this order.
+fn have_sizes(disks: &[MemDisk], wanted: &[u64]) -> bool {
+    let mut right = disks.len() == wanted.len();
+    for (disk, size) in disks.iter().zip(wanted) {
+        right = right && disk.size() == *size;
+    }
+    right
+}
+
+/// Whether they come back with these sizes, in this order.
+fn come_back(alloc: Global, children: &[Child], wanted: &[u64]) -> Result<bool, AllocError> {
+    match arrange(alloc, of_three_sizes(alloc)?, children) {
+        Ok(_) => Ok(false),
+        Err((_, disks)) => Ok(have_sizes(&disks, wanted)),
+    }
+}
+
+#[test]
+fn disks_come_back_in_order(rt: HostRuntime) {
+    let sizes = [8, 16, 24];
+    let twice = come_back(rt.alloc(), &[there(2), there(0), there(2)], &sizes);
+    assert!(rt; twice == Ok(true));
+    let beyond = come_back(rt.alloc(), &[there(1), there(3), there(0)], &sizes);
+    assert!(rt; beyond == Ok(true));
+}
+
+/// What the children show, where the disks are handed in again that came back as two children named one.
+fn shown_again(alloc: Global) -> Result<Option<[(u64, Option<u8>); 3]>, Refusal> {
+    match arrange(alloc, three(alloc)?, &[there(1), there(1)]) {
+        Err((Refusal::NotEachOnce, disks)) => {
+            Ok(Some(show_three(arranged_of(alloc, disks)?.disks)))
+        }
+        _ => Ok(None),
+    }
+}
+
+#[test]
+fn memory_is_not_the_cause(rt: HostRuntime) {
+    assert!(rt; shown_again(rt.alloc()) == Ok(Some(SHOWN)));
 }

@@ -1,7 +1,7 @@
-use Rattle.std.proofs.Common.{take}
-use Rattle.pool_members.proofs.Taking.{AreSo}
+use Rattle.std.proofs.Common.{length, take}
+use Rattle.pool_members.proofs.Members.{AreMembers}
 use Rattle.pool_members.proofs.arranging.arrange.Given as goal
 
--- the children so far
-abbrev pub invariant-loop-child : goal.invariant-loop-child
-invariant-loop-child g l = AreSo g.D.Disk l.fn.disks.items (take l.child-index l.children) l.left.items l.members.items l.out.items
+-- the disks so far
+abbrev pub invariant-loop-place : goal.invariant-loop-place
+invariant-loop-place g l = AreMembers g.D.Disk (take (length l.yielded) l.fn.disks.items) l.children l.members.items
