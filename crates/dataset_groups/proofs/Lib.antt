@@ -53,3 +53,4 @@ pub mod GoneReach
 pub mod GoneRows
 pub mod GoneTouches
 pub mod OneLess
+pub mod Losses

@@ -13,6 +13,7 @@ mod taking;
 mod writing;
 
 pub use block_store::Refusal;
+pub use dataset_destroys::losses_of_destroys;
 pub use datasets::{FIRST_OBJECT, GroupDatasets, NumberBounds};
 pub use laws::groups_before_are_older;
 pub use volume::BlockWrite;

@@ -22,7 +22,7 @@ use Rattle.dataset_groups.specs.Names.{reach_by}
 use Rattle.dead_list.specs.Datasets.{Pool}
 use Rattle.dnode.specs.declared.object_set.ObjectSetKind.TheVariants as sets
 use Rattle.meta_objset.specs.Reading.{HasConfig, HasDirectory}
-use Rattle.meta_objset.specs.StaleSpans.{spans_kind}
+use Rattle.meta_objset.specs.StaleSpans.{FitsSpan, spans_kind}
 use Rattle.object_table.specs.Tables.{HasTable}
 use Rattle.objset.proofs.Numbers.{changed_left}
 use Rattle.objset.specs.declared.changes.ObjectChange.{ObjectChange}
@@ -150,6 +150,11 @@ module _ (vdevs : List PlainVdev) (datasets : GroupDatasets) (changes : List Obj
         rows = datasets.directory;
         directory = low_has (λ o. HasDirectory o datasets.directory) 1 (omega arith)
             (table_has vdevs datasets changes all (λ o. HasDirectory o datasets.directory) 1 (omega arith) all.2.has_directory);
+        stale = [];
+        spans = (
+          record { each = All-nil FitsSpan; order = λ i j other less within. absurd (omega (arith, within)) },
+          low_has (λ o. HasTable spans_kind o []) 3 (omega arith) (table_has vdevs datasets changes all (λ o. HasTable spans_kind o []) 3 (omega arith) all.2.has_spans),
+        );
         datasets = pool;
         readings = readings;
         chains = subst (λ n. HasChains later n (changed whole nothing) pool readings) (sym born)

@@ -14,7 +14,8 @@ use Rattle.objset.specs.Objects.{Object}
 use Rattle.objset.specs.Within.{blocks_of_set}
 use Rattle.pool_model.specs.declared.item.Action.{Action}
 use Rattle.pool_model.specs.Pools.{Entry, PlainPool, applied}
-use Rattle.dataset_groups.proofs.Exchanges.{after_once, both_given, given_as, gone_are}
+use Rattle.dataset_groups.proofs.Exchanges.{both_given, given_as}
+pub use Rattle.dataset_groups.proofs.Exchanges.{after_once, gone_are}
 use Rattle.dataset_snapshots.proofs.Reaching.{reach_known}
 use Rattle.dataset_snapshots.specs.Groups.{IsSetOf, SpellsAfter}
 use Rattle.dataset_snapshots.specs.Laws.{ReplacedOfGroupsLeave}

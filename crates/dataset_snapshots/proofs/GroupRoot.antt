@@ -6,7 +6,8 @@ use Rattle.block_store.specs.Blocks.{Contents, Extends}
 use Rattle.dataset_chains.specs.Standing.{HasChains}
 use Rattle.dataset_groups.specs.Names.{reach_by}
 use Rattle.dnode.specs.declared.object_set.ObjectSetKind.TheVariants as sets
-use Rattle.meta_objset.specs.Reading.{HasConfig}
+use Rattle.meta_objset.specs.declared.stale_spans.StaleSpan.{StaleSpan}
+use Rattle.meta_objset.specs.Reading.{HasConfig, HasStaleSpans}
 use Rattle.meta_objset.specs.StaleSpans.{spans_kind}
 use Rattle.object_table.specs.Tables.{HasTable}
 use Rattle.objset.specs.declared.changes.ObjectChange.{ObjectChange}
@@ -29,7 +30,8 @@ tables_stay objects now vdevs same tables = record {
 
 -- the set with these objects and its block
 module _ (stored later : Contents) (group : ℕ) (root : Block) (objects : ℕ → Option Object) (changes : List ObjectChange) (pool : PlainPool) (after : SpellsAfter stored group objects changes pool)
-    (more : Extends stored later) (set : IsSetOf later group root sets.Meta (changed changes objects)) (born : root.birth ≡ group) where
+    (more : Extends stored later) (set : IsSetOf later group root sets.Meta (changed changes objects)) (born : root.birth ≡ group)
+    (stale : List StaleSpan) (spans : HasStaleSpans (objects 3) stale) where
   abbrev pub spells_root : SpellsPool later group root pool
   spells_root = record {
     set = set.set;
@@ -41,6 +43,8 @@ module _ (stored later : Contents) (group : ℕ) (root : Block) (objects : ℕ �
     are = set.are;
     rows = after.rows;
     directory = after.directory;
+    stale = stale;
+    spans = subst (λ (o : Option Object). HasStaleSpans o stale) (sym (after.tables 3 (omega arith) (omega arith))) spans;
     datasets = after.datasets;
     readings = after.readings;
     chains = subst (λ n. HasChains later n (changed changes objects) after.datasets after.readings) (sym born)

@@ -7,7 +7,8 @@ use Rattle.block_store.specs.declared.refusal.Refusal.TheVariants.{DiskFault}
 use Rattle.block_store.specs.Losses.{IsBlockLost}
 use Rattle.block_store.specs.Store.{Store}
 use Rattle.dataset_changes.specs.declared.changes.DatasetChanges.{DatasetChanges}
-use Rattle.dataset_destroys.specs.Laws.{LossesOfDestroys}
+pub use Rattle.dataset_groups.proofs.Losses.{losses_of_destroys}
+use Rattle.dataset_groups.specs.Laws.{LossesOfDestroys}
 use Rattle.dataset_groups.specs.declared.datasets.GroupDatasets.{GroupDatasets}
 use Rattle.dataset_groups.specs.Destroys.{AreDestroysRefused}
 use Rattle.dataset_groups.specs.Demands.{IsActionRefused, IsMakingRefused, IsUnmade}

@@ -122,15 +122,15 @@ pub group_value : (stored planned mid later : Contents) (birth group : ℕ) (old
 group_value stored planned mid later birth group old root pool after_pool is copied changes gone gone_too replaced rows store new holds plans first last volumes adds_data set adds_meta born replaced_is anew same =
     let reached : List Block = reach_by volumes.0.datasets volumes.0.rows in
     let own = blocks_of_set set.0.set set.0.own set.0.blocks in
-    let now_is = spells_root mid later group root is.objects changes after_pool volumes.0 last set.0 born in
-    let copied_now = root_copied mid later group root is.objects changes after_pool volumes.0 last set.0 born
+    let now_is = spells_root mid later group root is.objects changes after_pool volumes.0 last set.0 born is.stale is.spans in
+    let copied_now = root_copied mid later group root is.objects changes after_pool volumes.0 last set.0 born is.stale is.spans
     (meta_then stored birth old pool is copied group planned mid later root reached own gone gone_too volumes.1 set.1 adds_meta)
     (volumes_then stored birth old pool is copied group planned mid later root reached own gone gone_too volumes.1 set.1 adds_data) in (
       later,
       plans,
       λ block bytes known. last block bytes (first block bytes known),
       now_is,
-      root_tables mid later group root is.objects changes after_pool volumes.0 last set.0 born,
+      root_tables mid later group root is.objects changes after_pool volumes.0 last set.0 born is.stale is.spans,
       group_given planned mid later group old root (volume_blocks_of is) reached (blocks_of_set is.set is.own is.blocks) own gone gone_too replaced first last volumes.1 set.1 replaced_is,
       sym volumes.2,
       maps_behind stored birth old pool is copied group planned mid later root reached own gone gone_too volumes.1 set.1 store holds changes new.spaces replaced anew same replaced_is after_pool

@@ -11,10 +11,12 @@ use Rattle.block_store.specs.Store.{Store}
 use Rattle.dnode.specs.declared.object_set.ObjectSet.{ObjectSet}
 use Rattle.meta_objset.specs.declared.directory.DirectoryRow.{DirectoryRow}
 use Rattle.meta_objset.specs.declared.record.DatasetRecord.{DatasetRecord}
-use Rattle.meta_objset.specs.Found.{IsRecordFound, IsRecordRefused}
+use Rattle.meta_objset.specs.Found.{AreSpanRows, AreSpansFound, IsRecordFound, IsRecordRefused, IsRowsRefused}
 use Rattle.meta_objset.specs.Names.{IsNamed}
+use Rattle.meta_objset.specs.StaleSpans.{spans_kind}
 use Rattle.pool_model.specs.declared.volume.PlainVolume.{PlainVolume}
 use Rattle.pool_model.specs.Pools.{PlainPool}
+use Rattle.pool_maps.specs.declared.reading.FreeMetaslab.{FreeMetaslab}
 use Rattle.pool_maps.specs.Loads.{AreFreeFound, AreMapsUnread, AreReadMaps}
 use Rattle.space_map_objects.specs.declared.refusal.Refusal.{Refusal as MapRefusal}
 use Rattle.space_map_objects.specs.declared.refusal.Refusal.TheVariants.{NoMemory as NoMapMemory, Unread}
@@ -30,7 +32,8 @@ use Rattle.dataset_snapshots.specs.Pools.{IsRecordKind, IsRecordOf, SpellsPool}
 use Rattle.dataset_snapshots.specs.Reach.{meta_blocks_of, IsMetaWalked, IsMetaWalkRefused}
 
 -- these are the root's own: the rows that it spells its pool by, the names of the pool, the blocks
--- of the root and its meta object set, and what its space maps leave free of these vdevs
+-- of the root and its meta object set, what its space maps leave free of these vdevs, and the stale
+-- spans
 pub record AreContentsOf (stored : Contents) (spaces : List VdevSpace) (birth : ℕ) (root : Block)
     (pool : PlainPool) (contents : RootContents) : Type 0 where
   pub is : SpellsPool stored birth root pool
@@ -38,6 +41,7 @@ pub record AreContentsOf (stored : Contents) (spaces : List VdevSpace) (birth : 
   pub names : Knows contents.names pool
   pub blocks : contents.blocks.items ≡ meta_blocks_of is
   pub maps : AreReadMaps is.objects spaces contents.maps.items
+  pub spans : contents.spans ≡ is.stale
 
 -- ---- what was read, whether or not the root is whole
 
@@ -86,7 +90,7 @@ pub record AreNamesFound (spaces : List VdevSpace) (birth : ℕ) (root : Block)
   pub chains : AreChainsFound spaces set root.birth rows
 
 -- the directory was read, the names of its rows, then the blocks of the root and its set, by so many
--- reads of these, and then the set's space maps
+-- reads of these, and then the set's space maps and its stale spans
 pub record AreContentsFound (spaces : List VdevSpace) (birth : ℕ) (root : Block) (before after : ℕ)
     (contents : RootContents) : Type 0 where
   pub set : ObjectSet
@@ -95,6 +99,7 @@ pub record AreContentsFound (spaces : List VdevSpace) (birth : ℕ) (root : Bloc
   pub walked_set : ObjectSet
   pub blocks : IsMetaWalked spaces birth root before after walked_set contents.blocks.items
   pub maps : AreFreeFound spaces walked_set root.birth contents.maps.items
+  pub spans : AreSpansFound spaces walked_set root.birth contents.spans
 
 -- ---- why it was not
 
@@ -180,11 +185,28 @@ pub record AreRootMapsUnread (old new : Store) (missing : List ℕ) (birth : ℕ
   pub first : OnlyReadsBlocks old mid missing
   pub why : AreMapsUnread mid new missing walked_set root.birth refusal
 
--- why the contents of a root were not read: something before the space maps was not, or they were not
+-- the space maps too, and then its stale spans were refused
+pub record AreRootSpansUnread (old new : Store) (missing : List ℕ) (birth : ℕ) (root : Block)
+    (before after : ℕ) (refusal : Refusal) : Type 0 where
+  pub set : ObjectSet
+  pub rows : List DirectoryRow
+  pub read : AreRowsFound old.spaces birth root set rows
+  pub walked_set : ObjectSet
+  pub found : List Block
+  pub walked : IsMetaWalked old.spaces birth root before after walked_set found
+  pub maps : List FreeMetaslab
+  pub loaded : AreFreeFound old.spaces walked_set root.birth maps
+  pub mid : Store
+  pub first : OnlyReadsBlocks old mid missing
+  pub why : IsRowsRefused mid new missing walked_set root.birth spans_kind 3 AreSpanRows refusal
+
+-- why the contents of a root were not read: something before the space maps was not, or the stale spans
+-- behind them, or the maps themselves
 abbrev pub AreContentsRefused :
     Store → Store → List ℕ → ℕ → Block → ℕ → ℕ → MapRefusal → Type 0
 AreContentsRefused old new missing birth root before after refusal =
     (refusal ≡ NoMapMemory)
     ⊎ (((why : Refusal) × (refusal ≡ Unread why)
-    × IsRootUnread old new missing birth root before after why)
+    × (IsRootUnread old new missing birth root before after why
+    ⊎ AreRootSpansUnread old new missing birth root before after why))
     ⊎ AreRootMapsUnread old new missing birth root before after refusal)

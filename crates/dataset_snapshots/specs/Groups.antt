@@ -9,7 +9,7 @@ use Rattle.dataset_changes.specs.Over.{IsForList, IsForRecord}
 use Rattle.dataset_changes.specs.States.{birth_of, set_of}
 use Rattle.dataset_groups.specs.declared.datasets.GroupDatasets.{GroupDatasets}
 use Rattle.dataset_groups.specs.Groups.{SpellsGroup, first_number}
-use Rattle.dataset_groups.specs.Leaving.{IsReachExchanged}
+pub use Rattle.dataset_groups.specs.Leaving.{IsReachExchanged}
 use Rattle.dataset_groups.specs.Names.{NamesPool, reach_by}
 use Rattle.dataset_groups.specs.NewVolumes.{numbers_end}
 use Rattle.dataset_groups.specs.Writing.{AreWritten, FitsHead, numbers_of}

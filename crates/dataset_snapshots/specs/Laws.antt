@@ -20,7 +20,7 @@ use Rattle.vdev_label.specs.Plain.{PlainVdev}
 use Rattle.dataset_snapshots.specs.Demands.{IsGroupRefused}
 use Rattle.dataset_snapshots.specs.Finding.{IsDirectoryRefused, IsMetaRefused, IsRefused, IsRefusedIn}
 use Rattle.dataset_snapshots.specs.FirstGroup.{IsFirstRefused}
-use Rattle.dataset_groups.specs.NewVolumes.{AreGoodChanges}
+pub use Rattle.dataset_groups.specs.NewVolumes.{AreGoodChanges}
 use Rattle.dataset_groups.specs.Leaving.{IsReachExchanged}
 use Rattle.dataset_snapshots.specs.Mapped.{HasItsMaps}
 use Rattle.block_store.specs.Spaces.{VdevSpace}

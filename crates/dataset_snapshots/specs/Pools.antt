@@ -5,6 +5,7 @@ use Rattle.block_store.specs.Blocks.{Contents}
 use Rattle.dataset_chains.specs.Chains.{Reading}
 use Rattle.dataset_chains.specs.Standing.{HasChains}
 use Rattle.dataset_groups.specs.Names.{NamesPool}
+pub use Rattle.dataset_groups.specs.Names.{NamesVolume}
 use Rattle.dead_list.specs.Datasets.{Pool}
 use Rattle.dnode.specs.declared.object_set.ObjectSet.{ObjectSet}
 use Rattle.dnode.specs.declared.object_set.ObjectSetKind.TheVariants as sets
@@ -13,9 +14,10 @@ use Rattle.meta_objset.specs.declared.directory.DirectoryRow.{DirectoryRow}
 use Rattle.meta_objset.specs.declared.record.DatasetKind.{DatasetKind}
 use Rattle.meta_objset.specs.declared.record.DatasetKind.TheVariants as datasets
 use Rattle.meta_objset.specs.declared.record.DatasetRecord.{DatasetRecord}
+use Rattle.meta_objset.specs.declared.stale_spans.StaleSpan.{StaleSpan}
 use Rattle.meta_objset.specs.Datasets.{HasRecord}
 use Rattle.meta_objset.specs.Names.{IsNamed}
-use Rattle.meta_objset.specs.Reading.{HasDirectory}
+use Rattle.meta_objset.specs.Reading.{HasDirectory, HasStaleSpans}
 use Rattle.objset.specs.Objects.{Object, AreObjects}
 use Rattle.pool_model.specs.declared.volume.PlainVolume.{PlainVolume}
 use Rattle.pool_model.specs.declared.volume.VolumeKind.{VolumeKind}
@@ -49,8 +51,8 @@ pub record SpellsDataset (stored : Contents) (birth : ℕ) (objects : ℕ → Op
   pub bytes : IsVolume stored birth r.object_set r.size r.block_size volume.bytes
 
 -- The block, born by then, spells the meta object set of the pool: the records and dead lists of its objects are those of datasets that
--- fit one another, and its directory names them, as the pool's volumes, in the order of their names, no more and no fewer. What is
--- behind the block was born by its own birth.
+-- fit one another, and its directory names them, as the pool's volumes, in the order of their names, no more and no fewer. Beside the
+-- directory it has the spans of groups whose blocks a disk missed. What is behind the block was born by its own birth.
 pub record SpellsPool (stored : Contents) (birth : ℕ) (root : Block) (pool : PlainPool) : Type 0 where
   pub set : ObjectSet
   pub is_set : IsSetBlock stored birth root set
@@ -61,6 +63,8 @@ pub record SpellsPool (stored : Contents) (birth : ℕ) (root : Block) (pool : P
   pub are : AreObjects stored root.birth set objects own blocks
   pub rows : List DirectoryRow
   pub directory : HasDirectory (objects 1) rows
+  pub stale : List StaleSpan
+  pub spans : HasStaleSpans (objects 3) stale
   pub datasets : Pool
   pub readings : ℕ → Reading
   pub chains : HasChains stored root.birth objects datasets readings

@@ -19,6 +19,7 @@ use crate::naming::names_by;
 use crate::walks::walk_meta;
 use block_pointer::Block;
 use block_store::BlockStore;
+use meta_objset::{StaleSpans, read_stale_spans};
 use model_disk::Disk;
 use pool_maps::{FreeMetaslab, read_maps};
 use space_map_objects::Refusal;
@@ -26,7 +27,7 @@ use std::alloc::Global;
 use volume_rules::NameIndex;
 
 /// What an open keeps of a pool's root: its directory, with the numbers that no object has, the names of its pool, the blocks of its meta
-/// object set, and what its space maps leave free.
+/// object set, what its space maps leave free, and of which groups a disk missed blocks.
 #[derive(Drop)]
 pub struct RootContents {
     pub directory: KeptDirectory,
@@ -35,17 +36,18 @@ pub struct RootContents {
     pub blocks: Vec<Block>,
     /// What the space map of each metaslab that has one leaves free.
     pub maps: Vec<FreeMetaslab>,
+    pub spans: StaleSpans,
 }
 
 /// What is kept of a root as its pool is opened. The meta object set alone is read, and no block of a volume: the root three times,
-/// the directory, the record of each dataset, the space maps and their table once each, and the blocks that `objset::walk_within`
-/// reads.
+/// the directory, the record of each dataset, the space maps and their table once each, the stale spans, and the blocks that
+/// `objset::walk_within` reads.
 ///
 /// The pool may be forged. The walk reads at most as many blocks as are left to be read, and counts each of them off. `Unread` with
-/// `BadPointer` where the block is no root of a pool, its object 1 no directory, the object of a name no record of a dataset, where
-/// the records don't fit one another in chains, where no block is left to be read, where a block of the set is there twice, and where
-/// the space maps are none of the pool's vdevs, as `pool_maps::read_maps` says; `BadMap` where one of them is no map. The root was
-/// born in the transaction group `birth` or before. The disks that are named are taken as missing.
+/// `BadPointer` where the block is no root of a pool, its object 1 no directory, its object 3 no table of stale spans, the object of a
+/// name no record of a dataset, where the records don't fit one another in chains, where no block is left to be read, where a block of
+/// the set is there twice, and where the space maps are none of the pool's vdevs, as `pool_maps::read_maps` says; `BadMap` where one of
+/// them is no map. The root was born in the transaction group `birth` or before. The disks that are named are taken as missing.
 pub fn contents_under<D: Disk + Drop>(
     root: &Block,
     store: &mut BlockStore<D>,
@@ -87,11 +89,13 @@ pub fn contents_under<D: Disk + Drop>(
     let names = names_by(root, store, alloc, birth, &directory, missing, &mut taken)?;
     let meta = walk_meta(root, store, alloc, birth, left, missing)?;
     let maps = read_maps(&meta.set, store, alloc, root.birth, missing)?;
+    let spans = read_stale_spans(&meta.set, store, alloc, root.birth, missing)?;
     let kept = KeptDirectory::opened(alloc, directory, taken, &maps, meta.set.objects)?;
     Ok(RootContents {
         directory: kept,
         names,
         blocks: meta.blocks,
         maps,
+        spans,
     })
 }

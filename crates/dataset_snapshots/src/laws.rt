@@ -1,7 +1,7 @@
 //! What follows from the definitions, as functions that do nothing.
 ghost use Rattle.dataset_snapshots.specs.Laws.{GoodChangesMayBeMade, LossesByRows, LossesOfDatasets, LossesOfFirstGroups, LossesOfGroups, LossesOfRanges, ReachesLieApart, ReachIsKnown, ReadsNeedNoRoom, ReplacedOfGroupsLeave, RootsSpellOnePool, RootsStandOnTheirReach, RootsStay};
 
-use dataset_destroys::losses_of_destroys;
+use dataset_groups::losses_of_destroys;
 
 /// A root spells its pool where more blocks are known, and for a later group.
 pub fn roots_stay()

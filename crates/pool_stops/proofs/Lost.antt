@@ -12,9 +12,10 @@ use Rattle.block_store.specs.declared.refusal.Refusal.TheVariants.{DiskFault, Ba
 use Rattle.block_store.proofs.Losses.{lost_behind_reads}
 use Rattle.dnode.specs.declared.object_set.ObjectSet.{ObjectSet}
 use Rattle.meta_objset.proofs.Losses.{record_lost, rows_lost}
-use Rattle.meta_objset.specs.Found.{AreDirectoryRows, AreMapRows}
+use Rattle.meta_objset.specs.Found.{AreDirectoryRows, AreMapRows, AreSpanRows}
 use Rattle.meta_objset.specs.Reading.{directory_kind}
 use Rattle.meta_objset.specs.SpaceMaps.{maps_kind}
+use Rattle.meta_objset.specs.StaleSpans.{spans_kind}
 use Rattle.object_table.proofs.Losses.{table_lost}
 use Rattle.objset.proofs.Losses.{set_walk_lost}
 use Rattle.dataset_snapshots.specs.Contents.{AreContentsRefused, AreNamesRefused, IsRootUnread}
@@ -90,8 +91,11 @@ maps_lost old new set birth refusal (inr rows) is = elim rows.why [
 contents_lost : (old new : Store) (birth : ℕ) (root : Block) (before after : ℕ) (refusal : RootRefusal) → AreContentsRefused old new [] birth root before after refusal
     → refusal ≡ Unread DiskFault → IsBlockLost old new []
 contents_lost old new birth root before after refusal (inl memory) is = absurd (cc)
-contents_lost old new birth root before after refusal (inr (inl (why, same, unread))) is =
+contents_lost old new birth root before after refusal (inr (inl (why, same, inl unread))) is =
     root_lost old new birth root before after why unread (fault_is refusal why same is)
+contents_lost old new birth root before after refusal (inr (inl (why, same, inr spans))) is =
+    lost_behind_reads old spans.mid new [] spans.first
+    (rows_lost spans.mid new [] spans.walked_set root.birth spans_kind 3 AreSpanRows why spans.why (fault_is refusal why same is))
 contents_lost old new birth root before after refusal (inr (inr maps)) is =
     lost_behind_reads old maps.mid new [] maps.first (maps_lost maps.mid new maps.walked_set root.birth refusal maps.why is)
 

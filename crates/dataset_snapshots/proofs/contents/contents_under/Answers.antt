@@ -1,6 +1,7 @@
-use Rattle.std.proofs.Common.{inl, inr, ⊎_elim, List, refl, sym, subst, ◌∙◌}
+use Rattle.std.proofs.Common.{◌≡◌, ◌⊎◌, inl, inr, ⊎_elim, List, refl, sym, subst, ◌∙◌}
 use Rattle.block_store.proofs.Steps.{reads_on}
 use Rattle.block_store.specs.Spaces.{VdevSpace}
+use Rattle.block_store.specs.declared.refusal.Refusal.{Refusal}
 use Rattle.dnode_tree.proofs.FurtherReads.{true_before, true_after}
 use Rattle.dnode_tree.proofs.Refusing.{passed_on}
 use Rattle.object_table.proofs.Tables.{spaces_stay}
@@ -8,10 +9,12 @@ use Rattle.pool_maps.proofs.Staying.{short_maps_there}
 use Rattle.pool_maps.specs.Loads.{AreFreeFound, AreReadMaps, AreSetsOf, HaveMaps}
 use Rattle.pool_maps.specs.Maps.{AreRowsOf}
 use Rattle.space_map_objects.proofs.Unread.{lossy}
-use Rattle.space_map_objects.specs.declared.refusal.Refusal.TheVariants.{NoMemory}
-use Rattle.dataset_snapshots.specs.Contents.{AreNamesFound, IsRootUnread}
+use Rattle.space_map_objects.specs.declared.refusal.Refusal.{Refusal as MapRefusal}
+use Rattle.space_map_objects.specs.declared.refusal.Refusal.TheVariants.{NoMemory, Unread}
+use Rattle.dataset_snapshots.specs.Contents.{AreNamesFound, AreRootSpansUnread, IsRootUnread}
 use Rattle.dataset_snapshots.specs.Finding.{AreRowsFound}
 use Rattle.dataset_snapshots.specs.Reach.{IsMetaWalked}
+use Rattle.meta_objset.specs.Found.{AreSpansFound}
 use Rattle.meta_objset.specs.declared.directory.DirectoryRow.{DirectoryRow}
 use Rattle.dataset_snapshots.proofs.Datasets.{are_of_root}
 use Rattle.dataset_snapshots.proofs.NamedRows.{needs_no_room}
@@ -19,12 +22,21 @@ use Rattle.dataset_snapshots.proofs.OpenedRoots.{maps_no_room, of_read_no_room, 
 use Rattle.dataset_snapshots.proofs.ReadRefusals.{reads_need_no_room}
 use Rattle.dataset_snapshots.proofs.contents.contents_under.Goals as goal
 
+-- ---- causes
+
+-- before the space maps
+before_maps : {P Q : Refusal → Type 0} {refusal : MapRefusal} → (why : Refusal) × (refusal ≡ Unread why) × P why → (why : Refusal) × (refusal ≡ Unread why) × (P why ⊎ Q why)
+before_maps (why, is, held) = (why, is, inl held)
+
+behind_maps : {P Q : Refusal → Type 0} {refusal : MapRefusal} → (why : Refusal) × (refusal ≡ Unread why) × Q why → (why : Refusal) × (refusal ≡ Unread why) × (P why ⊎ Q why)
+behind_maps (why, is, held) = (why, is, inr held)
+
 -- ---- the directory
 
 pub returns-in_err-directory-clause-refused : goal.returns-in_err-directory-clause-refused
 returns-in_err-directory-clause-refused g c =
     passed_on _ _ _ c.from_residual.ensures.1
-    (⊎_elim (λ memory. inl memory) (λ why. inr (inl why)) (unread_for (IsRootUnread c.args.store.now c.directory_under.new.store c.args.missing.now c.args.birth c.args.root.now c.args.left.now c.args.left.now) c.in_err-directory.field-0.0 (⊎_elim (λ memory. inl memory) (λ why. inr (inl why)) c.in_err-directory.ensures.refused)))
+    (⊎_elim (λ memory. inl memory) (λ why. inr (inl (before_maps why))) (unread_for (IsRootUnread c.args.store.now c.directory_under.new.store c.args.missing.now c.args.birth c.args.root.now c.args.left.now c.args.left.now) c.in_err-directory.field-0.0 (⊎_elim (λ memory. inl memory) (λ why. inr (inl why)) c.in_err-directory.ensures.refused)))
 
 pub returns-in_err-directory-clause-cause : goal.returns-in_err-directory-clause-cause
 returns-in_err-directory-clause-cause g c =
@@ -45,7 +57,7 @@ pub returns-in_err-names-clause-refused : goal.returns-in_err-names-clause-refus
 returns-in_err-names-clause-refused g c =
     let found = c.in_ok-directory.ensures.found in
     passed_on _ _ _ c.from_residual-in_err-names.ensures.1
-    (⊎_elim (λ memory. inl memory) (λ why. inr (inl why)) (unread_for (IsRootUnread c.args.store.now c.names_by.new.store c.args.missing.now c.args.birth c.args.root.now c.args.left.now c.args.left.now) c.in_err-names.field-0.0 (inr (inr (inl (record {
+    (⊎_elim (λ memory. inl memory) (λ why. inr (inl (before_maps why))) (unread_for (IsRootUnread c.args.store.now c.names_by.new.store c.args.missing.now c.args.birth c.args.root.now c.args.left.now c.args.left.now) c.in_err-names.field-0.0 (inr (inr (inl (record {
       set = found.0;
       rows = _;
       read = found.1;
@@ -76,7 +88,7 @@ pub returns-in_err-meta-clause-refused : goal.returns-in_err-meta-clause-refused
 returns-in_err-meta-clause-refused g c =
     let found = c.in_ok-directory.ensures.found in
     passed_on _ _ _ c.from_residual-in_err-meta.ensures.1
-    (⊎_elim (λ memory. inl memory) (λ why. inr (inl why)) (unread_for (IsRootUnread c.args.store.now c.walk_meta.new.store c.args.missing.now c.args.birth c.args.root.now c.args.left.now c.walk_meta.new.left) c.in_err-meta.field-0.0 (inr (inr (inr (record {
+    (⊎_elim (λ memory. inl memory) (λ why. inr (inl (before_maps why))) (unread_for (IsRootUnread c.args.store.now c.walk_meta.new.store c.args.missing.now c.args.birth c.args.root.now c.args.left.now c.walk_meta.new.left) c.in_err-meta.field-0.0 (inr (inr (inr (record {
       set = found.0;
       rows = _;
       read = found.1;
@@ -134,11 +146,61 @@ returns-in_err-maps-clause-known g c =
     (subst (λ (spaces : List VdevSpace). AreRowsOf spaces mapped.maps.maps) unchanged mapped.maps.rows)
     (subst (λ (spaces : List VdevSpace). HaveMaps is.objects spaces mapped.maps.maps) unchanged (short_maps_there is.objects _ mapped.maps.maps mapped.maps.short)))
 
+-- ---- the stale spans
+
+pub returns-in_err-spans-clause-reads : goal.returns-in_err-spans-clause-reads
+returns-in_err-spans-clause-reads g c =
+    let both = reads_on _ _ _ _ c.in_ok-directory.ensures.reads c.in_ok-names.ensures.reads in
+    let maps = reads_on _ _ _ _ (reads_on _ _ _ _ both c.in_ok-meta.ensures.reads) c.in_ok-maps.ensures.reads in
+    reads_on _ _ _ _ maps c.in_err-spans.ensures.reads
+
+pub returns-in_err-spans-clause-refused : goal.returns-in_err-spans-clause-refused
+returns-in_err-spans-clause-refused g c =
+    let found = c.in_ok-directory.ensures.found in
+    let both = reads_on _ _ _ _ c.in_ok-directory.ensures.reads c.in_ok-names.ensures.reads in
+    let all = reads_on _ _ _ _ both c.in_ok-meta.ensures.reads in
+    passed_on _ _ _ c.from_residual-in_err-spans.ensures.1
+    (⊎_elim (λ memory. inl memory) (λ why. inr (inl (behind_maps why)))
+    (unread_for (AreRootSpansUnread c.args.store.now c.read_stale_spans.new.store c.args.missing.now c.args.birth c.args.root.now c.args.left.now c.walk_meta.new.left) c.in_err-spans.field-0.0
+    (⊎_elim (λ memory. inl memory) (λ why. inr (record {
+      set = found.0;
+      rows = _;
+      read = found.1;
+      walked_set = c.in_ok-meta.meta.set;
+      found = c.in_ok-meta.meta.blocks.items;
+      walked = subst (λ (spaces : List VdevSpace). IsMetaWalked spaces c.args.birth c.args.root.now c.args.left.now c.walk_meta.new.left c.in_ok-meta.meta.set c.in_ok-meta.meta.blocks.items)
+          (spaces_stay _ _ _ both) c.in_ok-meta.ensures.walked;
+      maps = c.in_ok-maps.maps.items;
+      loaded = subst (λ (spaces : List VdevSpace). AreFreeFound spaces c.in_ok-meta.meta.set c.args.root.now.birth c.in_ok-maps.maps.items) (spaces_stay _ _ _ all) c.in_ok-maps.ensures.found;
+      mid = c.read_maps.new.store;
+      first = reads_on _ _ _ _ all c.in_ok-maps.ensures.reads;
+      why = why;
+    })) c.in_err-spans.ensures.refused)))
+
+pub returns-in_err-spans-clause-cause : goal.returns-in_err-spans-clause-cause
+returns-in_err-spans-clause-cause g c = passed_on _ _ _ c.from_residual-in_err-spans.ensures.1 (of_read_no_room c.in_err-spans.field-0.0 c.in_err-spans.ensures.cause)
+
+pub returns-in_err-spans-clause-known : goal.returns-in_err-spans-clause-known
+returns-in_err-spans-clause-known g c =
+    let both = reads_on _ _ _ _ c.in_ok-directory.ensures.reads c.in_ok-names.ensures.reads in
+    let third = c.in_ok-meta.ensures.reads in
+    let all = reads_on _ _ _ _ both third in
+    let maps = reads_on _ _ _ _ all c.in_ok-maps.ensures.reads in
+    let last = c.in_err-spans.ensures.reads in
+    passed_on _ _ _ c.from_residual-in_err-spans.ensures.1 (λ stored pool held is mapped once long honest.
+    let before_maps = true_before _ _ _ _ all c.in_ok-maps.ensures.reads (true_before _ _ _ _ maps last honest) in
+    let same = c.in_ok-meta.ensures.value stored pool (both.keeps stored held) is (true_after _ _ _ _ both third before_maps) in
+    lossy c.in_err-spans.field-0.0
+    (⊎_elim (λ loss. loss) (λ none. absurd (none.1 is.stale is.spans))
+    (c.in_err-spans.ensures.known stored is.objects is.own is.blocks (maps.keeps stored held) (are_of_root stored _ _ pool _ is same.0) (true_after _ _ _ _ maps last honest))))
+
 -- ---- the numbers that are free
 
 pub returns-in_err-kept-clause-reads : goal.returns-in_err-kept-clause-reads
 returns-in_err-kept-clause-reads g c =
-    reads_on _ _ _ _ (reads_on _ _ _ _ (reads_on _ _ _ _ c.in_ok-directory.ensures.reads c.in_ok-names.ensures.reads) c.in_ok-meta.ensures.reads) c.in_ok-maps.ensures.reads
+    let both = reads_on _ _ _ _ c.in_ok-directory.ensures.reads c.in_ok-names.ensures.reads in
+    let maps = reads_on _ _ _ _ (reads_on _ _ _ _ both c.in_ok-meta.ensures.reads) c.in_ok-maps.ensures.reads in
+    reads_on _ _ _ _ maps c.in_ok-spans.ensures.reads
 
 pub returns-in_err-kept-clause-known : goal.returns-in_err-kept-clause-known
 returns-in_err-kept-clause-known g c =
@@ -148,7 +210,9 @@ returns-in_err-kept-clause-known g c =
 
 pub returns-clause-reads : goal.returns-clause-reads
 returns-clause-reads g c =
-    reads_on _ _ _ _ (reads_on _ _ _ _ (reads_on _ _ _ _ c.in_ok-directory.ensures.reads c.in_ok-names.ensures.reads) c.in_ok-meta.ensures.reads) c.in_ok-maps.ensures.reads
+    let both = reads_on _ _ _ _ c.in_ok-directory.ensures.reads c.in_ok-names.ensures.reads in
+    let maps = reads_on _ _ _ _ (reads_on _ _ _ _ both c.in_ok-meta.ensures.reads) c.in_ok-maps.ensures.reads in
+    reads_on _ _ _ _ maps c.in_ok-spans.ensures.reads
 
 pub returns-clause-value : goal.returns-clause-value
 returns-clause-value g c = λ stored pool held is honest.
@@ -158,7 +222,10 @@ returns-clause-value g c = λ stored pool held is honest.
     let third = c.in_ok-meta.ensures.reads in
     let all = reads_on _ _ _ _ both third in
     let last = c.in_ok-maps.ensures.reads in
-    let before_maps = true_before _ _ _ _ all last honest in
+    let maps = reads_on _ _ _ _ all last in
+    let spans = c.in_ok-spans.ensures.reads in
+    let before_spans = true_before _ _ _ _ maps spans honest in
+    let before_maps = true_before _ _ _ _ all last before_spans in
     let before = true_before _ _ _ _ both third before_maps in
     let rows = c.in_ok-directory.ensures.value stored pool held is (true_before _ _ _ _ first second before) in
     let meta = c.in_ok-meta.ensures.value stored pool (both.keeps stored held) is (true_after _ _ _ _ both third before_maps) in
@@ -168,7 +235,8 @@ returns-clause-value g c = λ stored pool held is honest.
       names = c.in_ok-names.ensures.value stored pool (first.keeps stored held) is rows (true_after _ _ _ _ first second before);
       blocks = meta.1;
       maps = subst (λ (spaces : List VdevSpace). AreReadMaps is.objects spaces c.in_ok-maps.maps.items) (spaces_stay _ _ _ all)
-          (c.in_ok-maps.ensures.value stored is.objects is.own is.blocks (all.keeps stored held) (are_of_root stored _ _ pool _ is meta.0) (true_after _ _ _ _ all last honest));
+          (c.in_ok-maps.ensures.value stored is.objects is.own is.blocks (all.keeps stored held) (are_of_root stored _ _ pool _ is meta.0) (true_after _ _ _ _ all last before_spans));
+      spans = c.in_ok-spans.ensures.one stored is.objects is.own is.blocks (maps.keeps stored held) (are_of_root stored _ _ pool _ is meta.0) (true_after _ _ _ _ maps spans honest) is.stale is.spans;
     }
 
 pub returns-clause-found : goal.returns-clause-found
@@ -186,6 +254,8 @@ returns-clause-found g c =
       blocks = subst (λ (spaces : List VdevSpace). IsMetaWalked spaces c.args.birth c.args.root.now c.args.left.now c.walk_meta.new.left c.in_ok-meta.meta.set c.in_ok-meta.meta.blocks.items)
           (spaces_stay _ _ _ both) c.in_ok-meta.ensures.walked;
       maps = subst (λ (spaces : List VdevSpace). AreFreeFound spaces c.in_ok-meta.meta.set c.args.root.now.birth c.in_ok-maps.maps.items) (spaces_stay _ _ _ all) c.in_ok-maps.ensures.found;
+      spans = subst (λ (spaces : List VdevSpace). AreSpansFound spaces c.in_ok-meta.meta.set c.args.root.now.birth c.in_ok-spans.spans)
+          (spaces_stay _ _ _ (reads_on _ _ _ _ all c.in_ok-maps.ensures.reads)) c.in_ok-spans.ensures.found;
     }
 
 pub returns-clause-sets : goal.returns-clause-sets
