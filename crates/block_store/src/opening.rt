@@ -109,13 +109,13 @@ impl<D: Disk + Drop> BlockStore<D> {
     /// begun. The disks that are marked are out from the start, and may lack every block; what stands for a disk that is away
     /// says a size all the same, and is never called. `BadConfig` where the vdevs don't take all disks in order, a disk is too
     /// small for its vdev or too large, a vdev has too many metaslabs or none outside its meta region, or there isn't one
-    /// mark for each disk.
+    /// mark for each disk. After an error the disks come back as they were.
     pub fn opened(
         alloc: Global,
         disks: DiskArray<D>,
         shapes: &[VdevShape],
         out: &[bool],
-    ) -> Result<Self, Refusal>
+    ) -> Result<Self, (Refusal, DiskArray<D>)>
         ensures may { IfOk result (λ store. MayBeOpened disks.starts shapes.now out.now) }
         ensures shapes { IfOk result (λ store. shapes_of store.spaces ≡ shapes.now) }
         ensures disks { IfOk result (λ store. store.disks ≡ disks) }
@@ -130,25 +130,32 @@ impl<D: Disk + Drop> BlockStore<D> {
         ensures empty { IfOk result (λ store. AreEmpty store.spaces) }
         ensures holds { IfOk result (λ store. Stores store nothing_stored) }
         ensures plans { IfOk result (λ store. Plans store nothing_stored nothing_stored) }
-        ensures refused { IfErr result (λ refusal. (refusal ≡ Refusal.NoMemory)
-            ⊎ ((refusal ≡ Refusal.BadConfig)
+        ensures refused { IfErr result (λ failed. (failed.0 ≡ Refusal.NoMemory)
+            ⊎ ((failed.0 ≡ Refusal.BadConfig)
             × ¬ MayBeOpened disks.starts shapes.now out.now)) }
+        ensures back { IfErr result (λ failed. failed.1 ≡ disks) }
     {
         if shapes.is_empty() || MAX_VDEVS < shapes.len() || out.len() != disks.len() {
-            return Err(Refusal::BadConfig);
+            return Err((Refusal::BadConfig, disks));
         }
         if !lie_on(&disks, shapes) {
-            return Err(Refusal::BadConfig);
+            return Err((Refusal::BadConfig, disks));
         }
-        let spaces = empty_spaces(alloc, shapes)?;
-        let out = Vec::from_slice(alloc, out)?;
-        let set = DiskSet::new(alloc, disks, out)?;
-        Ok(BlockStore {
-            set,
-            spaces,
-            stray: false,
-            cursors: Cursors::new(),
-        })
+        let Ok(spaces) = empty_spaces(alloc, shapes) else {
+            return Err((Refusal::NoMemory, disks));
+        };
+        let Ok(out) = Vec::from_slice(alloc, out) else {
+            return Err((Refusal::NoMemory, disks));
+        };
+        match DiskSet::new(alloc, disks, out) {
+            Ok(set) => Ok(BlockStore {
+                set,
+                spaces,
+                stray: false,
+                cursors: Cursors::new(),
+            }),
+            Err(failed) => Err((Refusal::NoMemory, failed.value)),
+        }
     }
 
     /// The disks, in the order of their numbers, with the record of all calls.

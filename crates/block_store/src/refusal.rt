@@ -36,3 +36,13 @@ impl From<AllocError> for Refusal {
         Refusal::NoMemory
     }
 }
+
+impl<T: Drop> From<AllocFailed<T>> for Refusal {
+    ghost use Rattle.block_store.specs.declared.refusal.Refusal.TheVariants.{NoMemory};
+
+    ghost from_gives = { λ _ refusal. refusal ≡ NoMemory };
+
+    fn from(_error: AllocFailed<T>) -> Refusal {
+        Refusal::NoMemory
+    }
+}

@@ -1,5 +1,5 @@
 //! The set.
-ghost use Rattle.std.specs.Prelude.{◌≡◌, ◌<◌, ◌++◌, [], Contains, length, replicate, slice_index, Some, None, if◌then◌else◌, OnOk, OnErr, IfOk, false};
+ghost use Rattle.std.specs.Prelude.{◌≡◌, ◌<◌, ◌++◌, [], Contains, length, replicate, slice_index, Some, None, if◌then◌else◌, OnOk, OnErr, IfErr, IfOk, false};
 ghost use Rattle.model_disk.specs.Joint.{bytes_of};
 ghost use Rattle.raidz_io.specs.Stands.{IsWithin};
 ghost use Rattle.raidz_io.specs.declared.writes.ColumnWrite.{ColumnWrite as DueWrite};
@@ -8,7 +8,7 @@ ghost use Rattle.disk_set.specs.Set.{ArePoolDisks};
 
 use model_disk::{Disk, DiskArray};
 use raidz_io::ColumnWrite;
-use std::alloc::{AllocError, Global};
+use std::alloc::{AllocError, AllocFailed, Global};
 use std::collections::VecDeque;
 use std::marker::Model;
 
@@ -48,8 +48,13 @@ impl<D: Disk + Drop> Model for DiskSet<D> {
 }
 
 impl<D: Disk + Drop> DiskSet<D> {
-    /// Disks of which those that are marked are out from the start, and may lack every block. Nothing is due.
-    pub fn new(alloc: Global, disks: DiskArray<D>, out: Vec<bool>) -> Result<Self, AllocError>
+    /// Disks of which those that are marked are out from the start, and may lack every block. Nothing is due. With no memory
+    /// for their spans the disks come back in the error.
+    pub fn new(
+        alloc: Global,
+        disks: DiskArray<D>,
+        out: Vec<bool>,
+    ) -> Result<Self, AllocFailed<DiskArray<D>>>
         requires { length out.items ≡ length disks.starts }
         ensures disks { IfOk result (λ set. set.disks ≡ disks) }
         ensures out { IfOk result (λ set. set.out ≡ out.items) }
@@ -57,8 +62,11 @@ impl<D: Disk + Drop> DiskSet<D> {
             set.spans.since ≡ replicate (length disks.starts) 0) }
         ensures group { IfOk result (λ set. set.spans.group ≡ 0) }
         ensures due { IfOk result (λ set. set.due ≡ []) }
+        ensures back { IfErr result (λ failed. failed.value ≡ disks) }
     {
-        let since = vec![in alloc; 0; disks.len()]?;
+        let Ok(since) = vec![in alloc; 0; disks.len()] else {
+            return Err(AllocFailed { value: disks });
+        };
         Ok(DiskSet {
             disks,
             out,

@@ -23,7 +23,7 @@ use Rattle.block_store.specs.Steps.{Placed, HavePlaced}
 use Rattle.block_store.specs.Uses.{IsInUse}
 use Rattle.block_store.proofs.Accounting.{has_too, has_on_place, used_before, in_use_before, released_uses, not_in_released, placed_uses}
 use Rattle.block_store.proofs.Taking.{found_too}
-use Rattle.dataset_groups.specs.Leaving.{IsReachExchanged}
+use Rattle.dataset_snapshots.specs.Groups.{IsReachExchanged}
 use Rattle.dnode_tree.proofs.SameBlocks.{same_as, counted, found}
 use Rattle.pool_commit.specs.Space.{AreInBlocks, IsFor, WereReleasedBy}
 

@@ -5,7 +5,7 @@ use Rattle.std.specs.List.{AllZip}
 use Rattle.std.proofs.lemmas.Option.{same_Some}
 use Rattle.block_pointer.specs.declared.block.Block.{Block}
 use Rattle.block_store.specs.Blocks.{Contents}
-use Rattle.dataset_groups.specs.Names.{NamesVolume}
+use Rattle.dataset_snapshots.specs.Pools.{NamesVolume}
 use Rattle.meta_objset.specs.declared.directory.DirectoryRow.{DirectoryRow}
 use Rattle.pool_model.proofs.Places.{same_is}
 use Rattle.pool_model.specs.declared.volume.PlainVolume.{PlainVolume}

@@ -35,8 +35,8 @@ use Rattle.pool_commit.specs.declared.kept.Planned.{Planned}
 use Rattle.block_pointer.specs.declared.block.Block.{Block}
 use Rattle.metaslab.specs.State.{is_in_use}
 use Rattle.metaslab.specs.State.{State as State'}
-use Rattle.dataset_groups.specs.Leaving.{IsReachExchanged}
-use Rattle.dataset_groups.proofs.Exchanges.{after_once, gone_are}
+use Rattle.dataset_snapshots.specs.Groups.{IsReachExchanged}
+use Rattle.dataset_snapshots.proofs.GroupReach.{after_once, gone_are}
 use Rattle.dnode_tree.specs.Freeing.{AreOnlyIn}
 use Rattle.dnode_tree.specs.Rewriting.{AreDistinct}
 use Rattle.dnode_tree.proofs.SameBlocks.{same_as, found}

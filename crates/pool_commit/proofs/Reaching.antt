@@ -16,11 +16,11 @@ use Rattle.block_store.specs.Uses.{CopiesLieOn, Passes}
 use Rattle.block_store.proofs.Planning.{same_marks}
 use Rattle.metaslab.specs.State.{is_in_use}
 use Rattle.dataset_snapshots.proofs.ChangedRows.{nothing_in}
-use Rattle.dataset_groups.proofs.Exchanges.{after_once}
+use Rattle.dataset_snapshots.proofs.GroupReach.{after_once}
 use Rattle.dataset_snapshots.proofs.Reaching.{reach_known}
 use Rattle.dataset_snapshots.proofs.Standing.{roots_stand}
 use Rattle.dataset_snapshots.specs.Laws.{KeepsEach}
-use Rattle.dataset_groups.specs.Leaving.{IsReachExchanged}
+use Rattle.dataset_snapshots.specs.Groups.{IsReachExchanged}
 use Rattle.dnode_tree.proofs.SameBlocks.{same_as, counted, found}
 use Rattle.dnode_tree.specs.Rewriting.{AreDistinct}
 use Rattle.pool_commit.specs.declared.kept.Kept.{Kept}

@@ -25,8 +25,7 @@ use Rattle.meta_objset.specs.declared.directory.DirectoryRow.{DirectoryRow}
 use Rattle.pool_model.specs.Pools.{Entry, PlainPool, volume_at}
 use Rattle.pool_model.specs.Refusals.{read_refusal}
 use Rattle.pool_model.specs.View.{View, Vdev, lost_in}
-use Rattle.dataset_destroys.proofs.Losses.{losses_of_destroys}
-use Rattle.dataset_snapshots.proofs.Losses.{losses_by_rows, losses_of_first_groups, losses_of_groups}
+use Rattle.dataset_snapshots.proofs.Losses.{losses_by_rows, losses_of_destroys, losses_of_first_groups, losses_of_groups}
 use Rattle.dataset_snapshots.proofs.ReadRefusals.{reads_need_no_room}
 use Rattle.dataset_snapshots.specs.Ranges.{IsRangeRefusedIn}
 use Rattle.volume_rules.specs.Parting.{destroyed_by, made_by}

@@ -6,6 +6,7 @@ use Rattle.block_store.specs.Places.{shapes_of}
 use Rattle.block_store.specs.Releases.{copies_of_all}
 use Rattle.block_store.specs.Spaces.{VdevSpace}
 use Rattle.block_store.specs.Store.{Store}
+pub use Rattle.dataset_snapshots.specs.Contents.{AreContentsOf}
 use Rattle.dataset_snapshots.specs.declared.contents.RootContents.{RootContents}
 use Rattle.pool_maps.specs.Loads.{AreApart, AreLoadedAs, AreSetsOf}
 use Rattle.pool_model.specs.Pools.{no_volumes}

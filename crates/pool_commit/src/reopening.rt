@@ -20,7 +20,7 @@ use crate::suspension::lacks_disks;
 use block_pointer::Block;
 use block_store::{BlockStore, found_in_use_are_stored};
 use dataset_snapshots::{KeptDirectory, RootContents};
-use model_disk::Disk;
+use model_disk::{Disk, DiskArray};
 use pool_maps::load_maps;
 use std::alloc::{AllocError, Global};
 use std::sync::Arc;
@@ -98,7 +98,7 @@ impl<D: Disk + Drop> Commit<D> {
     /// group, and the contents are what was read of it. No disk is called. The uberblocks of later groups get this stamp. No group
     /// before it is kept. What the space maps leave free is loaded, and the blocks of the meta object set are taken in; of those of
     /// the volumes nothing is asked. `BadPointer` where a map is of no metaslab of the pool, a block lies in no place of it, or two
-    /// copies share a sector.
+    /// copies share a sector. After an error the store's disks come back.
     pub fn opened(
         alloc: Global,
         store: BlockStore<D>,
@@ -106,7 +106,7 @@ impl<D: Disk + Drop> Commit<D> {
         group: u64,
         root: Block,
         contents: RootContents,
-    ) -> Result<Self, Refusal>
+    ) -> Result<Self, (Refusal, DiskArray<D>)>
         requires plans { Plans store nothing_stored nothing_stored }
         requires empty { AreEmpty store.spaces }
         requires labels { LabelsLieAside store.disks.starts store.spaces }
@@ -125,8 +125,9 @@ impl<D: Disk + Drop> Commit<D> {
             → HasMaps store.spaces stored group (Some root) pool
             → Backs (state_of commit)
             (opened_as (vdevs_of store.spaces) (is_out store.out) group pool)) }
-        ensures refused { IfErr result (λ refusal. (refusal ≡ Refusal.NoMemory)
-            ⊎ ((refusal ≡ Refusal.BadPointer) × AreMisplaced store.spaces contents)) }
+        ensures refused { IfErr result (λ failed. (failed.0 ≡ Refusal.NoMemory)
+            ⊎ ((failed.0 ≡ Refusal.BadPointer) × AreMisplaced store.spaces contents)) }
+        ensures back { IfErr result (λ failed. failed.1 ≡ store.disks) }
     {
         found_in_use_are_stored();
         let RootContents {
@@ -134,13 +135,19 @@ impl<D: Disk + Drop> Commit<D> {
             names,
             blocks,
             maps,
+            ..
         } = contents;
         let mut store = store;
         if !load_maps(&mut store, maps) {
-            return Err(Refusal::BadPointer);
+            return Err((Refusal::BadPointer, store.into_array()));
         }
-        store.take_in(&blocks)?;
-        let last = group_of(alloc, root, directory, names)?;
-        Ok(Commit::of_group(store, stamp, group, last))
+        match store.take_in(&blocks) {
+            Ok(()) => {}
+            Err(refusal) => return Err((Refusal::from(refusal), store.into_array())),
+        }
+        match group_of(alloc, root, directory, names) {
+            Ok(last) => Ok(Commit::of_group(store, stamp, group, last)),
+            Err(_) => Err((Refusal::NoMemory, store.into_array())),
+        }
     }
 }

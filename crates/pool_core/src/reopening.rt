@@ -4,10 +4,9 @@ ghost use Rattle.block_store.specs.Blocks.{Contents, nothing_stored};
 ghost use Rattle.block_store.specs.Places.{AreEmpty, shapes_of};
 ghost use Rattle.block_store.specs.Plans.{Plans};
 ghost use Rattle.block_store.specs.Store.{Holds, is_out};
-ghost use Rattle.dataset_snapshots.specs.Contents.{AreContentsOf};
 ghost use Rattle.pool_commit.specs.Backs.{HasMaps};
 ghost use Rattle.pool_commit.specs.Config.{vdevs_of};
-ghost use Rattle.pool_commit.specs.Reopened.{AreMisplaced};
+ghost use Rattle.pool_commit.specs.Reopened.{AreContentsOf, AreMisplaced};
 ghost use Rattle.pool_commit.specs.Slots.{LabelsLieAside};
 ghost use Rattle.pool_model.specs.Pools.{PlainPool, no_volumes};
 ghost use Rattle.pool_model.specs.Refusals.{greatest};
@@ -18,9 +17,8 @@ ghost use Rattle.volume_rules.specs.NowMoves.{IsMadeBy};
 use crate::pool::Core;
 use block_pointer::Block;
 use block_store::BlockStore;
-use dataset_snapshots::RootContents;
-use model_disk::Disk;
-use pool_commit::{Commit, Stamp};
+use model_disk::{Disk, DiskArray};
+use pool_commit::{Commit, RootContents, Stamp};
 use pool_intake::Intake;
 use pool_model::Refusal;
 use std::alloc::{AllocError, Global};
@@ -59,7 +57,8 @@ impl<D: Disk + Drop> Core<D> {
     /// A pool that was committed before as that group, over a store that was opened and stores no block yet. The root is that of the
     /// group, and the contents are what was read of it. No disk is called. Nobody has a hold, each writer begins with number 1, and
     /// no group before it is kept. The uberblocks of later groups get this stamp. `BadPointer` where a space map is of no metaslab of the
-    /// pool, a block of the meta object set lies in no place of it, or two copies share a sector.
+    /// pool, a block of the meta object set lies in no place of it, or two copies share a sector. After an error the store's disks come
+    /// back.
     pub fn opened(
         alloc: Global,
         store: BlockStore<D>,
@@ -67,7 +66,7 @@ impl<D: Disk + Drop> Core<D> {
         group: u64,
         root: Block,
         contents: RootContents,
-    ) -> Result<Self, Refusal>
+    ) -> Result<Self, (Refusal, DiskArray<D>)>
         requires plans { Plans store nothing_stored nothing_stored }
         requires empty { AreEmpty store.spaces }
         requires labels { LabelsLieAside store.disks.starts store.spaces }
@@ -87,11 +86,12 @@ impl<D: Disk + Drop> Core<D> {
             → HasMaps store.spaces stored group (Some root) pool → IsMadeBy group pool
             → Represents (state_of core)
             (opened_as (vdevs_of store.spaces) (is_out store.out) group pool)) }
-        ensures refused { IfErr result (λ refusal. (refusal ≡ Refusal.NoMemory)
-            ⊎ ((refusal ≡ Refusal.BadPointer) × AreMisplaced store.spaces contents)) }
+        ensures refused { IfErr result (λ failed. (failed.0 ≡ Refusal.NoMemory)
+            ⊎ ((failed.0 ≡ Refusal.BadPointer) × AreMisplaced store.spaces contents)) }
+        ensures back { IfErr result (λ failed. failed.1 ≡ store.disks) }
     {
         let Ok(names) = contents.names.copied() else {
-            return Err(Refusal::NoMemory);
+            return Err((Refusal::NoMemory, store.into_array()));
         };
         match Commit::opened(alloc, store, stamp, group, root, contents) {
             Ok(commit) => Ok(Core {
@@ -99,7 +99,7 @@ impl<D: Disk + Drop> Core<D> {
                 intake: Intake::opened(alloc, group, names),
                 commit,
             }),
-            Err(refusal) => Err(Refusal::from(refusal)),
+            Err((refusal, disks)) => Err((Refusal::from(refusal), disks)),
         }
     }
 }

@@ -5,7 +5,6 @@ use Rattle.std.proofs.lemmas.Option.{slice_get_within}
 use Rattle.block_pointer.specs.declared.block.Block.{Block}
 use Rattle.block_store.specs.Places.{shapes_of}
 use Rattle.block_store.specs.Elsewhere.{WritesElsewhereKeep}
-use Rattle.dataset_snapshots.specs.declared.contents.RootContents.{RootContents}
 use Rattle.model_disk.specs.Joint.{Disks}
 use Rattle.model_disk.specs.Runs.{Makes, no_write}
 use Rattle.model_disk.proofs.RunLemmas.{Makes-none}
@@ -14,7 +13,7 @@ use Rattle.pool_model.specs.declared.volume.PlainVolume.{PlainVolume}
 use Rattle.pool_model.specs.Pools.{no_volumes, volume_at}
 use Rattle.pool_open.specs.Causes.{of_root, of_slots}
 use Rattle.pool_open.specs.Held.{IsLaidOver}
-use Rattle.pool_open.specs.Opening.{AreMisplacedOver}
+use Rattle.pool_open.specs.Opening.{AreMisplacedOver, RootContents}
 use Rattle.pool_open.specs.Roots.{AreReadBeside, IsReadOfRoot, IsRootNotRead}
 use Rattle.pool_open.specs.Words.{stamp_of}
 use Rattle.pool_open.specs.declared.refusal.Refusal.{Refusal}
@@ -145,11 +144,11 @@ back_of keep old surveyed read it root u contents core are made =
 
 -- ---- there is none
 
-pub unread_root : (old surveyed : Disks) (it : NewPool) (root : Block) (cause : RootRefusal) → Makes no_write old surveyed → IsFirstTaken old surveyed it root
-    → IsRootNotRead surveyed it.shapes.items it.out.items 3 root (2 ^ 64 - 1) cause → IsUnread old it root (of_root cause)
-unread_root old surveyed it root cause only taken unread = (
-  unread.new,
-  both_made no_write old surveyed unread.new only (block_reads_made surveyed unread.new unread.only.only),
+pub unread_root : (old surveyed new : Disks) (it : NewPool) (root : Block) (cause : RootRefusal) → Makes no_write old surveyed → IsFirstTaken old surveyed it root
+    → IsRootNotRead surveyed new it.shapes.items it.out.items 3 root (2 ^ 64 - 1) cause → IsUnread old it root (of_root cause)
+unread_root old surveyed new it root cause only taken unread = (
+  new,
+  both_made no_write old surveyed new only (block_reads_made surveyed new unread.only.only),
   elim unread.why [
     | inl memory ↦ inl (ap of_root memory)
     | inr refused ↦ inr (inr (inr (inr (inl (surveyed, taken, record { cause = cause; same = refl; why = refused })))))

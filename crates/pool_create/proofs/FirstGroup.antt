@@ -7,8 +7,8 @@ use Rattle.block_store.specs.Places.{shapes_of}
 use Rattle.block_store.specs.Spaces.{VdevSpace}
 use Rattle.block_store.specs.Store.{is_out}
 use Rattle.block_store.specs.declared.shape.VdevShape.{VdevShape}
-use Rattle.dataset_snapshots.specs.Mapped.{SpellsWithMaps}
 use Rattle.model_disk.specs.Joint.{Disks}
+use Rattle.pool_open.specs.Opening.{SpellsWithMaps}
 use Rattle.pool_commit.proofs.Mapping.{its_maps_over}
 use Rattle.pool_commit.specs.Backs.{HasMaps, KeptHasMaps, SpellsKept, kept_pool}
 use Rattle.pool_commit.specs.Calls.{GrewTo}

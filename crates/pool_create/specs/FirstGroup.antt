@@ -5,8 +5,8 @@ use Rattle.block_pointer.specs.declared.block.Block.{Block}
 use Rattle.block_store.specs.Blocks.{Contents}
 use Rattle.block_store.specs.Places.{shapes_of}
 use Rattle.block_store.specs.Store.{is_out}
-use Rattle.dataset_snapshots.specs.Mapped.{SpellsWithMaps}
 use Rattle.model_disk.specs.Joint.{Disks}
+use Rattle.pool_open.specs.Opening.{SpellsWithMaps}
 use Rattle.pool_commit.specs.Calls.{GrewTo}
 use Rattle.pool_commit.specs.State.{NoneIsOut}
 use Rattle.pool_core.specs.Represents.{Represents}

@@ -4,8 +4,6 @@ use Rattle.block_pointer.specs.declared.block.Block.{Block}
 use Rattle.block_store.specs.Places.{shapes_of}
 use Rattle.block_store.specs.Blocks.{Contents}
 use Rattle.block_store.specs.Store.{is_out}
-use Rattle.dataset_snapshots.specs.Mapped.{SpellsWithMaps}
-use Rattle.dataset_snapshots.specs.declared.contents.RootContents.{RootContents}
 use Rattle.model_disk.specs.Joint.{Disks}
 use Rattle.model_disk.specs.Runs.{Makes, no_write}
 use Rattle.pool_commit.specs.Slots.{uberblock_of}
@@ -15,7 +13,7 @@ use Rattle.pool_model.specs.Pools.{no_volumes}
 use Rattle.pool_model.specs.View.{opened_as}
 use Rattle.pool_open.specs.Causes.{of_root, of_slots}
 use Rattle.pool_open.specs.Held.{HoldOver}
-use Rattle.pool_open.specs.Opening.{AreMisplacedOver}
+use Rattle.pool_open.specs.Opening.{AreMisplacedOver, RootContents, SpellsWithMaps}
 use Rattle.pool_open.specs.Roots.{IsReadOfRoot, RootRefuses}
 use Rattle.pool_open.specs.Words.{stamp_of, vdevs_in}
 use Rattle.pool_open.specs.declared.refusal.Refusal.{Refusal}

@@ -38,7 +38,10 @@ fn core_in_front<D: Disk + Drop>(
     ensures refused { IfErr result (λ refusal. refusal ≡ Refusal.NoMemory) }
 {
     labels_of_opened_lie();
-    let store = BlockStore::opened(alloc, disks, &pool.shapes, &pool.out)?;
+    let store = match BlockStore::opened(alloc, disks, &pool.shapes, &pool.out) {
+        Ok(store) => store,
+        Err((refusal, _)) => return Err(Refusal::from(refusal)),
+    };
     Ok(Core::empty(alloc, store, pool.stamp, 2)?)
 }
 

@@ -36,8 +36,10 @@ pub(crate) fn fitting<D: Disk + Drop>(
         × ¬ MayBeOpened disks.starts pool.now.shapes.items pool.now.out.items)) }
 {
     labels_of_opened_lie();
-    let store = BlockStore::opened(alloc, disks, &pool.shapes, &pool.out)?;
-    Ok(store.into_array())
+    match BlockStore::opened(alloc, disks, &pool.shapes, &pool.out) {
+        Ok(store) => Ok(store.into_array()),
+        Err((refusal, _)) => Err(Refusal::from(refusal)),
+    }
 }
 
 /// Reads the disks, and refuses those that show a pool.

@@ -35,11 +35,16 @@ pub(crate) fn read_back<D: Disk + Drop>(
     writes_elsewhere_keep();
     let mut disks = disks;
     let taken = survey_alone(alloc, &mut disks, pool, root)?;
-    let read = read_root(alloc, disks, &pool.shapes, &pool.out, &root, 3, u64::MAX)?;
+    let read = match read_root(alloc, disks, &pool.shapes, &pool.out, &root, 3, u64::MAX) {
+        Ok(read) => read,
+        Err((refusal, _)) => return Err(Refusal::from(refusal)),
+    };
     let ReadRoot { disks, contents } = read;
-    let core = core_over(alloc, disks, &pool.shapes, &pool.out, &taken, contents)?;
-    Ok(OpenedPool {
-        core,
-        uberblock: taken,
-    })
+    match core_over(alloc, disks, &pool.shapes, &pool.out, &taken, contents) {
+        Ok(core) => Ok(OpenedPool {
+            core,
+            uberblock: taken,
+        }),
+        Err((refusal, _)) => Err(refusal),
+    }
 }

@@ -1,6 +1,5 @@
 -- The writes of a claim lie beside blocks.
 use Rattle.std.proofs.Common.{◌≡◌, ◌⊎◌, inl, inr, ℕ, zero, suc, ◌+◌, ◌≤◌, ◌<◌, Bool, List, [], ◌∷◌, length, ap, ◌∙◌, arith}
-use Rattle.std.proofs.lemmas.Bool.Decides.{nat_tests}
 use Rattle.model_disk.specs.Contents.{covers}
 use Rattle.model_disk.specs.Joint.{bytes_of}
 use Rattle.model_disk.specs.Runs.{IsOff}

@@ -1,5 +1,5 @@
 -- Vdevs, one after the other.
-use Rattle.std.proofs.Common.{◌≡◌, ◌≤◌, ◌+◌, ◌*◌, inl, inr, ℕ, zero, suc, List, [], ◌∷◌, length, map, All, Some, None, slice_get, get_or, take, min, refl, sym, ap, ◌∙◌, subst, arith}
+use Rattle.std.proofs.Common.{◌≡◌, ◌≤◌, ◌+◌, ◌*◌, ℕ, zero, suc, List, [], ◌∷◌, length, All, Some, slice_get, take, min, ap, ◌∙◌, subst, arith}
 use Rattle.std.proofs.lemmas.List.Elements.{All-nil, All-cons}
 use Rattle.block_store.specs.Opened.{LieOn}
 use Rattle.block_store.specs.declared.shape.VdevShape.{VdevShape}

@@ -1,9 +1,9 @@
 -- What a stop in an export leaves may be opened.
 use Rattle.std.proofs.Common.{◌≡◌, ℕ, ◌<◌, Bool, List, length, subst, sym}
-use Rattle.model_disk.specs.Joint.{MayLeaveAll, bytes_of}
+use Rattle.model_disk.specs.Joint.{bytes_of}
 use Rattle.pool_slots.specs.Commits.{AreOffLabels}
 use Rattle.pool_slots.specs.Possible.{Trees}
-use Rattle.pool_slots.specs.Slots.{AreThere, InUse, IsOffLabels}
+use Rattle.pool_slots.specs.Slots.{AreThere, IsOffLabels}
 use Rattle.pool_open.specs.ExportStops.{ExportsMayBeReopened}
 use Rattle.pool_open.proofs.Stops.{stopped_can_be_opened}
 

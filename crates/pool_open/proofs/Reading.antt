@@ -46,9 +46,8 @@ none_read : (out : List Bool) (disks : Disks) → AreReadBeside out disks disks
 none_read out disks = record { only = record { starts = refl; newer = []; calls = refl; are_reads = tt }; untouched = λ disk among. refl }
 
 pub refused_at_once : (old : Disks) (shapes : List VdevShape) (out : List Bool) (group : ℕ) (root : Block) (most : ℕ) (cause : StoreRefusal)
-    → (cause ≡ store.NoMemory) ⊎ ((cause ≡ store.BadConfig) × ¬ MayBeOpened old.starts shapes out) → IsRootNotRead old shapes out group root most (of_read cause)
+    → (cause ≡ store.NoMemory) ⊎ ((cause ≡ store.BadConfig) × ¬ MayBeOpened old.starts shapes out) → IsRootNotRead old old shapes out group root most (of_read cause)
 refused_at_once old shapes out group root most cause why = record {
-  new = old;
   only = none_read out old;
   why = elim why [ inl memory ↦ inl (ap of_read memory) | inr bad ↦ inr (inl (ap of_read bad.0, bad.1)) ];
 }
@@ -61,9 +60,8 @@ IsForLossAt store later group root most refusal =
 
 pub refused_through : (store later : Store) (old : Disks) (shapes : List VdevShape) (out : List Bool) (group : ℕ) (root : Block) (most : ℕ) (refusal : Refusal)
     → IsStoreOver old shapes out store → OnlyReadsBlocks store later [] → (after : ℕ) → AreContentsRefused store later [] group root most after refusal
-    → IsForLossAt store later group root most refusal → IsRootNotRead old shapes out group root most refusal
+    → IsForLossAt store later group root most refusal → IsRootNotRead old later.disks shapes out group root most refusal
 refused_through store later old shapes out group root most refusal over reads after cause known = record {
-  new = later.disks;
   only = read_beside store later old later.disks out over.disks_are over.out_is refl reads;
   why = inr (inr (record {
     store = store;
@@ -90,4 +88,5 @@ contents_over shapes store stored group root pool contents same are spaces alike
   names = are.names;
   blocks = are.blocks;
   maps = read_stay are.is.objects store spaces contents.maps.items (alike ∙ sym same) are.maps;
+  spans = are.spans;
 }

@@ -1,11 +1,11 @@
 -- What a core represents that goes on from a root that was read before its claim.
 use Rattle.std.proofs.Common.{◌≡◌, ℕ, ◌<◌, Bool, List, length, refl, sym, ap, ◌∙◌, subst}
-use Rattle.model_disk.specs.Joint.{Disks, content}
+use Rattle.model_disk.specs.Joint.{Disks}
 use Rattle.model_disk.specs.Runs.{Makes, no_write}
 use Rattle.raidz_io.specs.Reads.{IsHonestSince}
 use Rattle.block_store.specs.Blocks.{Contents}
-use Rattle.block_store.specs.Elsewhere.{IsForBlocks, WritesElsewhereKeep}
-use Rattle.block_store.specs.Store.{Store, Holds, is_out}
+use Rattle.block_store.specs.Elsewhere.{WritesElsewhereKeep}
+use Rattle.block_store.specs.Store.{Store, is_out}
 use Rattle.block_store.specs.declared.shape.VdevShape.{VdevShape}
 use Rattle.dataset_snapshots.specs.Mapped.{SpellsWithMaps}
 use Rattle.dataset_snapshots.specs.declared.contents.RootContents.{RootContents}

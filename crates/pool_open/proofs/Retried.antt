@@ -1,11 +1,11 @@
 -- Opens that go on without disks on which their claims failed.
-use Rattle.std.proofs.Common.{◌≡◌, ◌⊎◌, inl, inr, ◌∙◌, ℕ, zero, suc, ◌<◌, ◌++◌, Bool, true, false, List, length, [], replicate, refl, sym, ap, subst, arith, append_assoc}
+use Rattle.std.proofs.Common.{◌≡◌, ◌⊎◌, inl, inr, ◌∙◌, ℕ, zero, suc, ◌<◌, ◌++◌, Bool, false, List, length, [], replicate, refl, sym, ap, subst, arith, append_assoc}
 use Rattle.model_disk.specs.Joint.{Disks, JointCall, failed_since}
 use Rattle.model_disk.specs.Runs.{Makes, no_write}
 use Rattle.model_disk.proofs.FailureLemmas.{kept_through}
 use Rattle.std.specs.Prelude.{Contains}
 use Rattle.block_store.specs.Opened.{LieOn, MayBeOpened}
-use Rattle.block_store.specs.Store.{Store, is_out}
+use Rattle.block_store.specs.Store.{is_out}
 use Rattle.block_store.specs.declared.shape.VdevShape.{VdevShape}
 use Rattle.pool_core.specs.State.{CoreState}
 use Rattle.pool_commit.specs.Slots.{LabelsLieAside}
@@ -15,8 +15,8 @@ use Rattle.pool_slots.specs.Slots.{HaveLabels, InUse}
 use Rattle.pool_slots.proofs.Failing.{fails_later}
 use Rattle.uberblock_ring.specs.declared.uberblock.Uberblock.{Uberblock}
 use Rattle.pool_open.specs.Held.{IsLaidOver, IsStoreOver}
-use Rattle.pool_open.specs.Opening.{AreClaimedThrough, AreReadThrough, IsNotOpenedOver, IsOpenCause, IsOpenedOver}
-use Rattle.pool_open.specs.Retried.{AreFailedClaims, AreTooFewLeft, IsFailedClaim, IsNotOpenedAtLast, IsOpenedAtLast, IsRefusedBehind, UndiminishedOpensClaimOnce, UnfailingOpensClaimOnce}
+use Rattle.pool_open.specs.Opening.{AreClaimedThrough, IsNotOpenedOver, IsOpenedOver}
+use Rattle.pool_open.specs.Retried.{AreFailedClaims, AreTooFewLeft, IsFailedClaim, IsNotOpenedAtLast, IsOpenedAtLast, UndiminishedOpensClaimOnce, UnfailingOpensClaimOnce}
 use Rattle.pool_open.specs.Words.{vdevs_in}
 use Rattle.pool_open.specs.declared.refusal.Refusal.{Refusal}
 use Rattle.pool_open.specs.declared.refusal.Refusal.TheVariants.{TooManyMissing}
@@ -72,20 +72,18 @@ pub opened_first : (old : Disks) (shapes : List VdevShape) (out : List Bool) (re
     → IsOpenedAtLast old shapes out rewind claimed core
 opened_first old shapes out rewind claimed core is = record { claims = 0; mid = old; left = out; failed = (refl, refl); last = is }
 
-pub refused_first : (old : Disks) (shapes : List VdevShape) (out : List Bool) (rewind : ℕ) (refusal : Refusal) → IsNotOpenedOver old shapes out rewind refusal
-    → IsNotOpenedAtLast old shapes out rewind refusal
-refused_first old shapes out rewind refusal is =
-    record { claims = 0; mid = old; left = out; failed = (refl, refl); new = is.new; why = inl (record { last = is; same = refl }) }
+pub refused_first : (old : Disks) (shapes : List VdevShape) (out : List Bool) (rewind : ℕ) (new : Disks) (refusal : Refusal) → IsNotOpenedOver old shapes out rewind new refusal
+    → IsNotOpenedAtLast old shapes out rewind new refusal
+refused_first old shapes out rewind new refusal is = record { claims = 0; mid = old; left = out; failed = (refl, refl); why = inl is }
 
 -- no other attempt is made where too few disks are left
 pub refused_with_few : (old : Disks) (shapes : List VdevShape) (out : List Bool) (rewind : ℕ) (next : Disks) (fewer : List Bool) → IsFailedClaim old shapes out rewind next fewer
-    → is_tolerable (vdevs_in shapes) (is_out fewer) ≡ false → IsNotOpenedAtLast old shapes out rewind TooManyMissing
+    → is_tolerable (vdevs_in shapes) (is_out fewer) ≡ false → IsNotOpenedAtLast old shapes out rewind next TooManyMissing
 refused_with_few old shapes out rewind next fewer it few = record {
   claims = 1;
   mid = next;
   left = fewer;
   failed = (next, fewer, it, (refl, refl));
-  new = next;
   why = inr (record { some = omega arith; cause = refl; intolerable = few; same = refl });
 }
 
@@ -95,14 +93,13 @@ pub opened_next : (old : Disks) (shapes : List VdevShape) (out : List Bool) (rew
 opened_next old shapes out rewind next fewer claimed core it is =
     record { claims = suc is.claims; mid = is.mid; left = is.left; failed = (next, fewer, it, is.failed); last = is.last }
 
-pub refused_next : (old : Disks) (shapes : List VdevShape) (out : List Bool) (rewind : ℕ) (next : Disks) (fewer : List Bool) (refusal : Refusal)
-    → IsFailedClaim old shapes out rewind next fewer → IsNotOpenedAtLast next shapes fewer rewind refusal → IsNotOpenedAtLast old shapes out rewind refusal
-refused_next old shapes out rewind next fewer refusal it is = record {
+pub refused_next : (old : Disks) (shapes : List VdevShape) (out : List Bool) (rewind : ℕ) (next : Disks) (fewer : List Bool) (new : Disks) (refusal : Refusal)
+    → IsFailedClaim old shapes out rewind next fewer → IsNotOpenedAtLast next shapes fewer rewind new refusal → IsNotOpenedAtLast old shapes out rewind new refusal
+refused_next old shapes out rewind next fewer new refusal it is = record {
   claims = suc is.claims;
   mid = is.mid;
   left = is.left;
   failed = (next, fewer, it, is.failed);
-  new = is.new;
   why = elim is.why [
     | inl behind ↦ inl behind
     | inr few ↦ inr (record { some = omega arith; cause = few.cause; intolerable = few.intolerable; same = few.same })
@@ -170,16 +167,15 @@ claims_further zero old shapes out rewind mid left are = record { newer = []; ca
 claims_further (suc claims) old shapes out rewind mid left are =
     further_on old are.0 mid (claim_further old shapes out rewind are.0 are.1 are.2) (claims_further claims are.0 shapes are.1 rewind mid left are.3)
 
-refused_further : (old : Disks) (shapes : List VdevShape) (out : List Bool) (rewind : ℕ) (refusal : Refusal) → (is : IsNotOpenedOver old shapes out rewind refusal) → IsFurther old is.new
-refused_further old shapes out rewind refusal is = elim is.cause [
-  | inl it ↦ made_further no_write old is.new (through_made out is.later old is.new it.0)
-  | inr it ↦ claimed_further out is.later it.0 old is.new it.1
+refused_further : (old : Disks) (shapes : List VdevShape) (out : List Bool) (rewind : ℕ) (new : Disks) (refusal : Refusal) → IsNotOpenedOver old shapes out rewind new refusal → IsFurther old new
+refused_further old shapes out rewind new refusal is = elim is.cause [
+  | inl it ↦ made_further no_write old new (through_made out is.later old new it.0)
+  | inr it ↦ claimed_further out is.later it.0 old new it.1
 ]
 
 ended_further : (claims : ℕ) (mid : Disks) (shapes : List VdevShape) (left : List Bool) (rewind : ℕ) (new : Disks) (refusal : Refusal)
-    → IsRefusedBehind mid shapes left rewind new refusal ⊎ AreTooFewLeft claims mid shapes left new refusal → IsFurther mid new
-ended_further claims mid shapes left rewind new refusal (inl it) =
-    subst (λ (d : Disks). IsFurther mid d) (sym it.same) (refused_further mid shapes left rewind refusal it.last)
+    → IsNotOpenedOver mid shapes left rewind new refusal ⊎ AreTooFewLeft claims mid shapes left new refusal → IsFurther mid new
+ended_further claims mid shapes left rewind new refusal (inl it) = refused_further mid shapes left rewind new refusal it
 ended_further claims mid shapes left rewind new refusal (inr it) = record { newer = []; calls = ap (λ (d : Disks). d.calls) it.same }
 
 -- the call that failed in a claim did since the old disks
@@ -189,20 +185,17 @@ claim_failed old shapes out rewind next fewer new it further =
     let since = fails_later no_write old it.through.read it.ended (through_made out it.later old it.through.read it.through.before) it.which it.failed in
     fails_further old it.ended new it.which (further_on it.ended next new (made_further no_write it.ended next it.settles.flushes.makes) further) since
 
-abbrev FirstRefused : Disks → List VdevShape → List Bool → ℕ → Refusal → Disks → Type 0
-FirstRefused old shapes out rewind refusal new = (first : IsNotOpenedOver old shapes out rewind refusal) × (first.new ≡ new)
-
 refused_once : (claims : ℕ) (old : Disks) (shapes : List VdevShape) (out : List Bool) (rewind : ℕ) (mid : Disks) (left : List Bool) (new : Disks) (refusal : Refusal)
     → AreFailedClaims claims old shapes out rewind mid left
-    → IsRefusedBehind mid shapes left rewind new refusal ⊎ AreTooFewLeft claims mid shapes left new refusal → ((disk : ℕ) → ¬ HasFailedOn old new disk)
-    → FirstRefused old shapes out rewind refusal new
+    → IsNotOpenedOver mid shapes left rewind new refusal ⊎ AreTooFewLeft claims mid shapes left new refusal → ((disk : ℕ) → ¬ HasFailedOn old new disk)
+    → IsNotOpenedOver old shapes out rewind new refusal
 refused_once zero old shapes out rewind mid left new refusal are (inl it) none =
-    let P : Disks × List Bool → Type 0 = λ x. IsRefusedBehind x.0 shapes x.1 rewind new refusal → FirstRefused old shapes out rewind refusal new in
-    subst P (λ j. (sym are.0 j, sym are.1 j)) (λ behind. (behind.last, sym behind.same)) it
+    let P : Disks × List Bool → Type 0 = λ x. IsNotOpenedOver x.0 shapes x.1 rewind new refusal in
+    subst P (λ j. (are.0 j, are.1 j)) it
 refused_once zero old shapes out rewind mid left new refusal are (inr few) none = absurd (omega (arith, few.some))
 refused_once (suc claims) old shapes out rewind mid left new refusal are why none =
     let rest = further_on are.0 mid new (claims_further claims are.0 shapes are.1 rewind mid left are.3) (ended_further (suc claims) mid shapes left rewind new refusal why) in
     absurd (none are.2.which (claim_failed old shapes out rewind are.0 are.1 new are.2 rest))
 
 pub unfailing_opens_claim_once : UnfailingOpensClaimOnce
-unfailing_opens_claim_once old shapes out rewind refusal is none = refused_once is.claims old shapes out rewind is.mid is.left is.new refusal is.failed is.why none
+unfailing_opens_claim_once old shapes out rewind new refusal is none = refused_once is.claims old shapes out rewind is.mid is.left new refusal is.failed is.why none

@@ -69,13 +69,12 @@ through_survey : (out later : List Bool) (old new : Disks) → GoOut out later o
 through_survey out later old new absent = record { surveyed = new; absent = absent; blocks = none_beside later new }
 
 pub refused_at_once : (out : List Bool) (rewind : ℕ) (disks : Disks) (shapes : List VdevShape) (refusal : Refusal) → length out ≡ length disks.starts
-    → (refusal ≡ NoMemory) ⊎ ((refusal ≡ BadConfig) × ¬ MayBeOpened disks.starts shapes out) → IsNotOpenedOver disks shapes out rewind refusal
+    → (refusal ≡ NoMemory) ⊎ ((refusal ≡ BadConfig) × ¬ MayBeOpened disks.starts shapes out) → IsNotOpenedOver disks shapes out rewind disks refusal
 refused_at_once out rewind disks shapes refusal count why =
     let through = through_survey out out disks disks (none_goes out disks) in
     record {
       later = out;
       count = count;
-      new = disks;
       kept = kept_by_reads out out rewind disks disks through count;
       cause = inl (through, elim why [ inl memory ↦ inl memory | inr bad ↦ inr (inl bad) ]);
     }
@@ -83,10 +82,10 @@ refused_at_once out rewind disks shapes refusal count why =
 -- ---- disks are only read
 
 pub refused_by_survey : (out later : List Bool) (rewind : ℕ) (old new : Disks) (shapes : List VdevShape) (refusal : Refusal) → GoOut out later old new
-    → length later ≡ length old.starts → IsSurveyRefused shapes later rewind old new refusal → IsNotOpenedOver old shapes out rewind refusal
+    → length later ≡ length old.starts → IsSurveyRefused shapes later rewind old new refusal → IsNotOpenedOver old shapes out rewind new refusal
 refused_by_survey out later rewind old new shapes refusal absent count why =
     let through = through_survey out later old new absent in
-    record { later = later; count = count; new = new; kept = kept_by_reads out later rewind old new through count; cause = inl (through, inr (inr (inl why))) }
+    record { later = later; count = count; kept = kept_by_reads out later rewind old new through count; cause = inl (through, inr (inr (inl why))) }
 
 -- what was surveyed
 pub record AreSurveyed (out later : List Bool) (rewind : ℕ) (old surveyed : Disks) (s : Surveyed) : Type 0 where
@@ -107,13 +106,12 @@ root_cause out later rewind old surveyed new shapes s cause is (inr why) = inr (
 
 pub refused_by_root : (out later : List Bool) (rewind : ℕ) (old surveyed new : Disks) (shapes : List VdevShape) (s : Surveyed) (cause : RootRefusal) → AreSurveyed out later rewind old surveyed s
     → AreReadBeside later surveyed new → (cause ≡ root.NoMemory) ⊎ RootRefuses surveyed new shapes later s.claimed.group s.claimed.root (most_blocks shapes) cause
-    → IsNotOpenedOver old shapes out rewind (of_root cause)
+    → IsNotOpenedOver old shapes out rewind new (of_root cause)
 refused_by_root out later rewind old surveyed new shapes s cause are blocks why =
     let through : AreReadThrough out later old new = record { surveyed = surveyed; absent = are.absent; blocks = blocks } in
     record {
       later = later;
       count = are.count;
-      new = new;
       kept = kept_by_reads out later rewind old new through are.count;
       cause = inl (through, root_cause out later rewind old surveyed new shapes s cause are.is why);
     }
@@ -178,11 +176,10 @@ claim_fails out later left rewind old surveyed read ended new shapes s which few
 pub refused_by_core : (out later : List Bool) (rewind : ℕ) (old surveyed read new : Disks) (shapes : List VdevShape) (s : Surveyed) (contents : RootContents) (refusal : Refusal) → rewind < 3
     → AreSurveyed out later rewind old surveyed s → AreReadBeside later surveyed read → AreBegun later s read new
     → IsReadOfRoot surveyed read shapes later s.claimed.group s.claimed.root contents
-    → (refusal ≡ NoMemory) ⊎ ((refusal ≡ BadPointer) × AreMisplacedOver new shapes later contents) → IsNotOpenedOver old shapes out rewind refusal
+    → (refusal ≡ NoMemory) ⊎ ((refusal ≡ BadPointer) × AreMisplacedOver new shapes later contents) → IsNotOpenedOver old shapes out rewind new refusal
 refused_by_core out later rewind old surveyed read new shapes s contents refusal few are blocks begun root why = record {
   later = later;
   count = are.count;
-  new = new;
   kept = kept_by_claim later rewind old read new s few (still out later rewind old surveyed read s are blocks) begun;
   cause = inr (
     s.claimed,

@@ -1,16 +1,15 @@
 -- Moments of an open of disks that are in order.
-use Rattle.std.proofs.Common.{◌≡◌, inl, inr, ℕ, Bool, List, [], ◌∷◌, ◌++◌, length, All, refl, sym, ap, ◌∙◌, subst, arith}
+use Rattle.std.proofs.Common.{◌≡◌, inl, ℕ, Bool, List, [], ◌∷◌, ◌++◌, length, All, ◌∙◌}
 use Rattle.std.proofs.lemmas.List.Elements.{All-nil, All-cons}
 use Rattle.model_disk.specs.Call.{Call, Read, FailedRead, Wrote, FailedWrite, Flushed, FailedFlush}
-use Rattle.model_disk.specs.Joint.{JointCall, Disks, content, AreHonestSince}
+use Rattle.model_disk.specs.Joint.{JointCall, Disks}
 use Rattle.model_disk.specs.Runs.{Makes, WritesOnly, no_write}
 use Rattle.raidz_io.specs.Reads.{IsRead, AreReads, OnlyReads, IsHonestSince}
-use Rattle.pool_slots.specs.Slots.{InUse, MakesOn}
 use Rattle.pool_slots.specs.Surveys.{Surveyed, IsSurveyed}
 use Rattle.pool_slots.proofs.Finding.{honest_before, honest_since}
 use Rattle.pool_slots.proofs.OpenSteps.{leads_before}
 use Rattle.pool_slots.proofs.Opened.{marks_before}
-use Rattle.pool_slots.proofs.Phases.{both_made, none_same}
+use Rattle.pool_slots.proofs.Phases.{both_made}
 use Rattle.pool_slots.proofs.ReadRuns.{reads_made}
 use Rattle.pool_slots.proofs.Reading.{longer}
 use Rattle.pool_slots.proofs.Used.{are_there}

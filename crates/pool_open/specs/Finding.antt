@@ -68,9 +68,10 @@ module _ {D : Type 0} where
     pub members_are : map disk_of members ≡ map (disk_for after) layout.children.items
     pub arranged : AreArranged (map g.start after) (map g.calls after) layout.children.items (map (start_of g) members) (map (calls_of g) members) out
 
-  -- why no pool was found: the disks were read, and what they show was refused
-  pub record FindRefuses (g : disk.Ghosts D) (disks : List D) (rewind : ℕ) (refusal : Refusal) : Type 0 where
+  -- why no pool was found: the disks were read, and what they show was refused; and they are given back, as they are then
+  pub record FindRefuses (g : disk.Ghosts D) (disks : List D) (rewind : ℕ) (back : List D) (refusal : Refusal) : Type 0 where
     pub old : Disks
     pub new : Disks
     pub read : AreRead g disks old new
     pub cause : LayoutRefuses old new rewind refusal
+    pub given : IsArrayOf g back new

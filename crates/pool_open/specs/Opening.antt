@@ -7,8 +7,8 @@ use Rattle.block_store.specs.Opened.{MayBeOpened}
 use Rattle.block_store.specs.Places.{AreEmpty, shapes_of}
 use Rattle.block_store.specs.Store.{Store, is_out}
 use Rattle.block_store.specs.declared.shape.VdevShape.{VdevShape}
-use Rattle.dataset_snapshots.specs.Mapped.{SpellsWithMaps}
-use Rattle.dataset_snapshots.specs.declared.contents.RootContents.{RootContents}
+pub use Rattle.dataset_snapshots.specs.Mapped.{SpellsWithMaps}
+pub use Rattle.dataset_snapshots.specs.declared.contents.RootContents.{RootContents}
 use Rattle.pool_commit.specs.Reopened.{AreMisplaced}
 use Rattle.pool_core.specs.Represents.{Represents}
 use Rattle.pool_core.specs.State.{CoreState, disks_of}
@@ -136,10 +136,9 @@ IsOpenCause old new shapes out later rewind refusal =
     ⊎ ((claimed : Uberblock) × (through : AreClaimedThrough out later claimed old new)
     × IsCauseOfClaim old through.before.surveyed through.read new shapes later rewind refusal)
 
--- The disks are as a stop in the open might leave them, and there is a cause.
-pub record IsNotOpenedOver (old : Disks) (shapes : List VdevShape) (out : List Bool) (rewind : ℕ) (refusal : Refusal) : Type 0 where
+-- The new disks are as a stop in the open might leave the old ones, and there is a cause.
+pub record IsNotOpenedOver (old : Disks) (shapes : List VdevShape) (out : List Bool) (rewind : ℕ) (new : Disks) (refusal : Refusal) : Type 0 where
   pub later : List Bool
   pub count : length later ≡ length old.starts
-  pub new : Disks
   pub kept : IsKeptThrough later rewind old new
   pub cause : IsOpenCause old new shapes out later rewind refusal

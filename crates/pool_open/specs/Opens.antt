@@ -1,5 +1,5 @@
 -- Opening a pool on disks that are handed in, in any order.
-use Rattle.std.specs.Prelude.{ℕ, ◌≡◌, ◌⊎◌, Bool, List, map}
+use Rattle.std.specs.Prelude.{ℕ, ◌≡◌, Bool, List, map}
 use Rattle.model_disk.specs.Joint.{Disks, calls_on, log_of}
 use Rattle.model_disk.specs.Member.{calls_of, start_of}
 use Rattle.model_disk.specs.declared.disk.Disk as disk
@@ -11,6 +11,8 @@ use Rattle.uberblock_ring.specs.declared.uberblock.Uberblock.{Uberblock}
 use Rattle.pool_open.specs.Causes.{of_labels}
 use Rattle.pool_open.specs.Finding.{FindRefuses, IsFoundPool}
 use Rattle.pool_open.specs.Retried.{IsNotOpenedAtLast, IsOpenedAtLast}
+use Rattle.pool_open.specs.declared.handed_in.NotOpened.{NotOpened}
+use Rattle.pool_open.specs.declared.handed_in.NotOpened.TheVariants.{NotFound, Refused}
 use Rattle.pool_open.specs.declared.refusal.Refusal.{Refusal}
 
 module _ {D : Type 0} where
@@ -31,15 +33,23 @@ module _ {D : Type 0} where
     pub ordered : AreInOrder g disks rewind array shapes out
     pub opened : IsOpenedAtLast array shapes out rewind claimed core
 
-  -- or it was not
-  pub record IsUnopened (g : disk.Ghosts D) (disks : List D) (rewind : ℕ) (refusal : Refusal) : Type 0 where
+  -- or it was not, and its children's disks are given back, as they are then
+  pub record IsUnopened (g : disk.Ghosts D) (disks : List D) (rewind : ℕ) (back : List (Member D)) (refusal : Refusal) : Type 0 where
     pub array : Disks
     pub shapes : List VdevShape
     pub out : List Bool
     pub ordered : AreInOrder g disks rewind array shapes out
-    pub refused : IsNotOpenedAtLast array shapes out rewind refusal
+    pub new : Disks
+    pub refused : IsNotOpenedAtLast array shapes out rewind new refusal
+    pub starts : map (start_of g) back ≡ new.starts
+    pub calls : (which : ℕ) → log_of (map (calls_of g) back) which ≡ calls_on which new.calls
+
+  -- why it was not
+  abbrev pub refusal_of : NotOpened D → Refusal
+  refusal_of (NotFound refusal back) = refusal
+  refusal_of (Refused refusal back) = refusal
 
   -- why no pool is opened: none was found, or that which was found is refused
-  abbrev pub OpenRefuses : disk.Ghosts D → List D → ℕ → Refusal → Type 0
-  OpenRefuses g disks rewind refusal =
-      ((cause : LabelsRefusal) × (refusal ≡ of_labels cause) × FindRefuses g disks rewind cause) ⊎ IsUnopened g disks rewind refusal
+  abbrev pub OpenRefuses : disk.Ghosts D → List D → ℕ → NotOpened D → Type 0
+  OpenRefuses g disks rewind (NotFound refusal back) = (cause : LabelsRefusal) × (refusal ≡ of_labels cause) × FindRefuses g disks rewind back.items cause
+  OpenRefuses g disks rewind (Refused refusal back) = IsUnopened g disks rewind back.items refusal

@@ -74,11 +74,6 @@ pub record IsOpenedAtLast (old : Disks) (shapes : List VdevShape) (out : List Bo
   pub failed : AreFailedClaims claims old shapes out rewind mid left
   pub last : IsOpenedOver mid shapes left rewind claimed core
 
--- the last attempt was refused, and left the disks so
-pub record IsRefusedBehind (mid : Disks) (shapes : List VdevShape) (left : List Bool) (rewind : ℕ) (new : Disks) (refusal : Refusal) : Type 0 where
-  pub last : IsNotOpenedOver mid shapes left rewind refusal
-  pub same : new ≡ last.new
-
 -- Some claim failed, and now of a vdev more disks are out than it has parities: no other attempt is made.
 pub record AreTooFewLeft (claims : ℕ) (mid : Disks) (shapes : List VdevShape) (left : List Bool) (new : Disks) (refusal : Refusal) : Type 0 where
   pub some : 0 < claims
@@ -86,14 +81,13 @@ pub record AreTooFewLeft (claims : ℕ) (mid : Disks) (shapes : List VdevShape) 
   pub intolerable : is_tolerable (vdevs_in shapes) (is_out left) ≡ false
   pub same : new ≡ mid
 
--- Some claims failed, or none did, and then no attempt opened the disks that were left.
-pub record IsNotOpenedAtLast (old : Disks) (shapes : List VdevShape) (out : List Bool) (rewind : ℕ) (refusal : Refusal) : Type 0 where
+-- Some claims failed, or none did, and then no attempt opened the disks that were left, which are the new ones now.
+pub record IsNotOpenedAtLast (old : Disks) (shapes : List VdevShape) (out : List Bool) (rewind : ℕ) (new : Disks) (refusal : Refusal) : Type 0 where
   pub claims : ℕ
   pub mid : Disks
   pub left : List Bool
   pub failed : AreFailedClaims claims old shapes out rewind mid left
-  pub new : Disks
-  pub why : IsRefusedBehind mid shapes left rewind new refusal ⊎ AreTooFewLeft claims mid shapes left new refusal
+  pub why : IsNotOpenedOver mid shapes left rewind new refusal ⊎ AreTooFewLeft claims mid shapes left new refusal
 
 -- ---- laws
 
@@ -107,5 +101,5 @@ UndiminishedOpensClaimOnce =
 -- and so is one that was refused, if no call failed
 abbrev pub UnfailingOpensClaimOnce : Type 0
 UnfailingOpensClaimOnce =
-    (old : Disks) (shapes : List VdevShape) (out : List Bool) (rewind : ℕ) (refusal : Refusal) → (is : IsNotOpenedAtLast old shapes out rewind refusal)
-    → ((disk : ℕ) → ¬ HasFailedOn old is.new disk) → (first : IsNotOpenedOver old shapes out rewind refusal) × (first.new ≡ is.new)
+    (old : Disks) (shapes : List VdevShape) (out : List Bool) (rewind : ℕ) (new : Disks) (refusal : Refusal) → IsNotOpenedAtLast old shapes out rewind new refusal
+    → ((disk : ℕ) → ¬ HasFailedOn old new disk) → IsNotOpenedOver old shapes out rewind new refusal

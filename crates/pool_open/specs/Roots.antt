@@ -65,7 +65,6 @@ RootRefuses old new shapes out group root most refusal =
     ((refusal ≡ Unread BadConfig) × ¬ MayBeOpened old.starts shapes out) ⊎ IsRootRefused old new shapes out group root most refusal
 
 -- the disks were only read until then
-pub record IsRootNotRead (old : Disks) (shapes : List VdevShape) (out : List Bool) (group : ℕ) (root : Block) (most : ℕ) (refusal : Refusal) : Type 0 where
-  pub new : Disks
+pub record IsRootNotRead (old new : Disks) (shapes : List VdevShape) (out : List Bool) (group : ℕ) (root : Block) (most : ℕ) (refusal : Refusal) : Type 0 where
   pub only : AreReadBeside out old new
   pub why : (refusal ≡ NoMemory) ⊎ RootRefuses old new shapes out group root most refusal

@@ -9,7 +9,7 @@ ghost use Rattle.pool_slots.specs.Slots.{HaveLabels};
 
 use crate::opening::{OpenedPool, core_over, fitting, survey_disks};
 use crate::refusal::Refusal;
-use crate::roots::{ReadRoot, read_root};
+use crate::roots::read_root;
 use crate::settling::settle_without;
 use crate::tolerance::{are_tolerable, count_sectors};
 use block_store::{VdevShape, writes_elsewhere_keep};
@@ -42,26 +42,31 @@ fn read_pool<D: Disk + Drop>(
     shapes: &[VdevShape],
     out: Vec<bool>,
     rewind: u64,
-) -> Result<ReadPool<D>, Refusal>
+) -> Result<ReadPool<D>, (Refusal, DiskArray<D>)>
     requires may { MayBeOpened disks.starts shapes.now out.items }
     requires labels { HaveLabels disks.starts }
     ensures read { IfOk result (λ read. IsPoolRead disks shapes.now out.items read.out.items
         rewind read.survey read.contents read.disks) }
-    ensures refused { IfErr result (IsNotOpenedOver disks shapes.now out.items rewind) }
+    ensures refused { IfErr result (λ failed.
+        IsNotOpenedOver disks shapes.now out.items rewind failed.1 failed.0) }
 {
     let mut out = out;
     let mut disks = disks;
-    let survey = survey_disks(alloc, &mut disks, &mut out, shapes, rewind)?;
+    let survey = match survey_disks(alloc, &mut disks, &mut out, shapes, rewind) {
+        Ok(survey) => survey,
+        Err(refusal) => return Err((refusal, disks)),
+    };
     let taken = survey.claimed();
     let left = count_sectors(shapes);
-    let read = read_root(alloc, disks, shapes, &out, &taken.root, taken.group, left)?;
-    let ReadRoot { disks, contents } = read;
-    Ok(ReadPool {
-        disks,
-        out,
-        survey,
-        contents,
-    })
+    match read_root(alloc, disks, shapes, &out, &taken.root, taken.group, left) {
+        Ok(read) => Ok(ReadPool {
+            disks: read.disks,
+            out,
+            survey,
+            contents: read.contents,
+        }),
+        Err((refusal, disks)) => Err((Refusal::from(refusal), disks)),
+    }
 }
 
 /// One attempt to open a pool over disks that a store may be opened over.
@@ -71,13 +76,14 @@ fn open_once<D: Disk + Drop>(
     shapes: &[VdevShape],
     out: Vec<bool>,
     rewind: u64,
-) -> Result<Attempt<D>, Refusal>
+) -> Result<Attempt<D>, (Refusal, DiskArray<D>)>
     requires rewind { rewind < 3 }
     requires may { MayBeOpened disks.starts shapes.now out.items }
     requires labels { HaveLabels disks.starts }
     requires laid { IsLaidOver disks shapes.now out.items }
     ensures attempted { IfOk result (IsAttempt D.Disk disks shapes.now out.items rewind) }
-    ensures refused { IfErr result (IsNotOpenedOver disks shapes.now out.items rewind) }
+    ensures refused { IfErr result (λ failed.
+        IsNotOpenedOver disks shapes.now out.items rewind failed.1 failed.0) }
 {
     writes_elsewhere_keep();
     let read = read_pool(alloc, disks, shapes, out, rewind)?;
@@ -109,20 +115,21 @@ fn open_left<D: Disk + Drop>(
     shapes: &[VdevShape],
     out: Vec<bool>,
     rewind: u64,
-) -> Result<OpenedPool<D>, Refusal>
+) -> Result<OpenedPool<D>, (Refusal, DiskArray<D>)>
     requires rewind { rewind < 3 }
     requires may { MayBeOpened disks.starts shapes.now out.items }
     requires labels { HaveLabels disks.starts }
     requires laid { IsLaidOver disks shapes.now out.items }
     ensures opened { IfOk result (λ pool.
         IsOpenedAtLast disks shapes.now out.items rewind pool.uberblock (state_of pool.core)) }
-    ensures refused { IfErr result (IsNotOpenedAtLast disks shapes.now out.items rewind) }
+    ensures refused { IfErr result (λ failed.
+        IsNotOpenedAtLast disks shapes.now out.items rewind failed.1 failed.0) }
 {
     match open_once(alloc, disks, shapes, out, rewind)? {
         Attempt::Opened(pool) => Ok(pool),
         Attempt::ClaimFailed { disks, out } => {
             if !are_tolerable(shapes, &out) {
-                return Err(Refusal::TooManyMissing);
+                return Err((Refusal::TooManyMissing, disks));
             }
             open_left(alloc, disks, shapes, out, rewind)
         }
@@ -140,19 +147,20 @@ fn open_left<D: Disk + Drop>(
 /// `TooManyMissing` where of a vdev more disks are out than it has parities, as they were absent, or a read, or a claim failed on them;
 /// `BadPointer`, `BadDigest`, `DiskFault` and `BadMap` come from reading what the root holds. Where no claim was begun nothing was written.
 /// `BadPointer` also where a space map is of no metaslab before a meta region, or a block of the meta object set lies in no place of the
-/// pool or shares a sector with another.
+/// pool or shares a sector with another. After an error the disks come back.
 pub fn open_over<D: Disk + Drop>(
     alloc: Global,
     disks: DiskArray<D>,
     shapes: &[VdevShape],
     out: Vec<bool>,
     rewind: u64,
-) -> Result<OpenedPool<D>, Refusal>
+) -> Result<OpenedPool<D>, (Refusal, DiskArray<D>)>
     requires rewind { rewind < 3 }
     requires out { length out.items ≡ length disks.starts }
     ensures opened { IfOk result (λ pool.
         IsOpenedAtLast disks shapes.now out.items rewind pool.uberblock (state_of pool.core)) }
-    ensures refused { IfErr result (IsNotOpenedAtLast disks shapes.now out.items rewind) }
+    ensures refused { IfErr result (λ failed.
+        IsNotOpenedAtLast disks shapes.now out.items rewind failed.1 failed.0) }
 {
     let disks = fitting(alloc, disks, shapes, &out)?;
     open_left(alloc, disks, shapes, out, rewind)

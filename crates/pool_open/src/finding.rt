@@ -85,20 +85,25 @@ fn lay_out<D: Disk + Drop>(
 
 /// Finds a pool on disks that are handed in, in any order: reads their labels and slots, takes the greatest uberblock that
 /// they show, or where it goes back (`rewind`, 1 or 2) the one that is so many groups less, and puts the disks in the order of
-/// its configuration. Nothing is written. Disks that are none of its children are dropped, and so are all where it is refused.
+/// its configuration. Nothing is written. Disks that are none of its children are dropped.
 ///
-/// The refusals are those of `pool_labels::choose`, in their order (this project's profile).
+/// The refusals are those of `pool_labels::choose`, in their order (this project's profile). Then the disks come back, as they were handed
+/// in.
 pub fn find<D: Disk + Drop>(
     alloc: Global,
     disks: Vec<D>,
     rewind: u64,
-) -> Result<FoundPool<D>, Refusal>
+) -> Result<FoundPool<D>, (Refusal, Vec<D>)>
     ensures found { IfOk result (λ pool. IsFoundPool D.Disk disks.items rewind
         pool.disks.items pool.out.items pool.shapes.items pool.highest pool.taken) }
-    ensures refused { IfErr result (FindRefuses D.Disk disks.items rewind) }
+    ensures refused { IfErr result (λ failed.
+        FindRefuses D.Disk disks.items rewind failed.1.items failed.0) }
 {
     let mut array = DiskArray::new(disks);
-    let layout = lay_out(alloc, &mut array, rewind)?;
+    let layout = match lay_out(alloc, &mut array, rewind) {
+        Ok(layout) => layout,
+        Err(refusal) => return Err((refusal, array.into_disks())),
+    };
     let Layout {
         children,
         shapes,
@@ -113,8 +118,8 @@ pub fn find<D: Disk + Drop>(
             highest,
             taken,
         }),
-        Err(pool_members::Refusal::NoMemory) => Err(Refusal::NoMemory),
+        Err((pool_members::Refusal::NoMemory, disks)) => Err((Refusal::NoMemory, disks)),
         // A disk has one guid, and so is one child.
-        Err(pool_members::Refusal::NotEachOnce) => unreachable!(),
+        Err((pool_members::Refusal::NotEachOnce, _)) => unreachable!(),
     }
 }

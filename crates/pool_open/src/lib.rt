@@ -18,7 +18,7 @@ pub use attempts::open_over;
 pub use children::children_of;
 pub use exporting::{NotExported, export};
 pub use finding::{FoundPool, find};
-pub use handed_in::open;
+pub use handed_in::{NotOpened, open};
 pub use laws::{
     alike_stores_hold_alike, claims_keep_what_is_held, claims_spare_blocks,
     exports_may_be_reopened, stopped_can_be_opened, unfailing_opens_claim_once,

@@ -41,23 +41,26 @@ pub struct OpenedPool<D: Disk + Drop> {
     pub uberblock: Uberblock,
 }
 
-/// The disks, where a store may be opened over them.
+/// The disks, where a store may be opened over them; else they come back in the error.
 pub(crate) fn fitting<D: Disk + Drop>(
     alloc: Global,
     disks: DiskArray<D>,
     shapes: &[VdevShape],
     out: &[bool],
-) -> Result<DiskArray<D>, Refusal>
+) -> Result<DiskArray<D>, (Refusal, DiskArray<D>)>
     ensures same { IfOk result (λ array. array ≡ disks) }
     ensures may { IfOk result (λ _. MayBeOpened disks.starts shapes.now out.now) }
     ensures labels { IfOk result (λ _. HaveLabels disks.starts) }
     ensures laid { IfOk result (λ _. IsLaidOver disks shapes.now out.now) }
-    ensures refused { IfErr result (λ refusal. (refusal ≡ Refusal.NoMemory)
-        ⊎ ((refusal ≡ Refusal.BadConfig) × ¬ MayBeOpened disks.starts shapes.now out.now)) }
+    ensures refused { IfErr result (λ failed. (failed.0 ≡ Refusal.NoMemory)
+        ⊎ ((failed.0 ≡ Refusal.BadConfig) × ¬ MayBeOpened disks.starts shapes.now out.now)) }
+    ensures back { IfErr result (λ failed. failed.1 ≡ disks) }
 {
     labels_of_opened_lie();
-    let store = BlockStore::opened(alloc, disks, shapes, out)?;
-    Ok(store.into_array())
+    match BlockStore::opened(alloc, disks, shapes, out) {
+        Ok(store) => Ok(store.into_array()),
+        Err((refusal, disks)) => Err((Refusal::from(refusal), disks)),
+    }
 }
 
 /// Surveys the disks in use. `NoUberblock` also where no group is left after the one that is taken, and `TooManyMissing` where of a vdev
@@ -104,7 +107,7 @@ fn of_core(cause: pool_model::Refusal) -> Refusal
 }
 
 /// The core of a pool whose disks show this uberblock, with what was read of its root; it goes on under that claim. No disk is called.
-/// `BadPointer` where a block has no place of the pool, or two blocks share a sector.
+/// `BadPointer` where a block has no place of the pool, or two blocks share a sector. After an error the disks come back.
 pub fn core_over<D: Disk + Drop>(
     alloc: Global,
     disks: DiskArray<D>,
@@ -112,7 +115,7 @@ pub fn core_over<D: Disk + Drop>(
     out: &[bool],
     claimed: &Uberblock,
     contents: RootContents,
-) -> Result<Core<D>, Refusal>
+) -> Result<Core<D>, (Refusal, DiskArray<D>)>
     requires may { MayBeOpened disks.starts shapes.now out.now }
     requires claim { IsNumber claimed.now.claim }
     requires below { claimed.now.group < greatest }
@@ -129,12 +132,16 @@ pub fn core_over<D: Disk + Drop>(
         → SpellsWithMaps stored shapes.now claimed.now.group claimed.now.root pool
         → IsMadeBy claimed.now.group pool → Represents (state_of core)
         (opened_as (vdevs_in shapes.now) (is_out out.now) claimed.now.group pool)) }
-    ensures refused { IfErr result (λ refusal. (refusal ≡ Refusal.NoMemory)
-        ⊎ ((refusal ≡ Refusal.BadPointer)
+    ensures refused { IfErr result (λ failed. (failed.0 ≡ Refusal.NoMemory)
+        ⊎ ((failed.0 ≡ Refusal.BadPointer)
         × AreMisplacedOver disks shapes.now out.now contents)) }
+    ensures back { IfErr result (λ failed. failed.1 ≡ disks) }
 {
     labels_of_opened_lie();
-    let store = BlockStore::opened(alloc, disks, shapes, out)?;
+    let store = match BlockStore::opened(alloc, disks, shapes, out) {
+        Ok(store) => store,
+        Err((refusal, disks)) => return Err((Refusal::from(refusal), disks)),
+    };
     let stamp = Stamp {
         guid_sum: claimed.guid_sum,
         claim: claimed.claim,
@@ -142,6 +149,6 @@ pub fn core_over<D: Disk + Drop>(
     };
     match Core::opened(alloc, store, stamp, claimed.group, claimed.root, contents) {
         Ok(core) => Ok(core),
-        Err(cause) => Err(of_core(cause)),
+        Err((cause, disks)) => Err((of_core(cause), disks)),
     }
 }

@@ -21,7 +21,7 @@ pub struct ReadRoot<D: Disk + Drop> {
 /// whatever the root is.
 ///
 /// `BadConfig` where the vdevs don't take all disks in order, or a disk is too small for its vdev. `BadPointer`, `BadDigest`,
-/// `DiskFault` and `BadMap` come from reading, as `contents_under` says; then the disks are dropped.
+/// `DiskFault` and `BadMap` come from reading, as `contents_under` says. After an error the disks come back.
 pub fn read_root<D: Disk + Drop>(
     alloc: Global,
     disks: DiskArray<D>,
@@ -30,18 +30,23 @@ pub fn read_root<D: Disk + Drop>(
     root: &Block,
     group: u64,
     left: u64,
-) -> Result<ReadRoot<D>, Refusal>
+) -> Result<ReadRoot<D>, (Refusal, DiskArray<D>)>
     ensures only { IfOk result (λ read. AreReadBeside out.now disks read.disks) }
     ensures contents { IfOk result (λ read.
         IsReadOfRoot disks read.disks shapes.now out.now group root.now read.contents) }
-    ensures refused { IfErr result
-        (IsRootNotRead disks shapes.now out.now group root.now left) }
+    ensures refused { IfErr result (λ failed.
+        IsRootNotRead disks failed.1 shapes.now out.now group root.now left failed.0) }
 {
-    let mut store = BlockStore::opened(alloc, disks, shapes, out)?;
+    let mut store = match BlockStore::opened(alloc, disks, shapes, out) {
+        Ok(store) => store,
+        Err((refusal, disks)) => return Err((Refusal::from(refusal), disks)),
+    };
     let mut left = left;
-    let contents = contents_under(root, &mut store, alloc, group, &mut left, &[])?;
-    Ok(ReadRoot {
-        disks: store.into_array(),
-        contents,
-    })
+    match contents_under(root, &mut store, alloc, group, &mut left, &[]) {
+        Ok(contents) => Ok(ReadRoot {
+            disks: store.into_array(),
+            contents,
+        }),
+        Err(refusal) => Err((refusal, store.into_array())),
+    }
 }

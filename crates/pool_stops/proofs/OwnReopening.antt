@@ -11,7 +11,9 @@ use Rattle.pool_model.specs.Pools.{PlainPool}
 use Rattle.pool_open.specs.Causes.{of_labels}
 use Rattle.pool_open.specs.Opening.{IsKeptThrough, IsNotOpenedOver, IsOpenedOver}
 use Rattle.std.specs.Prelude.{◌^◌}
-use Rattle.pool_open.specs.Opens.{OpenRefuses}
+use Rattle.pool_open.specs.Opens.{OpenRefuses, refusal_of}
+use Rattle.pool_open.specs.declared.handed_in.NotOpened.{NotOpened}
+use Rattle.pool_open.specs.declared.handed_in.NotOpened.TheVariants.{NotFound, Refused}
 use Rattle.pool_open.specs.Stops.{fresh}
 use Rattle.pool_open.specs.declared.refusal.Refusal.{Refusal}
 use Rattle.pool_open.specs.declared.refusal.Refusal.TheVariants.{NoMemory}
@@ -159,12 +161,12 @@ module _ {images : List (List ℕ)} {shapes : List VdevShape} {out : List Bool} 
 unopened_so : UnhinderedOpensAreDone → (images : List (List ℕ)) (shapes : List VdevShape) (out : List Bool) (p : Possible) (pools : Uberblock → PlainPool)
     (array : Disks) (its_shapes : List VdevShape) (its_out : List Bool) (refusal : Refusal) → IsArranged images shapes out array its_shapes its_out
     → LeadToWholePools (fresh images) shapes out p pools → AreAllThere images shapes out → HaveLeft out (fresh images)
-    → (is : IsNotOpenedOver array its_shapes its_out 0 refusal) → AnswerTruly array is.new → refusal ≡ NoMemory
+    → (back : Disks) → IsNotOpenedOver array its_shapes its_out 0 back refusal → AnswerTruly array back → refusal ≡ NoMemory
 unopened_so law images shapes out p pools array its_shapes its_out refusal are led there left =
-    let P : List VdevShape × List Bool → Type 0 = λ x. (is : IsNotOpenedOver array x.0 x.1 0 refusal) → AnswerTruly array is.new → refusal ≡ NoMemory in
+    let P : List VdevShape × List Bool → Type 0 = λ x. (back : Disks) → IsNotOpenedOver array x.0 x.1 0 back refusal → AnswerTruly array back → refusal ≡ NoMemory in
     subst P (λ j. (sym are.shapes_are j, sym are.out_is j))
-    (λ is truly.
-    law array shapes out p pools refusal (lead_so p pools are led) (all_there_so are there) is (record {
+    (λ back is truly.
+    law array shapes out p pools refusal (lead_so p pools are led) (all_there_so are there) back is (record {
       left = record {
         groups = λ u read. left.groups u (read_back are u read);
         claims = λ u top used. left.claims u (highest_back are u top) (used_up_back are u used);
@@ -204,24 +206,24 @@ stopped_so law pool vdevs digest images shapes out p pools array new its_shapes 
 
 module _ {D : Type 0} where
   refused_so : UnhinderedOpensAreDone → (g : disk.Ghosts D) (pool : ℕ) (vdevs : List PlainVdev) (digest : List ℕ) (images : List (List ℕ))
-      (shapes : List VdevShape) (out : List Bool) (p : Possible) (pools : Uberblock → PlainPool) (disks : List D) (order : List ℕ) (refusal : Refusal)
+      (shapes : List VdevShape) (out : List Bool) (p : Possible) (pools : Uberblock → PlainPool) (disks : List D) (order : List ℕ) (failed : NotOpened D)
       → LeadToOwnPools pool vdevs digest images shapes out p pools → AreReturned g images disks order → HaveLeft out (fresh images)
-      → (why : OpenRefuses g disks 0 refusal) → IsRefusedTruly g disks 0 refusal why → refusal ≡ NoMemory
-  refused_so law g pool vdevs digest images shapes out p pools disks order refusal it returned left (inl (cause, same, found)) truly =
+      → (why : OpenRefuses g disks 0 failed) → IsRefusedTruly g disks 0 failed why → refusal_of failed ≡ NoMemory
+  refused_so law g pool vdevs digest images shapes out p pools disks order (NotFound refusal back) it returned left (cause, same, found) truly =
       same ∙ ap of_labels (own_disks_are_found pool vdevs shapes out images (map g.start disks) order found.old found.new cause it.are
       (show_highest pool vdevs digest images shapes out p pools it left) returned.handed_in
       (uncalled_yet g images disks order found.old returned found.read.before) truly found.cause)
-  refused_so law g pool vdevs digest images shapes out p pools disks order refusal it returned left (inr found) truly =
-      let once = unfailing_opens_claim_once found.array found.shapes found.out 0 refusal found.refused truly.1.none_failed in
+  refused_so law g pool vdevs digest images shapes out p pools disks order (Refused refusal back) it returned left found truly =
+      let once = unfailing_opens_claim_once found.array found.shapes found.out 0 found.new refusal found.refused truly.1.none_failed in
       unopened_so law images shapes out p pools found.array found.shapes found.out refusal
       (is_arranged g pool vdevs images shapes out disks order 0 found.array found.shapes found.out it.are returned found.ordered truly.0)
-      it.led it.are.there left once.0 (subst (λ (d : Disks). AnswerTruly found.array d) (sym once.1) truly.1)
+      it.led it.are.there left found.new once truly.1
 
   pub own_pools_open_again : UnhinderedOpensAreDone → OpenedPoolsRunAs → OpenedPoolsAreOnTheirDisks → StoppedOpensLeadToOwnPools → (g : disk.Ghosts D)
       → OwnPoolsOpenAgain g
   own_pools_open_again law runs own stop g pool vdevs digest images shapes out p pools it = record {
-    refused = λ disks order refusal returned left why truly.
-        refused_so law g pool vdevs digest images shapes out p pools disks order refusal it returned left why truly;
+    refused = λ disks order failed returned left why truly.
+        refused_so law g pool vdevs digest images shapes out p pools disks order failed it returned left why truly;
     done = λ disks order rewind claimed core returned is truly few.
         let once = undiminished_opens_claim_once is.array is.shapes is.out rewind claimed core is.opened truly.all in
         opened_so runs own pool vdevs digest images shapes out p pools is.array is.shapes is.out rewind claimed core it

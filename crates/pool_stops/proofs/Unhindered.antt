@@ -285,8 +285,8 @@ claim_case old new shapes out p pools claimed refusal led free through (inr (bad
 -- ---- the law
 
 pub unhindered_opens_are_done : LossesAreNotTolerable → UnhinderedOpensAreDone
-unhindered_opens_are_done law old shapes out p pools refusal led there is unhindered =
-    let free : IsFree old is.new shapes out = record {
+unhindered_opens_are_done law old shapes out p pools refusal led there new is unhindered =
+    let free : IsFree old new shapes out = record {
       none = there.none;
       may = there.may;
       groups = unhindered.left.groups;
@@ -295,19 +295,19 @@ unhindered_opens_are_done law old shapes out p pools refusal led there is unhind
       none_failed = unhindered.truly.none_failed;
     } in
     let count : length is.later ≡ length out = is.count ∙ sym free.may.flags in
-    let R : List Bool → Type 0 = λ later. (through : AreReadThrough out later old is.new) × IsCauseOfReading old through.surveyed is.new shapes out later 0 refusal in
-    let C : List Bool → Type 0 = λ later. (claimed : Uberblock) × (through : AreClaimedThrough out later claimed old is.new)
-    × IsCauseOfClaim old through.before.surveyed through.read is.new shapes later 0 refusal in
+    let R : List Bool → Type 0 = λ later. (through : AreReadThrough out later old new) × IsCauseOfReading old through.surveyed new shapes out later 0 refusal in
+    let C : List Bool → Type 0 = λ later. (claimed : Uberblock) × (through : AreClaimedThrough out later claimed old new)
+    × IsCauseOfClaim old through.before.surveyed through.read new shapes later 0 refusal in
     ⊎_elim
     (λ (it : R is.later).
-    let all = all_stay out is.later old it.0.surveyed is.new no_write count free.none free.none_failed it.0.absent (block_reads_made it.0.surveyed is.new it.0.blocks.only) in
+    let all = all_stay out is.later old it.0.surveyed new no_write count free.none free.none_failed it.0.absent (block_reads_made it.0.surveyed new it.0.blocks.only) in
     let at : R out = subst R all it in
-    reading_case law old is.new shapes out p pools refusal led free at.0 at.1)
+    reading_case law old new shapes out p pools refusal led free at.0 at.1)
     (λ (it : C is.later).
     let through = it.1 in
-    let gone : (disk : ℕ) → ¬ HasFailedOn old through.read disk = λ disk failed. free.none_failed disk (fails_before _ old through.read is.new disk through.claims.makes failed) in
+    let gone : (disk : ℕ) → ¬ HasFailedOn old through.read disk = λ disk failed. free.none_failed disk (fails_before _ old through.read new disk through.claims.makes failed) in
     let all = all_stay out is.later old through.before.surveyed through.read no_write count free.none gone through.before.absent
     (block_reads_made through.before.surveyed through.read through.before.blocks.only) in
     let at : C out = subst C all it in
-    claim_case old is.new shapes out p pools at.0 refusal led free at.1 at.2)
+    claim_case old new shapes out p pools at.0 refusal led free at.1 at.2)
     is.cause

@@ -1,6 +1,5 @@
 -- Pools are opened again on their own disks, handed in in any order.
 use Rattle.std.specs.Prelude.{ℕ, ◌≡◌, ◌<◌, ◌≤◌, ◌^◌, Bool, [], List, length, map, Contains}
-use mathlib.Core.Logic.{inl, inr}
 use Rattle.model_disk.specs.Joint.{Disks}
 use Rattle.model_disk.specs.declared.disk.Disk as disk
 use Rattle.raidz_io.specs.Reads.{IsHonestSince}
@@ -16,9 +15,10 @@ use Rattle.pool_model.specs.declared.step.Reply.{Reply}
 use Rattle.pool_model.specs.declared.step.Step.{Step}
 use Rattle.pool_open.specs.Exporting.{IsExportBegun}
 use Rattle.pool_open.specs.Opening.{IsKeptThrough}
-use Rattle.pool_open.specs.Opens.{AreInOrder, IsOpened, OpenRefuses}
+use Rattle.pool_open.specs.Opens.{AreInOrder, IsOpened, OpenRefuses, refusal_of}
 use Rattle.pool_open.specs.Stops.{fresh}
-use Rattle.pool_open.specs.declared.refusal.Refusal.{Refusal}
+use Rattle.pool_open.specs.declared.handed_in.NotOpened.{NotOpened}
+use Rattle.pool_open.specs.declared.handed_in.NotOpened.TheVariants.{NotFound, Refused}
 use Rattle.pool_open.specs.declared.refusal.Refusal.TheVariants.{NoMemory}
 use Rattle.pool_slots.specs.Commits.{only_last}
 use Rattle.pool_slots.specs.Opens.{AreKnown}
@@ -47,9 +47,9 @@ module _ {D : Type 0} where
     pub uncalled : (d : D) → Contains disks d → g.calls d ≡ []
 
   -- an open of them that was refused: each of its answers was true, and none of its calls failed
-  abbrev pub IsRefusedTruly : (g : disk.Ghosts D) (disks : List D) (rewind : ℕ) (refusal : Refusal) → OpenRefuses g disks rewind refusal → Type 0
-  IsRefusedTruly g disks rewind refusal (inl (cause, same, it)) = AnswerTruly it.old it.new
-  IsRefusedTruly g disks rewind refusal (inr it) = AnswerTruly it.ordered.found.old it.ordered.found.new × AnswerTruly it.array it.refused.new
+  abbrev pub IsRefusedTruly : (g : disk.Ghosts D) (disks : List D) (rewind : ℕ) (failed : NotOpened D) → OpenRefuses g disks rewind failed → Type 0
+  IsRefusedTruly g disks rewind (NotFound refusal back) (cause, same, it) = AnswerTruly it.old it.new
+  IsRefusedTruly g disks rewind (Refused refusal back) it = AnswerTruly it.ordered.found.old it.ordered.found.new × AnswerTruly it.array it.new
 
   -- one that was done: the same, and no disk went out
   pub record IsOpenedTruly {g : disk.Ghosts D} {disks : List D} {rewind : ℕ} {claimed : Uberblock} {core : CoreState}
@@ -63,8 +63,8 @@ module _ {D : Type 0} where
   -- pool, which only reads, it leaves such disks again.
   pub record OpenAgain (g : disk.Ghosts D) (pool : ℕ) (vdevs : List PlainVdev) (digest : List ℕ) (images : List (List ℕ)) (shapes : List VdevShape)
       (out : List Bool) (p : Possible) (pools : Uberblock → PlainPool) : Type 0 where
-    pub refused : (disks : List D) (order : List ℕ) (refusal : Refusal) → AreReturned g images disks order → HaveLeft out (fresh images)
-        → (why : OpenRefuses g disks 0 refusal) → IsRefusedTruly g disks 0 refusal why → refusal ≡ NoMemory
+    pub refused : (disks : List D) (order : List ℕ) (failed : NotOpened D) → AreReturned g images disks order → HaveLeft out (fresh images)
+        → (why : OpenRefuses g disks 0 failed) → IsRefusedTruly g disks 0 failed why → refusal_of failed ≡ NoMemory
     pub done : (disks : List D) (order : List ℕ) (rewind : ℕ) (claimed : Uberblock) (core : CoreState) → AreReturned g images disks order
         → (is : IsOpened g disks rewind claimed core) → IsOpenedTruly is → length images ≤ 2 ^ 64
         → IsOpenedAs digest p pools shapes out rewind claimed core × IsOnItsDisks pool vdevs core claimed []

@@ -55,5 +55,5 @@ pub record IsUnhindered (old new : Disks) (out : List Bool) : Type 0 where
 abbrev pub UnhinderedOpensAreDone : Type 0
 UnhinderedOpensAreDone =
     (old : Disks) (shapes : List VdevShape) (out : List Bool) (p : Possible) (pools : Uberblock → PlainPool) (refusal : Refusal)
-    → LeadToWholePools old shapes out p pools → AreAllThere old.starts shapes out → (is : IsNotOpenedOver old shapes out 0 refusal)
-    → IsUnhindered old is.new out → refusal ≡ NoMemory
+    → LeadToWholePools old shapes out p pools → AreAllThere old.starts shapes out
+    → (back : Disks) → IsNotOpenedOver old shapes out 0 back refusal → IsUnhindered old back out → refusal ≡ NoMemory

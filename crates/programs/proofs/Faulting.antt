@@ -14,7 +14,7 @@ use Rattle.programs.specs.declared.refusal.Refusal.{Refusal}
 use Rattle.programs.specs.declared.refusal.Refusal.TheVariants.{Line as LineFault, Input, Output, Memory}
 use Rattle.programs.specs.declared.outcome.Outcome.{Outcome}
 use Rattle.programs.specs.Answers.{IsFirst}
-use Rattle.programs.specs.Faults.{counted, SpellsNothing, NextIs, Skips, ReadsCommand, IsLineFault, IsNextFault, IsNoLine, CannotGoOn, StopsPool, IsPoolFault, PrintsBefore, StopsAtLine, IsFaultOf}
+use Rattle.programs.specs.Faults.{counted, Skips, ReadsCommand, IsLineFault, IsNextFault, IsNoLine, CannotGoOn, StopsPool, IsPoolFault, PrintsBefore, StopsAtLine, IsFaultOf}
 use Rattle.programs.specs.Outcomes.{IsOutcomeText}
 use Rattle.programs.specs.Plays.{Plays, AnswersAll}
 use Rattle.programs.specs.Reads.{ReadsLines, Reads, IsSchedule, commands_of}

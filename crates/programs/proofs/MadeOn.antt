@@ -1,5 +1,5 @@
 -- Pools that are made on blank disks.
-use Rattle.std.proofs.Common.{◌≡◌, ℕ, List, map, length, inl, inr, refl}
+use Rattle.std.proofs.Common.{◌≡◌, List}
 use Rattle.model_disk.specs.Joint.{Disks}
 use Rattle.model_disk.specs.declared.memory.MemDisk.{MemDisk}
 use Rattle.model_disk.specs.contracts.memory.MemDiskDisk.TheImpl.{ghosts}

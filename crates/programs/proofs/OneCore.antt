@@ -7,7 +7,6 @@ use Rattle.pool_model.specs.View.{View}
 use Rattle.schedule_lines.specs.declared.command.Command.{Command}
 use Rattle.schedule_lines.specs.declared.command.StopPoint.{StopPoint}
 use Rattle.programs.specs.declared.outcome.Outcome.{Outcome}
-use Rattle.programs.specs.declared.stopping.Point.{Point}
 use Rattle.programs.specs.Answers.{IsNoStep}
 use Rattle.programs.specs.OnDisks.{ComesOf, PoolState, StopsThere, TakesSteps}
 use Rattle.programs.specs.Outcomes.{Replies}

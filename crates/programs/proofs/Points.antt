@@ -1,5 +1,5 @@
 -- Numbers of disks, and replies that are counted.
-use Rattle.std.proofs.Common.{◌≡◌, ◌+◌, ◌<◌, ◌||◌, ℕ, nat_eq, take, get_or, List, [], ◌∷◌, ◌++◌, length, filter, Bool, true, false, if◌then◌else◌, ap, ◌∙◌, length-append, arith}
+use Rattle.std.proofs.Common.{◌≡◌, ◌+◌, ◌<◌, ◌||◌, ℕ, nat_eq, take, get_or, List, [], ◌∷◌, ◌++◌, length, filter, Bool, true, false, if◌then◌else◌, ap, ◌∙◌, length-append}
 use Rattle.std.proofs.lemmas.List.Elements.{filter-append}
 use Rattle.std.proofs.lemmas.List.Folds.{list_any_more}
 use Rattle.pool_model.specs.declared.step.Phase.{Phase}

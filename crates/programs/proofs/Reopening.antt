@@ -3,7 +3,8 @@ use Rattle.std.proofs.Common.{◌≡◌, ◌⊎◌, inl, inr, List, Some, None, 
 use Rattle.model_disk.specs.contracts.memory.MemDiskDisk.TheImpl.{ghosts}
 use Rattle.model_disk.specs.declared.memory.MemDisk.{MemDisk}
 use Rattle.pool_core.specs.State.{CoreState}
-use Rattle.pool_open.specs.Opens.{IsOpened, OpenRefuses}
+use Rattle.pool_open.specs.Opens.{IsOpened, OpenRefuses, refusal_of}
+use Rattle.pool_open.specs.declared.handed_in.NotOpened.{NotOpened}
 use Rattle.pool_open.specs.declared.refusal.Refusal.{Refusal}
 use Rattle.schedule_lines.specs.declared.command.ReopenLine.{ReopenLine}
 use Rattle.uberblock_ring.specs.declared.uberblock.Uberblock.{Uberblock}
@@ -46,15 +47,15 @@ reopened old before new line copies core claimed outcome are opened (inr stops) 
   keeps = subst (λ b. KeepsClaim b stops.0 line.rewind outcome new) (λ i. state_with (are.none i) before.disks (are.absent i) (are.stop i)) stops.2;
 })
 
-pub unopened : (old before : PoolState) (line : ReopenLine) (copies : List MemDisk) (refusal : Refusal) → AreHandedIn old line before copies
-    → OpenRefuses ghosts copies line.rewind refusal → Reopens old line (Unopened refusal) before
-unopened old before line copies refusal are refused = record {
+pub unopened : (old before : PoolState) (line : ReopenLine) (copies : List MemDisk) (failed : NotOpened MemDisk) (refusal : Refusal) → AreHandedIn old line before copies
+    → refusal ≡ refusal_of failed → OpenRefuses ghosts copies line.rewind failed → Reopens old line (Unopened refusal) before
+unopened old before line copies failed refusal are same refused = record {
   disks = before.disks;
   closes = are.closes;
   copies = copies;
   copied = subst (λ out. AreCopies (present out before.disks) copies) are.absent are.copied;
   core = None;
-  opens = (refl, refused);
+  opens = (refl, failed, same, refused);
   endless = inl refl;
   same = λ i. state_with (are.none i) before.disks (are.absent i) (are.stop i);
 }

@@ -1,5 +1,5 @@
 -- Steps of what a machine shows, and what a pool on disks shows.
-use Rattle.std.proofs.Common.{◌≡◌, ℕ, List, [], ◌∷◌, Bool, true, false, Option, Some, None, MatchOption, Result, Ok, Err, refl}
+use Rattle.std.proofs.Common.{◌≡◌, ℕ, List, [], ◌∷◌, Bool, true, false, Option, Some, None, MatchOption, Result, Ok, Err}
 use Rattle.std.specs.Result.{IfOk}
 use Rattle.model_disk.specs.declared.memory.MemDisk.{MemDisk}
 use Rattle.pool_core.specs.State.{CoreState}

@@ -9,7 +9,8 @@ use Rattle.pool_core.specs.State.{CoreState, disks_of}
 use Rattle.pool_core.specs.StateOf.{state_of as core_state}
 use Rattle.pool_model.specs.declared.step.Step.{Step}
 use Rattle.pool_model.specs.declared.step.Reply.{Reply}
-use Rattle.pool_open.specs.Opens.{IsOpened, OpenRefuses}
+use Rattle.pool_open.specs.Opens.{IsOpened, OpenRefuses, refusal_of}
+use Rattle.pool_open.specs.declared.handed_in.NotOpened.{NotOpened}
 use Rattle.schedule_lines.specs.declared.command.Command.{Command}
 use Rattle.schedule_lines.specs.declared.command.Command.TheVariants.{Stop, Reopen}
 use Rattle.schedule_lines.specs.declared.command.ReopenLine.{ReopenLine}
@@ -102,7 +103,8 @@ TakesSteps old command outcome new = RunsWhole old command outcome new ⊎ (Runs
 abbrev pub Opens : List MemDisk → ℕ → Outcome → Option CoreState → Type 0
 Opens disks rewind (Opened group claim) core =
     (it : CoreState) × (core ≡ Some it) × (claimed : Uberblock) × IsOpened ghosts disks rewind claimed it × (group ≡ claimed.group) × (claim ≡ claimed.claim)
-Opens disks rewind (Unopened refusal) core = (core ≡ None) × OpenRefuses ghosts disks rewind refusal
+Opens disks rewind (Unopened refusal) core =
+    (core ≡ None) × (failed : NotOpened MemDisk) × (refusal ≡ refusal_of failed) × OpenRefuses ghosts disks rewind failed
 Opens disks rewind _ core = ⊥
 
 -- a stop in a claim is set, after so many disks

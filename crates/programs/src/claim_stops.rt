@@ -1,5 +1,5 @@
 //! Claims that are begun and not done.
-ghost use Rattle.std.specs.Prelude.{◌≡◌, ◌<◌, ℕ, length, map, IfOk, IsTrue};
+ghost use Rattle.std.specs.Prelude.{◌≡◌, ◌<◌, ℕ, map, IfOk, IsTrue};
 ghost use Rattle.model_disk.specs.Joint.{Disks, calls_on, log_of};
 ghost use Rattle.model_disk.specs.Member.{disk_of};
 ghost use Rattle.pool_slots.specs.Slots.{HaveLabels};

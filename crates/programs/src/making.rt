@@ -1,9 +1,8 @@
 //! The pool's core on disks that a schedule makes.
-ghost use Rattle.std.specs.Prelude.{◌≡◌, ◌∷◌, [], IfErr, IfOk, IfSome, codes, string_bytes};
+ghost use Rattle.std.specs.Prelude.{◌≡◌, ◌∷◌, [], IfErr, IfOk};
 ghost use Rattle.block_store.specs.Config.{sectors_of};
 ghost use Rattle.pool_core.specs.StateOf.{state_of};
 ghost use Rattle.programs.specs.Making.{IsAsked, IsMadeOn, RefusesOnDisks, cause_of, child_guids, plain_vdev};
-ghost use Rattle.programs.specs.Vdevs.{IsAllowedPool};
 ghost use Rattle.vdev_label.specs.Plain.{config_view};
 
 use crate::disk_pool::vdev_of;

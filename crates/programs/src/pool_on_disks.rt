@@ -184,7 +184,7 @@ impl PoolOnDisks {
         let handed_in = copies(alloc, &self.disks, &self.absent)?;
         match open(alloc, handed_in, line.rewind) {
             Ok(opened) => self.go_on(alloc, opened, line.rewind),
-            Err(refusal) => Ok(Outcome::Unopened(refusal)),
+            Err(failed) => Ok(Outcome::Unopened(failed.refusal())),
         }
     }
 }

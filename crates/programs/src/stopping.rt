@@ -1,5 +1,5 @@
 //! Commits that stop.
-ghost use Rattle.std.specs.Prelude.{◌≡◌, ◌<◌, ◌≤◌, length, MatchOption};
+ghost use Rattle.std.specs.Prelude.{◌≡◌, ◌<◌, ◌≤◌, MatchOption};
 ghost use Rattle.programs.specs.Stops.{FallsShort, StopsAt, after_blocks, after_slots, commit_point, in_use_below, is_left_out};
 ghost use Rattle.programs.specs.Stops.{is_moved as moved, is_same as same};
 

@@ -189,22 +189,27 @@ fn read_and_go_on(
 fn reopened(alloc: Global, out: &[bool]) -> Result<Result<(bool, [bool; 3]), Refusal>, Fail> {
     let shape = small_shape()?;
     let (store, blocks) = written(alloc)?;
-    let mut store = BlockStore::opened(alloc, store.into_array(), &[shape], out)?;
-    Ok(read_and_go_on(&mut store, alloc, &blocks))
+    match BlockStore::opened(alloc, store.into_array(), &[shape], out) {
+        Ok(mut store) => Ok(read_and_go_on(&mut store, alloc, &blocks)),
+        Err((refusal, _)) => Err(Fail::from(refusal)),
+    }
 }
 
-/// Why it is not opened with marks for two disks.
-fn not_opened(alloc: Global) -> Result<Option<Refusal>, Fail> {
+/// Why it is not opened with marks for two disks, and how many disks come back.
+fn not_opened(alloc: Global) -> Result<Option<(Refusal, usize)>, Fail> {
     let shape = small_shape()?;
     let (store, _) = written(alloc)?;
-    Ok(BlockStore::opened(alloc, store.into_array(), &[shape], &[false; 2]).err())
+    match BlockStore::opened(alloc, store.into_array(), &[shape], &[false; 2]) {
+        Ok(_) => Ok(None),
+        Err((refusal, disks)) => Ok(Some((refusal, disks.len()))),
+    }
 }
 
 #[test]
 fn an_array_is_opened(rt: HostRuntime) -> Result<(), Fail> {
     assert!(rt; reopened(rt.alloc(), &[false; 3])? == Ok((true, [true; 3])));
     assert!(rt; reopened(rt.alloc(), &[false, true, false])? == Ok((true, [true; 3])));
-    assert!(rt; not_opened(rt.alloc())? == Some(Refusal::BadConfig));
+    assert!(rt; not_opened(rt.alloc())? == Some((Refusal::BadConfig, 3)));
     Ok(())
 }
 

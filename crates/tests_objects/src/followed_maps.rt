@@ -181,7 +181,10 @@ fn over_disks_of(store: Store, alloc: Global) -> Result<Store, Refusal> {
         return Err(Refusal::BadConfig);
     }
     let shapes = [store.shape(0)];
-    BlockStore::opened(alloc, store.into_array(), &shapes, &[false; 3])
+    match BlockStore::opened(alloc, store.into_array(), &shapes, &[false; 3]) {
+        Ok(store) => Ok(store),
+        Err((refusal, _)) => Err(refusal),
+    }
 }
 
 /// In how many metaslabs the maps of a set differ from a store without blocks before they are loaded and behind that; and whether they

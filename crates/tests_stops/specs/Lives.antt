@@ -1,6 +1,5 @@
 -- Pools that are made and opened, and run from then on.
 use Rattle.std.specs.Prelude.{ℕ, ◌≡◌, ◌≤◌, ◌<◌, ◌^◌, Bool, false, List, [], length}
-use mathlib.Core.Logic.{inl, inr}
 use Rattle.model_disk.specs.Joint.{Disks}
 use Rattle.model_disk.specs.declared.disk.Disk as disk
 use Rattle.raidz_io.specs.Reads.{IsHonestSince}
@@ -12,7 +11,9 @@ use Rattle.pool_core.specs.State.{CoreState, disks_of}
 use Rattle.pool_create.specs.Planning.{nobody}
 use Rattle.pool_model.specs.Pools.{PlainPool}
 use Rattle.pool_model.specs.View.{View}
-use Rattle.pool_open.specs.Opens.{OpenRefuses}
+use Rattle.pool_open.specs.Opens.{OpenRefuses, refusal_of}
+use Rattle.pool_open.specs.declared.handed_in.NotOpened.{NotOpened}
+use Rattle.pool_open.specs.declared.handed_in.NotOpened.TheVariants.{NotFound, Refused}
 use Rattle.pool_open.specs.Retried.{IsNotOpenedAtLast}
 use Rattle.pool_open.specs.Stops.{fresh}
 use Rattle.pool_open.specs.declared.refusal.Refusal.{Refusal}
@@ -42,20 +43,20 @@ OpensWell old shapes out claimed core =
     → ((disk : ℕ) → is_out out disk ≡ false) → AreSound old (disks_of core) → IsOpenedWell p pools shapes out 0 claimed core
 
 -- one that was not, and that nothing hindered, lacked memory, if its disks led to whole pools
-abbrev pub IsRefusedWell : Disks → List VdevShape → List Bool → Refusal → Type 0
-IsRefusedWell old shapes out refusal =
-    (is : IsNotOpenedAtLast old shapes out 0 refusal) × ((p : Possible) (pools : Uberblock → PlainPool) → LeadToWholePools old shapes out p pools
-    → AreAllThere old.starts shapes out → IsUnhindered old is.new out → refusal ≡ NoMemory)
+abbrev pub IsRefusedWell : Disks → List VdevShape → List Bool → Disks → Refusal → Type 0
+IsRefusedWell old shapes out back refusal =
+    IsNotOpenedAtLast old shapes out 0 back refusal × ((p : Possible) (pools : Uberblock → PlainPool) → LeadToWholePools old shapes out p pools
+    → AreAllThere old.starts shapes out → IsUnhindered old back out → refusal ≡ NoMemory)
 
 -- where a pool was found on the disks, a store may be opened over them
-abbrev pub FitsFound : {D : Type 0} (g : disk.Ghosts D) (disks : List D) (refusal : Refusal) → OpenRefuses g disks 0 refusal → Type 0
-FitsFound g disks refusal (inl none) = Unit {0}
-FitsFound g disks refusal (inr it) = MayBeOpened it.array.starts it.shapes it.out
+abbrev pub FitsFound : {D : Type 0} (g : disk.Ghosts D) (disks : List D) (failed : NotOpened D) → OpenRefuses g disks 0 failed → Type 0
+FitsFound g disks (NotFound refusal back) none = Unit {0}
+FitsFound g disks (Refused refusal back) it = MayBeOpened it.array.starts it.shapes it.out
 
 -- so it is of one that was to be opened on disks in any order, if they were a pool's own and led to whole pools
-pub record IsRefusedAgain {D : Type 0} (g : disk.Ghosts D) (disks : List D) (refusal : Refusal) : Type 0 where
-  pub why : OpenRefuses g disks 0 refusal
-  pub fits : FitsFound g disks refusal why
+pub record IsRefusedAgain {D : Type 0} (g : disk.Ghosts D) (disks : List D) (failed : NotOpened D) : Type 0 where
+  pub why : OpenRefuses g disks 0 failed
+  pub fits : FitsFound g disks failed why
   pub memory : (pool : ℕ) (vdevs : List PlainVdev) (digest : List ℕ) (images : List (List ℕ)) (shapes : List VdevShape) (out : List Bool) (p : Possible)
       (pools : Uberblock → PlainPool) (order : List ℕ) → LeadToOwnPools pool vdevs digest images shapes out p pools → AreReturned g images disks order
-      → HaveLeft out (fresh images) → IsRefusedTruly g disks 0 refusal why → refusal ≡ NoMemory
+      → HaveLeft out (fresh images) → IsRefusedTruly g disks 0 failed why → refusal_of failed ≡ NoMemory

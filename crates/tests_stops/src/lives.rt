@@ -8,7 +8,7 @@ use block_store::VdevShape;
 use model_disk::{Disk, DiskArray, MemDisk, Member};
 use pool_create::create_over;
 use pool_format::PoolIdentity;
-use pool_open::{OpenedPool, Refusal, open, open_over, unfailing_opens_claim_once};
+use pool_open::{NotOpened, OpenedPool, Refusal, open, open_over, unfailing_opens_claim_once};
 use pool_stops::{
     created_pools_run_as, found_disks_may_be_opened, led_disks_open, own_pools_open_again,
     unhindered_opens_are_done,
@@ -38,11 +38,12 @@ fn reopened(
     disks: DiskArray<MemDisk>,
     shapes: &[VdevShape],
     out: Vec<bool>,
-) -> Result<OpenedPool<MemDisk>, Refusal>
+) -> Result<OpenedPool<MemDisk>, (Refusal, DiskArray<MemDisk>)>
     requires out { length out.items ≡ length disks.starts }
     ensures opened { IfOk result (λ opened.
         OpensWell disks shapes.now out.items opened.uberblock (state_of opened.core)) }
-    ensures refused { IfErr result (IsRefusedWell disks shapes.now out.items) }
+    ensures refused { IfErr result (λ failed.
+        IsRefusedWell disks shapes.now out.items failed.1 failed.0) }
 {
     unfailing_opens_claim_once();
     led_disks_open();
@@ -55,7 +56,7 @@ fn reopened(
 fn opened_again<D: Disk + Drop>(
     alloc: Global,
     disks: Vec<D>,
-) -> Result<OpenedPool<Member<D>>, Refusal>
+) -> Result<OpenedPool<Member<D>>, NotOpened<D>>
     ensures { IfErr result (IsRefusedAgain D.Disk disks.items) }
 {
     own_pools_open_again::<D>();
@@ -91,8 +92,10 @@ fn claims(alloc: Global) -> Result<[u64; 2], Refusal> {
     )?;
     let disks = core.into_array();
     let out = vec![in alloc; false; disks.len()]?;
-    let again = reopened(alloc, disks, &shapes, out)?;
-    Ok([uberblock.claim, again.uberblock.claim])
+    match reopened(alloc, disks, &shapes, out) {
+        Ok(again) => Ok([uberblock.claim, again.uberblock.claim]),
+        Err((refusal, _)) => Err(refusal),
+    }
 }
 
 /// Of a pool whose disks are handed in in another order.
@@ -103,7 +106,10 @@ fn claim_in_any_order(alloc: Global) -> Result<u64, Refusal> {
     let made = created(alloc, disks, PoolIdentity { name, guid: 1 }, config)?;
     let mut disks = made.core.into_array().into_disks();
     disks.reverse();
-    Ok(opened_again(alloc, disks)?.uberblock.claim)
+    match opened_again(alloc, disks) {
+        Ok(again) => Ok(again.uberblock.claim),
+        Err(failed) => Err(failed.refusal()),
+    }
 }
 
 #[test]

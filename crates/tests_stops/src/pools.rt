@@ -141,7 +141,7 @@ pub(crate) fn opened<D: Disk + Drop>(
     alloc: Global,
     disks: Vec<D>,
 ) -> Result<OpenedPool<Member<D>>, Refusal> {
-    open(alloc, disks, 0)
+    Ok(open(alloc, disks, 0)?)
 }
 
 fn name_of(alloc: Global, which: Which) -> Result<Name, AllocError> {

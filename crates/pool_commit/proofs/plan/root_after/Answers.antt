@@ -6,9 +6,9 @@ use Rattle.dnode_tree.proofs.Refusing.{passed_on}
 use Rattle.pool_model.specs.Pools.{Entry, MayBeDestroyed, PlainPool, all_destroyed, applied, no_volumes}
 use Rattle.block_store.specs.Blocks.{Contents}
 use Rattle.block_store.specs.Spaces.{VdevSpace}
-use Rattle.dataset_groups.specs.NewVolumes.{AreGoodChanges}
+use Rattle.dataset_snapshots.specs.Laws.{AreGoodChanges}
 use Rattle.dataset_snapshots.proofs.Readings.{roots_spell_one_pool}
-use Rattle.dataset_groups.specs.Leaving.{IsReachExchanged}
+use Rattle.dataset_snapshots.specs.Groups.{IsReachExchanged}
 use Rattle.dataset_snapshots.specs.Reach.{reach_of}
 use Rattle.meta_objset.specs.declared.directory.DirectoryRow.{DirectoryRow}
 use Rattle.volume_rules.proofs.PartActions.{parted_good}

@@ -13,20 +13,20 @@ use Rattle.pool_create.proofs.first_group.core_in_front.Goals as goal
 
 pub empty-requires-clause-labels : goal.empty-requires-clause-labels
 empty-requires-clause-labels g c =
-    let over : IsStoreOver c.args.disks c.args.pool.now.shapes.items c.args.pool.now.out.items c.in_ok-store.store = record {
-      disks_are = c.in_ok-store.ensures.disks;
-      shapes_are = c.in_ok-store.ensures.shapes ∙ c.deref.ensures.value;
-      out_is = c.in_ok-store.ensures.out ∙ c.deref-2.ensures.value;
-      since = c.in_ok-store.ensures.since;
+    let over : IsStoreOver c.args.disks c.args.pool.now.shapes.items c.args.pool.now.out.items c.in-Ok.store = record {
+      disks_are = c.in-Ok.ensures.disks;
+      shapes_are = c.in-Ok.ensures.shapes ∙ c.deref.ensures.value;
+      out_is = c.in-Ok.ensures.out ∙ c.deref-2.ensures.value;
+      since = c.in-Ok.ensures.since;
     } in
-    lies_of c.labels_of_opened_lie.ensures c.args.disks c.args.pool.now.shapes.items c.args.pool.now.out.items c.in_ok-store.store over c.requires.may
+    lies_of c.labels_of_opened_lie.ensures c.args.disks c.args.pool.now.shapes.items c.args.pool.now.out.items c.in-Ok.store over c.requires.may
 
 pub returns-clause-in_front : goal.returns-clause-in_front
 returns-clause-in_front g c =
     let core = state_of c.in_ok-empty.field-0 in
     let S : List VdevShape → List Bool → Type 0 = λ s o. Represents core (opened_as (vdevs_in s) (is_out o) 2 no_volumes) in
     record {
-      disks_are = c.in_ok-empty.ensures.disks ∙ c.in_ok-store.ensures.disks;
-      represents = subst (λ (s : List VdevShape). S s c.args.pool.now.out.items) (c.in_ok-store.ensures.shapes ∙ c.deref.ensures.value)
-          (subst (λ (o : List Bool). S (shapes_of c.in_ok-store.store.spaces) o) (c.in_ok-store.ensures.out ∙ c.deref-2.ensures.value) c.in_ok-empty.ensures.represents);
+      disks_are = c.in_ok-empty.ensures.disks ∙ c.in-Ok.ensures.disks;
+      represents = subst (λ (s : List VdevShape). S s c.args.pool.now.out.items) (c.in-Ok.ensures.shapes ∙ c.deref.ensures.value)
+          (subst (λ (o : List Bool). S (shapes_of c.in-Ok.store.spaces) o) (c.in-Ok.ensures.out ∙ c.deref-2.ensures.value) c.in_ok-empty.ensures.represents);
     }

@@ -1,4 +1,4 @@
-use Rattle.std.proofs.Common.{◌≡◌, ◌⊎◌, ◌∙◌, Bool, List, subst}
+use Rattle.std.proofs.Common.{◌≡◌, ◌⊎◌, ◌∙◌, Bool, List, subst, sym}
 use Rattle.block_store.specs.Opened.{MayBeOpened}
 use Rattle.block_store.specs.declared.shape.VdevShape.{VdevShape}
 use Rattle.pool_open.specs.Causes.{of_store}
@@ -6,34 +6,32 @@ use Rattle.pool_open.specs.Held.{IsStoreOver}
 use Rattle.pool_open.specs.declared.refusal.Refusal.{Refusal}
 use Rattle.pool_open.specs.declared.refusal.Refusal.TheVariants.{NoMemory, BadConfig}
 use Rattle.pool_open.proofs.Stages.{laid_of}
-use Rattle.pool_slots.proofs.Results.{if_err_is}
 use Rattle.pool_create.proofs.Causes.{of_store_fits}
 use Rattle.pool_create.proofs.labeling.fitting.Goals as goal
 
-pub returns-clause-may : goal.returns-clause-may
-returns-clause-may g c =
+pub returns-in-Ok-clause-may : goal.returns-in-Ok-clause-may
+returns-in-Ok-clause-may g c =
     subst (λ (o : List Bool). MayBeOpened c.args.disks.starts c.args.pool.now.shapes.items o) c.deref-2.ensures.value
-    (subst (λ (s : List VdevShape). MayBeOpened c.args.disks.starts s c.deref-2.result.now) c.deref.ensures.value c.in_ok-store.ensures.may)
+    (subst (λ (s : List VdevShape). MayBeOpened c.args.disks.starts s c.deref-2.result.now) c.deref.ensures.value c.in-Ok.ensures.may)
 
-pub returns-clause-laid : goal.returns-clause-laid
-returns-clause-laid g c =
-    let over : IsStoreOver c.args.disks c.args.pool.now.shapes.items c.args.pool.now.out.items c.in_ok-store.store = record {
-      disks_are = c.in_ok-store.ensures.disks;
-      shapes_are = c.in_ok-store.ensures.shapes ∙ c.deref.ensures.value;
-      out_is = c.in_ok-store.ensures.out ∙ c.deref-2.ensures.value;
-      since = c.in_ok-store.ensures.since;
+pub returns-in-Ok-clause-laid : goal.returns-in-Ok-clause-laid
+returns-in-Ok-clause-laid g c =
+    let over : IsStoreOver c.args.disks c.args.pool.now.shapes.items c.args.pool.now.out.items c.in-Ok.store = record {
+      disks_are = c.in-Ok.ensures.disks;
+      shapes_are = c.in-Ok.ensures.shapes ∙ c.deref.ensures.value;
+      out_is = c.in-Ok.ensures.out ∙ c.deref-2.ensures.value;
+      since = c.in-Ok.ensures.since;
     } in
     let may = subst (λ (o : List Bool). MayBeOpened c.args.disks.starts c.args.pool.now.shapes.items o) c.deref-2.ensures.value
-    (subst (λ (s : List VdevShape). MayBeOpened c.args.disks.starts s c.deref-2.result.now) c.deref.ensures.value c.in_ok-store.ensures.may) in
-    laid_of c.labels_of_opened_lie.ensures c.args.disks c.args.pool.now.shapes.items c.args.pool.now.out.items c.in_ok-store.store over may
+    (subst (λ (s : List VdevShape). MayBeOpened c.args.disks.starts s c.deref-2.result.now) c.deref.ensures.value c.in-Ok.ensures.may) in
+    laid_of c.labels_of_opened_lie.ensures c.args.disks c.args.pool.now.shapes.items c.args.pool.now.out.items c.in-Ok.store over may
 
-pub returns-in_err-store-clause-refused : goal.returns-in_err-store-clause-refused
-returns-in_err-store-clause-refused g c =
-    let cause = c.in_err-store.field-0.0 in
+pub returns-clause-refused : goal.returns-clause-refused
+returns-clause-refused g c =
+    let cause = c.in-Err.refusal in
     let starts = c.args.disks.starts in
     let W : List VdevShape → List Bool → Type 0 = λ s o. (of_store cause ≡ NoMemory) ⊎ ((of_store cause ≡ BadConfig) × ¬ MayBeOpened starts s o) in
-    if_err_is c.from_residual.result (of_store cause)
-    (λ (refusal : Refusal). (refusal ≡ NoMemory) ⊎ ((refusal ≡ BadConfig) × ¬ MayBeOpened starts c.args.pool.now.shapes.items c.args.pool.now.out.items)) c.from_residual.ensures.1
+    subst (λ (refusal : Refusal). (refusal ≡ NoMemory) ⊎ ((refusal ≡ BadConfig) × ¬ MayBeOpened starts c.args.pool.now.shapes.items c.args.pool.now.out.items)) (sym c.from.ensures)
     (subst (λ (o : List Bool). W c.args.pool.now.shapes.items o) c.deref-2.ensures.value
     (subst (λ (s : List VdevShape). W s c.deref-2.result.now) c.deref.ensures.value
-    (of_store_fits cause (¬ MayBeOpened starts c.deref.result.now c.deref-2.result.now) c.in_err-store.ensures.refused)))
+    (of_store_fits cause (¬ MayBeOpened starts c.deref.result.now c.deref-2.result.now) c.in-Err.ensures.refused)))

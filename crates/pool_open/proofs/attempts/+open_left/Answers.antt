@@ -13,9 +13,9 @@ use Rattle.pool_open.proofs.attempts.+open_left.Goals as goal
 
 pub returns-in_err-pool-clause-refused : goal.returns-in_err-pool-clause-refused
 returns-in_err-pool-clause-refused g t c =
-    let cause = c.in_err-pool.field-0.0 in
-    if_err_is c.from_residual.result cause (IsNotOpenedAtLast c.args.disks c.args.shapes.now c.args.out.items c.args.rewind) c.from_residual.ensures.1
-    (refused_first c.args.disks c.args.shapes.now c.args.out.items c.args.rewind cause c.in_err-pool.ensures.refused)
+    let failed = c.in_err-pool.field-0.0 in
+    if_err_is c.from_residual.result failed (λ f. IsNotOpenedAtLast c.args.disks c.args.shapes.now c.args.out.items c.args.rewind f.1 f.0) c.from_residual.ensures.1
+    (refused_first c.args.disks c.args.shapes.now c.args.out.items c.args.rewind failed.1 failed.0 c.in_err-pool.ensures.refused)
 
 pub returns-in-Opened-clause-opened : goal.returns-in-Opened-clause-opened
 returns-in-Opened-clause-opened g t c =
@@ -59,7 +59,7 @@ pub returns-else-not-are_tolerable-clause-refused : goal.returns-else-not-are_to
 returns-else-not-are_tolerable-clause-refused g t c =
     let it : IsFailedClaim c.args.disks c.args.shapes.now c.args.out.items c.args.rewind c.in-ClaimFailed.disks c.in-ClaimFailed.out.items =
     subst (IsAttempt g.D.Disk c.args.disks c.args.shapes.now c.args.out.items c.args.rewind) c.in-ClaimFailed.is c.in_ok-pool.ensures.attempted in
-    IfErr-weaker c.open_left.result (IsNotOpenedAtLast c.in-ClaimFailed.disks c.args.shapes.now c.in-ClaimFailed.out.items c.args.rewind)
-    (IsNotOpenedAtLast c.args.disks c.args.shapes.now c.args.out.items c.args.rewind)
-    (λ refusal is. refused_next c.args.disks c.args.shapes.now c.args.out.items c.args.rewind c.in-ClaimFailed.disks c.in-ClaimFailed.out.items refusal it is)
+    IfErr-weaker c.open_left.result (λ failed. IsNotOpenedAtLast c.in-ClaimFailed.disks c.args.shapes.now c.in-ClaimFailed.out.items c.args.rewind failed.1 failed.0)
+    (λ failed. IsNotOpenedAtLast c.args.disks c.args.shapes.now c.args.out.items c.args.rewind failed.1 failed.0)
+    (λ failed is. refused_next c.args.disks c.args.shapes.now c.args.out.items c.args.rewind c.in-ClaimFailed.disks c.in-ClaimFailed.out.items failed.1 failed.0 it is)
     c.open_left.ensures.refused

@@ -1,4 +1,5 @@
 use Rattle.std.proofs.Common.{◌≡◌, ◌⊎◌, Bool, List, sym, subst}
+use Rattle.model_disk.specs.Joint.{Disks}
 use Rattle.pool_core.specs.StateOf.{state_of}
 use Rattle.pool_slots.specs.Labels.{IsClaimWrite}
 use Rattle.pool_slots.specs.Slots.{InUse}
@@ -12,7 +13,8 @@ use Rattle.pool_open.proofs.attempts.open_once.Goals as goal
 
 pub returns-in_err-core-in-Ok-clause-refused : goal.returns-in_err-core-in-Ok-clause-refused
 returns-in_err-core-in-Ok-clause-refused g c =
-    let cause = c.in_err-core-in-Ok.field-0.0 in
+    let failed = c.in_err-core-in-Ok.field-0.0 in
+    let cause = failed.0 in
     let it = c.in_ok-read.ensures.read in
     let s = c.in_ok-read.read.survey in
     let later = c.in_ok-read.read.out.items in
@@ -30,8 +32,9 @@ returns-in_err-core-in-Ok-clause-refused g c =
     let begun = subst (λ (xs : List Bool). AreBegun xs s read new) c.deref.ensures.value here in
     let W : List Bool → Type 0 = λ xs. (cause ≡ NoMemory) ⊎ ((cause ≡ BadPointer) × AreMisplacedOver new c.args.shapes.now xs contents) in
     let why = subst W c.deref-in-Ok.ensures.value c.in_err-core-in-Ok.ensures.refused in
-    if_err_is c.from_residual-in_err-core-in-Ok.result cause (IsNotOpenedOver c.args.disks c.args.shapes.now c.args.out.items c.args.rewind) c.from_residual-in_err-core-in-Ok.ensures.1
-    (refused_by_core c.args.out.items later c.args.rewind c.args.disks it.surveyed read new c.args.shapes.now s contents cause c.requires.rewind are it.blocks begun it.root why)
+    if_err_is c.from_residual-in_err-core-in-Ok.result failed (λ f. IsNotOpenedOver c.args.disks c.args.shapes.now c.args.out.items c.args.rewind f.1 f.0) c.from_residual-in_err-core-in-Ok.ensures.1
+    (subst (λ (d : Disks). IsNotOpenedOver c.args.disks c.args.shapes.now c.args.out.items c.args.rewind d cause) (sym c.in_err-core-in-Ok.ensures.back)
+    (refused_by_core c.args.out.items later c.args.rewind c.args.disks it.surveyed read new c.args.shapes.now s contents cause c.requires.rewind are it.blocks begun it.root why))
 
 pub returns-in_ok-core-in-Ok-clause-attempted : goal.returns-in_ok-core-in-Ok-clause-attempted
 returns-in_ok-core-in-Ok-clause-attempted g c =

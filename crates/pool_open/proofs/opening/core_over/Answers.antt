@@ -12,37 +12,37 @@ use Rattle.pool_open.proofs.opening.core_over.Goals as goal
 
 pub opened-requires-2-clause-labels : goal.opened-requires-2-clause-labels
 opened-requires-2-clause-labels g c =
-    let over : IsStoreOver c.args.disks c.args.shapes.now c.args.out.now c.in_ok-store.store = record {
-      disks_are = c.in_ok-store.ensures.disks;
-      shapes_are = c.in_ok-store.ensures.shapes;
-      out_is = c.in_ok-store.ensures.out;
-      since = c.in_ok-store.ensures.since;
+    let over : IsStoreOver c.args.disks c.args.shapes.now c.args.out.now c.in-Ok.store = record {
+      disks_are = c.in-Ok.ensures.disks;
+      shapes_are = c.in-Ok.ensures.shapes;
+      out_is = c.in-Ok.ensures.out;
+      since = c.in-Ok.ensures.since;
     } in
-    lies_of c.labels_of_opened_lie.ensures c.args.disks c.args.shapes.now c.args.out.now c.in_ok-store.store over c.requires.may
+    lies_of c.labels_of_opened_lie.ensures c.args.disks c.args.shapes.now c.args.out.now c.in-Ok.store over c.requires.may
 
-pub returns-in-Ok-clause-represents : goal.returns-in-Ok-clause-represents
-returns-in-Ok-clause-represents g c stored pool hold are spells made =
-    let over : IsStoreOver c.args.disks c.args.shapes.now c.args.out.now c.in_ok-store.store = record {
-      disks_are = c.in_ok-store.ensures.disks;
-      shapes_are = c.in_ok-store.ensures.shapes;
-      out_is = c.in_ok-store.ensures.out;
-      since = c.in_ok-store.ensures.since;
+pub returns-in-Ok-opened-clause-represents : goal.returns-in-Ok-opened-clause-represents
+returns-in-Ok-opened-clause-represents g c stored pool hold are spells made =
+    let over : IsStoreOver c.args.disks c.args.shapes.now c.args.out.now c.in-Ok.store = record {
+      disks_are = c.in-Ok.ensures.disks;
+      shapes_are = c.in-Ok.ensures.shapes;
+      out_is = c.in-Ok.ensures.out;
+      since = c.in-Ok.ensures.since;
     } in
-    let S : List VdevShape → List Bool → Type 0 = λ s o. Represents (state_of c.in-Ok.core) (opened_as (vdevs_in s) (is_out o) c.args.claimed.now.group pool) in
-    subst (λ (s : List VdevShape). S s c.args.out.now) c.in_ok-store.ensures.shapes
-    (subst (λ (o : List Bool). S (shapes_of c.in_ok-store.store.spaces) o) c.in_ok-store.ensures.out
-    (c.in-Ok.ensures.represents stored pool (hold c.in_ok-store.store over) (are c.in_ok-store.store.spaces c.in_ok-store.ensures.shapes)
-    (spells.0, spells.1 c.in_ok-store.store.spaces c.in_ok-store.ensures.shapes) made))
+    let S : List VdevShape → List Bool → Type 0 = λ s o. Represents (state_of c.in-Ok-opened.core) (opened_as (vdevs_in s) (is_out o) c.args.claimed.now.group pool) in
+    subst (λ (s : List VdevShape). S s c.args.out.now) c.in-Ok.ensures.shapes
+    (subst (λ (o : List Bool). S (shapes_of c.in-Ok.store.spaces) o) c.in-Ok.ensures.out
+    (c.in-Ok-opened.ensures.represents stored pool (hold c.in-Ok.store over) (are c.in-Ok.store.spaces c.in-Ok.ensures.shapes)
+    (spells.0, spells.1 c.in-Ok.store.spaces c.in-Ok.ensures.shapes) made))
 
-pub returns-in-Err-clause-refused : goal.returns-in-Err-clause-refused
-returns-in-Err-clause-refused g c =
-    let over : IsStoreOver c.args.disks c.args.shapes.now c.args.out.now c.in_ok-store.store = record {
-      disks_are = c.in_ok-store.ensures.disks;
-      shapes_are = c.in_ok-store.ensures.shapes;
-      out_is = c.in_ok-store.ensures.out;
-      since = c.in_ok-store.ensures.since;
+pub returns-in-Err-opened-clause-refused : goal.returns-in-Err-opened-clause-refused
+returns-in-Err-opened-clause-refused g c =
+    let over : IsStoreOver c.args.disks c.args.shapes.now c.args.out.now c.in-Ok.store = record {
+      disks_are = c.in-Ok.ensures.disks;
+      shapes_are = c.in-Ok.ensures.shapes;
+      out_is = c.in-Ok.ensures.out;
+      since = c.in-Ok.ensures.since;
     } in
-    elim c.in-Err.ensures.refused [
+    elim c.in-Err-opened.ensures.refused [
       | inl memory ↦ inl (c.of_core.ensures.memory memory)
-      | inr it ↦ inr (c.of_core.ensures.pointer it.0, record { store = c.in_ok-store.store; over = over; empty = c.in_ok-store.ensures.empty; misplaced = it.1 })
+      | inr it ↦ inr (c.of_core.ensures.pointer it.0, record { store = c.in-Ok.store; over = over; empty = c.in-Ok.ensures.empty; misplaced = it.1 })
     ]

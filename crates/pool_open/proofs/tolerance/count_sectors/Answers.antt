@@ -1,4 +1,4 @@
-use Rattle.std.proofs.Common.{◌≡◌, ◌*◌, ◌-◌, ◌^◌, ◌∙◌, ℕ, min, take, ap, sym, refl, subst, arith}
+use Rattle.std.proofs.Common.{◌≡◌, ◌*◌, ◌-◌, ◌^◌, ◌∙◌, ℕ, min, take, ap, sym, refl, subst}
 use Rattle.std.proofs.lemmas.Option.{slice_get_read}
 use Rattle.pool_commit.proofs.Disks.{suc_is}
 use Rattle.pool_open.specs.Words.{sectors_in}

@@ -1,6 +1,4 @@
-use Rattle.std.proofs.Common.{◌≡◌, ◌<◌, ◌∷◌, ◌++◌, [], length, true, false, sym, ap, ◌∙◌, arith}
-use Rattle.model_disk.specs.declared.memory.MemDisk.{MemDisk}
-use Rattle.programs.specs.DisksKept.{IsCopyOf}
+use Rattle.std.proofs.Common.{◌≡◌, ◌<◌, ◌∷◌, ◌++◌, [], true, false, sym, ap, ◌∙◌, arith}
 use Rattle.programs.proofs.DisksBack.{copies_step}
 use Rattle.programs.proofs.disks_kept.copies.Goals as goal
 use Rattle.programs.proofs.disks_kept.copies.Goals.{then-not-is_left_out+in_ok-copy_of+in_ok-push, else-not-is_left_out}

@@ -1,8 +1,6 @@
-use Rattle.std.proofs.Common.{◌∙◌, sym, subst}
-use Rattle.model_disk.specs.Joint.{Disks}
+use Rattle.std.proofs.Common.{◌∙◌, sym}
 use Rattle.pool_core.specs.StateOf.{state_of}
 use Rattle.pool_open.specs.Retried.{IsNotOpenedAtLast, IsOpenedAtLast}
-use Rattle.pool_stops.specs.Unhindered.{AnswerTruly}
 use Rattle.tests_stops.specs.Lives.{IsRefusedWell, OpensWell}
 use Rattle.tests_stops.proofs.Opened.{if_err, if_ok}
 use Rattle.tests_stops.proofs.lives.reopened.Goals as goal
@@ -22,12 +20,11 @@ pub returns-clause-refused : goal.returns-clause-refused
 returns-clause-refused c =
     let shapes = c.args.shapes.now in
     let out = c.args.out.items in
-    if_err c.open_over.result (IsNotOpenedAtLast c.args.disks shapes out 0) (IsRefusedWell c.args.disks shapes out)
-    (λ refusal is. (
+    if_err c.open_over.result (λ failed. IsNotOpenedAtLast c.args.disks shapes out 0 failed.1 failed.0) (λ failed. IsRefusedWell c.args.disks shapes out failed.1 failed.0)
+    (λ failed is. (
       is,
       λ p pools led there free.
-          let once = c.unfailing_opens_claim_once.ensures.refused c.args.disks shapes out 0 refusal is free.truly.none_failed in
-          c.unhindered_opens_are_done.ensures c.args.disks shapes out p pools refusal led there once.0
-          (record { left = free.left; truly = subst (λ (d : Disks). AnswerTruly c.args.disks d) (sym once.1) free.truly }),
+          let once = c.unfailing_opens_claim_once.ensures.refused c.args.disks shapes out 0 failed.1 failed.0 is free.truly.none_failed in
+          c.unhindered_opens_are_done.ensures c.args.disks shapes out p pools failed.0 led there failed.1 once free,
     ))
     c.open_over.ensures.refused

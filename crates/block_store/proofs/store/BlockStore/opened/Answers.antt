@@ -9,7 +9,7 @@ invariant_of-result g c =
     let few : length c.args.shapes.now ≤ 8 = omega arith in
     let count : length c.args.disks.starts ≤ 2 ^ 64 = omega (arith, c.len.ensures, c.len.type_inv) in
     let lie : LieOn c.args.disks.starts 0 c.args.shapes.now = search rules in
-    is_opened _ c.args.shapes.now c.in_ok-spaces.ensures.shapes (rw c.in_ok-set.ensures.disks lie) few (rw c.in_ok-set.ensures.disks count)
+    is_opened _ c.args.shapes.now c.in-Ok.ensures.shapes (rw c.in-Ok-new.ensures.disks lie) few (rw c.in-Ok-new.ensures.disks count)
 
-pub returns-clause-plans : goal.returns-clause-plans
-returns-clause-plans g c = plans_nothing _ c.in_ok-set.ensures.due c.in_ok-spaces.ensures.empty
+pub returns-in-Ok-new-clause-plans : goal.returns-in-Ok-new-clause-plans
+returns-in-Ok-new-clause-plans g c = plans_nothing _ c.in-Ok-new.ensures.due c.in-Ok.ensures.empty

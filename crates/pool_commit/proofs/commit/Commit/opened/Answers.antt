@@ -3,7 +3,6 @@ use Rattle.block_pointer.specs.declared.block.Block.{Block}
 use Rattle.block_store.specs.Opened.{CannotTakeIn}
 use Rattle.block_store.specs.Releases.{copies_of_all}
 use Rattle.block_store.specs.Store.{Store}
-use Rattle.dnode_tree.proofs.Refusing.{passed_on}
 use Rattle.model_disk.specs.Joint.{Disks}
 use Rattle.pool_maps.proofs.Opened.{empty_is_free}
 use Rattle.pool_commit.specs.Causes.{of_store}
@@ -14,14 +13,14 @@ use Rattle.pool_commit.proofs.commit.Commit.opened.Goals as goal
 pub of_group-requires-clause-labels : goal.of_group-requires-clause-labels
 of_group-requires-clause-labels g c =
     let loads = c.if-not-load_maps.ensures.loads in
-    let taken = c.in_ok-take_in.ensures in
+    let taken = c.in-Ok.ensures in
     labels_still c.args.store c.take_in.new.self (ap (λ (d : Disks). d.starts) (taken.disks ∙ ap (λ (s : Store). s.disks) loads.rest)) (taken.shapes ∙ loads.shapes)
     c.requires.labels
 
-pub returns-clause-backs : goal.returns-clause-backs
-returns-clause-backs g c stored pool =
+pub returns-in-Ok-group_of-clause-backs : goal.returns-in-Ok-group_of-clause-backs
+returns-in-Ok-group_of-clause-backs g c stored pool =
     let loads = c.if-not-load_maps.ensures in
-    let taken = c.in_ok-take_in.ensures in
+    let taken = c.in-Ok.ensures in
     let of_slice : AreTaken c.args.store c.load_maps.new.store c.take_in.new.self c.args.contents.maps.items c.deref.result.now = record {
       loads = loads.loads;
       released = loads.released;
@@ -36,18 +35,18 @@ returns-clause-backs g c stored pool =
     let of_blocks : AreTaken c.args.store c.load_maps.new.store c.take_in.new.self c.args.contents.maps.items c.args.contents.blocks.items =
     subst (λ (blocks : List Block). AreTaken c.args.store c.load_maps.new.store c.take_in.new.self c.args.contents.maps.items blocks) c.deref.ensures.value of_slice in
     backs_opened c.found_in_use_are_stored.ensures c.args.store c.load_maps.new.store c.take_in.new.self c.args.stamp c.args.group c.args.root c.args.contents
-    c.in_ok-last.last _ of_blocks c.in_ok-last.ensures c.of_group.ensures c.requires.plans c.requires.empty stored pool
+    c.in-Ok-group_of.last _ of_blocks c.in-Ok-group_of.ensures c.of_group.ensures c.requires.plans c.requires.empty stored pool
 
 pub returns-then-not-load_maps-clause-refused : goal.returns-then-not-load_maps-clause-refused
 returns-then-not-load_maps-clause-refused g c =
     inr (refl, inl (λ sets. true≢false (sym (c.if-not-load_maps.ensures.always sets (empty_is_free c.args.store.spaces c.requires.empty)))))
 
-pub returns-in_err-take_in-clause-refused : goal.returns-in_err-take_in-clause-refused
-returns-in_err-take_in-clause-refused g c =
-    passed_on c.from_residual.result _ _ c.from_residual.ensures.1 (elim c.in_err-take_in.ensures.refused [
-      | inl memory ↦ inl (ap of_store memory)
+pub returns-in-Err-clause-refused : goal.returns-in-Err-clause-refused
+returns-in-Err-clause-refused g c =
+    elim c.in-Err.ensures.refused [
+      | inl memory ↦ inl (c.from.ensures ∙ ap of_store memory)
       | inr (bad, which) ↦ inr (
-        ap of_store bad,
+        c.from.ensures ∙ ap of_store bad,
         inr (record {
           mid = c.load_maps.new.store.spaces;
           loaded = c.if-not-load_maps.ensures.value;
@@ -55,4 +54,4 @@ returns-in_err-take_in-clause-refused g c =
           cannot = subst (λ (blocks : List Block). CannotTakeIn c.load_maps.new.store.spaces (copies_of_all blocks) c.take_in.new.self.spaces) c.deref.ensures.value which;
         }),
       )
-    ])
+    ]

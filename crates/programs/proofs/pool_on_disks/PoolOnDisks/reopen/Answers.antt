@@ -40,4 +40,4 @@ returns-in-Err c =
       copied = subst (λ out. AreCopies (present out disks) handed_in) c.deref-2.ensures.value
           (subst (λ all. AreCopies (present c.deref-2.result.now all) handed_in) c.deref.ensures.value c.in_ok-handed_in.ensures);
     } in
-    inl (unopened old before c.args.line handed_in c.in-Err.refusal are c.in-Err.ensures.refused)
+    inl (unopened old before c.args.line handed_in c.in-Err.failed c.refusal.result are c.refusal.ensures c.in-Err.ensures.refused)
