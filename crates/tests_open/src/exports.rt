@@ -1,12 +1,14 @@
 //! Pools that are exported, and opened again.
-use crate::pools::{Shown, blank, blocks_of, committed, fill, make, present, sync, write_block};
-use model_disk::{MemDisk, Member};
+use crate::pools::{
+    Shown, TestDisk, blank, blocks_of, committed, fill, make, present, sync, write_block,
+};
+use model_disk::Member;
 use pool_core::{Core, Refusal};
 use pool_open::{NotExported, OpenedPool, export, open};
 use std::alloc::{AllocError, Global};
 use std::test::*;
 
-type Pool = OpenedPool<Member<MemDisk>>;
+type Pool = OpenedPool<Member<TestDisk>>;
 
 /// A pool that was filled up to group 5.
 fn filled(alloc: Global) -> Result<Pool, Fail> {
@@ -16,7 +18,7 @@ fn filled(alloc: Global) -> Result<Pool, Fail> {
 }
 
 /// The disks of a pool that is exported.
-fn put_away(alloc: Global, pool: Pool) -> Result<Vec<MemDisk>, Fail> {
+fn put_away(alloc: Global, pool: Pool) -> Result<Vec<TestDisk>, Fail> {
     match export(alloc, pool) {
         Ok(members) => present(alloc, members),
         Err(NotExported::Refused { refusal, .. } | NotExported::Stopped { refusal, .. }) => {
@@ -35,7 +37,7 @@ fn refused(alloc: Global, pool: Pool) -> Result<(Refusal, Pool), Fail> {
 }
 
 /// What a pool's volume shows, where nothing is done with the pool then.
-fn blocks_in(alloc: Global, core: Core<Member<MemDisk>>) -> Result<Option<(u8, u8)>, AllocError> {
+fn blocks_in(alloc: Global, core: Core<Member<TestDisk>>) -> Result<Option<(u8, u8)>, AllocError> {
     let mut core = core;
     blocks_of(alloc, &mut core, "v")
 }
@@ -43,8 +45,8 @@ fn blocks_in(alloc: Global, core: Core<Member<MemDisk>>) -> Result<Option<(u8, u
 /// What an open finds on the disks, and its claim.
 type Found = (Shown, u64);
 
-fn opened(alloc: Global, disks: Vec<MemDisk>) -> Result<Found, Fail> {
-    let OpenedPool { core, uberblock } = open(alloc, disks, 0)?;
+fn opened(alloc: Global, disks: Vec<TestDisk>) -> Result<Found, Fail> {
+    let OpenedPool { core, uberblock } = open(alloc, disks, 0).map_err(pool_open::Refusal::from)?;
     let blocks = blocks_in(alloc, core)?;
     Ok(((Some(uberblock.group), blocks), uberblock.claim))
 }

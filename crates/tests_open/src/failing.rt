@@ -1,31 +1,26 @@
 //! Pools that are opened while disks fail.
 use crate::opened::written;
-use crate::pools::{Opening, blocks_of, opening};
-use model_disk::{Fault, FaultDisk, MemDisk, Member};
+use crate::pools::{NEVER, Opening, TestDisk, blocks_of, failing_at, opening};
+use model_disk::{Fault, Member};
 use pool_core::Core;
-use pool_open::{OpenedPool, Refusal, open};
+use pool_open::{NotOpened, OpenedPool, Refusal, open};
 use std::alloc::{AllocError, Global};
 use std::test::*;
 
-type Failing = FaultDisk<MemDisk>;
-
-const NEVER: Fault = Fault::At(u64::MAX);
-
 /// The disks of a pool with a volume, of which the last, the second and the first fail so.
-fn failing(alloc: Global, faults: &[Fault; 3]) -> Result<Vec<Failing>, Fail> {
+fn failing(alloc: Global, faults: &[Fault; 3]) -> Result<Vec<TestDisk>, Fail> {
     let (mut disks, _) = written(alloc)?;
     let mut failing = Vec::new(alloc);
     for &fault in faults {
         if let Some(disk) = disks.pop() {
-            let fresh = MemDisk::holding(disk.into_bytes());
-            failing.push(FaultDisk::new(fresh, fault))?;
+            failing.push(failing_at(disk, fault))?;
         }
     }
     Ok(failing)
 }
 
 /// Which disks of a pool are out.
-fn outs(alloc: Global, core: &Core<Member<Failing>>) -> Result<Option<[bool; 3]>, AllocError> {
+fn outs(alloc: Global, core: &Core<Member<TestDisk>>) -> Result<Option<[bool; 3]>, AllocError> {
     let out = core.marks(alloc)?;
     Ok(if out.len() == 3 {
         Some([out[0], out[1], out[2]])
@@ -35,7 +30,7 @@ fn outs(alloc: Global, core: &Core<Member<Failing>>) -> Result<Option<[bool; 3]>
 }
 
 /// The disks of a pool but that one, which fail no more.
-fn left(alloc: Global, members: Vec<Member<Failing>>, dead: usize) -> Result<Vec<MemDisk>, Fail> {
+fn left(alloc: Global, members: Vec<Member<TestDisk>>, dead: usize) -> Result<Vec<TestDisk>, Fail> {
     let mut members = members;
     if dead < members.len() {
         members.remove(dead);
@@ -43,7 +38,7 @@ fn left(alloc: Global, members: Vec<Member<Failing>>, dead: usize) -> Result<Vec
     let mut disks = Vec::new(alloc);
     for member in members {
         if let Some(disk) = member.into_disk() {
-            disks.push(disk.into_inner())?;
+            disks.push(failing_at(disk, NEVER))?;
         }
     }
     Ok(disks)
@@ -53,7 +48,7 @@ fn left(alloc: Global, members: Vec<Member<Failing>>, dead: usize) -> Result<Vec
 type Shown = ((u64, u64), Option<[bool; 3]>, Option<(u8, u8)>, Opening);
 
 /// What is shown of a pool that was opened.
-fn shown(alloc: Global, pool: OpenedPool<Member<Failing>>, dead: usize) -> Result<Shown, Fail> {
+fn shown(alloc: Global, pool: OpenedPool<Member<TestDisk>>, dead: usize) -> Result<Shown, Fail> {
     let OpenedPool {
         mut core,
         uberblock,
@@ -65,11 +60,23 @@ fn shown(alloc: Global, pool: OpenedPool<Member<Failing>>, dead: usize) -> Resul
     Ok(((uberblock.group, uberblock.claim), out?, blocks?, again))
 }
 
+/// Why a pool that was found is not opened, and how many disks come back.
+fn back(failed: NotOpened<TestDisk>) -> Option<(Refusal, usize)> {
+    match failed {
+        NotOpened::NotFound { .. } => None,
+        NotOpened::Refused { refusal, disks } => Some((refusal, disks.len())),
+    }
+}
+
 /// What is shown of a pool that is opened on disks that fail so, where it is.
-fn opened(alloc: Global, faults: &[Fault; 3], dead: usize) -> Result<Result<Shown, Refusal>, Fail> {
+fn opened(
+    alloc: Global,
+    faults: &[Fault; 3],
+    dead: usize,
+) -> Result<Result<Shown, Option<(Refusal, usize)>>, Fail> {
     match open(alloc, failing(alloc, faults)?, 0) {
         Ok(pool) => Ok(Ok(shown(alloc, pool, dead)?)),
-        Err(refusal) => Ok(Err(refusal)),
+        Err(failed) => Ok(Err(back(failed))),
     }
 }
 
@@ -93,7 +100,8 @@ fn a_claim_goes_on_without_a_disk(rt: HostRuntime) -> Result<(), Fail> {
 fn a_claim_needs_enough_disks(rt: HostRuntime) -> Result<(), Fail> {
     for fault in [Fault::Write(0), Fault::Flush(0)] {
         let faults = [NEVER, fault, Fault::Write(0)];
-        assert!(rt; opened(rt.alloc(), &faults, 3)? == Err(Refusal::TooManyMissing));
+        let wanted = Err(Some((Refusal::TooManyMissing, 3)));
+        assert!(rt; opened(rt.alloc(), &faults, 3)? == wanted);
     }
     Ok(())
 }

@@ -1,14 +1,12 @@
 //! Pools that are found on disks that are handed in, in any order.
-use crate::pools::pool_disks;
-use model_disk::{DiskArray, Fault, FaultDisk, MemDisk, Member};
+use crate::pools::{NEVER, TestDisk, failing_at, pool_disks};
+use model_disk::{DiskArray, Fault, Member};
 use pool_labels::Refusal;
 use pool_open::{FoundPool, find};
 use std::alloc::Global;
 use std::test::*;
 
-type Disks = Vec<FaultDisk<MemDisk>>;
-
-const NEVER: Fault = Fault::At(u64::MAX);
+type Disks = Vec<TestDisk>;
 
 /// Where the first label of a disk has the last byte of its guid.
 const GUID_AT: u64 = 0x4000 + 47;
@@ -17,7 +15,7 @@ const GUID_AT: u64 = 0x4000 + 47;
 type Case = ([usize; 3], Fault);
 
 /// One disk of a pool.
-fn pool_disk(alloc: Global, number: usize) -> Result<Option<MemDisk>, Fail> {
+fn pool_disk(alloc: Global, number: usize) -> Result<Option<TestDisk>, Fail> {
     let mut disks = pool_disks(alloc, 1)?;
     if number >= disks.len() {
         return Ok(None);
@@ -27,8 +25,7 @@ fn pool_disk(alloc: Global, number: usize) -> Result<Option<MemDisk>, Fail> {
 
 fn hand_in(alloc: Global, disks: &mut Disks, number: usize, fault: Fault) -> Result<(), Fail> {
     if let Some(disk) = pool_disk(alloc, number)? {
-        let fresh = MemDisk::holding(disk.into_bytes());
-        disks.push(FaultDisk::new(fresh, fault))?;
+        disks.push(failing_at(disk, fault))?;
     }
     Ok(())
 }
@@ -47,7 +44,7 @@ fn handed_in(alloc: Global, case: &Case) -> Result<Disks, Fail> {
 }
 
 /// The last byte of the guid that a disk shows, if it can be read.
-fn guid_on(disks: &mut DiskArray<Member<FaultDisk<MemDisk>>>, which: usize) -> Option<u8> {
+fn guid_on(disks: &mut DiskArray<Member<TestDisk>>, which: usize) -> Option<u8> {
     if which >= disks.len() || disks.size(which) < 0x80_0000 {
         return None;
     }
@@ -61,7 +58,7 @@ fn guid_on(disks: &mut DiskArray<Member<FaultDisk<MemDisk>>>, which: usize) -> O
 /// The guids of the disks in their order, how many are absent, and whether all else is as it should be.
 type Shown = ([Option<u8>; 3], usize, bool);
 
-fn shown(pool: FoundPool<FaultDisk<MemDisk>>) -> Shown {
+fn shown(pool: FoundPool<TestDisk>) -> Shown {
     let absent = pool.out.iter().filter(|it| **it).count();
     let is_whole = pool.out.len() == 3
         && pool.shapes.len() == 1
@@ -80,7 +77,7 @@ fn found(alloc: Global, case: &Case) -> Result<Result<Shown, Refusal>, Fail> {
     let disks = handed_in(alloc, case)?;
     match find(alloc, disks, 0) {
         Ok(pool) => Ok(Ok(shown(pool))),
-        Err(refusal) => Ok(Err(refusal)),
+        Err((refusal, _)) => Ok(Err(refusal)),
     }
 }
 

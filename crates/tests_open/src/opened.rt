@@ -1,17 +1,17 @@
 //! Pools that are opened again.
 use crate::pools::{
-    Opening, Shown, blank, blocks_of, committed, fill, made, making, opening, pool_disks, present,
-    sync, write_block,
+    Opening, Shown, TestDisk, blank, blocks_of, committed, fill, made, making, opening, pool_disks,
+    present, sync, write_block,
 };
-use model_disk::{MemDisk, Member};
+use model_disk::Member;
 use pool_core::Core;
-use pool_open::{OpenedPool, Refusal, open};
+use pool_open::{NotOpened, OpenedPool, Refusal, open};
 use std::alloc::{AllocError, Global};
 use std::test::*;
 use vdev_label::Breach;
 
 /// A pool that was filled: its disks, and what it shows.
-pub(crate) fn written(alloc: Global) -> Result<(Vec<MemDisk>, Shown), Fail> {
+pub(crate) fn written(alloc: Global) -> Result<(Vec<TestDisk>, Shown), Fail> {
     let mut core = made(alloc, blank(alloc)?, 1)?;
     let shown = fill(alloc, &mut core);
     let members = core.into_disks();
@@ -21,7 +21,7 @@ pub(crate) fn written(alloc: Global) -> Result<(Vec<MemDisk>, Shown), Fail> {
 /// What an opened pool shows, and behind one more write.
 fn go_on(
     alloc: Global,
-    core: &mut Core<Member<MemDisk>>,
+    core: &mut Core<Member<TestDisk>>,
     group: u64,
 ) -> Result<[Shown; 2], AllocError> {
     let first = (Some(group), blocks_of(alloc, core, "v")?);
@@ -33,13 +33,13 @@ fn go_on(
 /// The same pool opened: what it shows, and behind one more write.
 fn opened(
     alloc: Global,
-    disks: Vec<MemDisk>,
+    disks: Vec<TestDisk>,
     rewind: u64,
-) -> Result<(Vec<MemDisk>, [Shown; 2]), Fail> {
+) -> Result<(Vec<TestDisk>, [Shown; 2]), Fail> {
     let OpenedPool {
         mut core,
         uberblock,
-    } = open(alloc, disks, rewind.min(2))?;
+    } = open(alloc, disks, rewind.min(2)).map_err(Refusal::from)?;
     let shown = go_on(alloc, &mut core, uberblock.group);
     let members = core.into_disks();
     Ok((present(alloc, members)?, shown?))
@@ -104,7 +104,7 @@ fn disks_may_be_missing(rt: HostRuntime) -> Result<(), Fail> {
 }
 
 /// The disks of two pools.
-fn mixed_disks(alloc: Global) -> Result<Vec<MemDisk>, Fail> {
+fn mixed_disks(alloc: Global) -> Result<Vec<TestDisk>, Fail> {
     let mut disks = pool_disks(alloc, 1)?;
     for other in pool_disks(alloc, 2)? {
         disks.push(other)?;
@@ -131,8 +131,25 @@ fn other_disks_are_refused(rt: HostRuntime) -> Result<(), Fail> {
     Ok(())
 }
 
+/// Why no pool is opened one group back on the disks of a new one; and that it is on those that come back.
+fn opened_behind(alloc: Global) -> Result<Option<(Refusal, Opening)>, Fail> {
+    match open(alloc, pool_disks(alloc, 1)?, 1) {
+        Err(NotOpened::NotFound { refusal, disks }) => {
+            Ok(Some((refusal, opening(alloc, disks, 0))))
+        }
+        _ => Ok(None),
+    }
+}
+
+#[test]
+fn disks_come_back(rt: HostRuntime) -> Result<(), Fail> {
+    let wanted = (Refusal::NoUberblock, Ok((3, 2)));
+    assert!(rt; opened_behind(rt.alloc())? == Some(wanted));
+    Ok(())
+}
+
 /// Blank disks without the last of them.
-fn two_blank(alloc: Global) -> Result<Vec<MemDisk>, Fail> {
+fn two_blank(alloc: Global) -> Result<Vec<TestDisk>, Fail> {
     let mut disks = blank(alloc)?;
     disks.pop();
     Ok(disks)

@@ -1,5 +1,5 @@
 //! Pools of three disks, and what is done to them.
-use model_disk::{Disk, MemDisk, Member};
+use model_disk::{Disk, Fault, FaultDisk, MemDisk, Member};
 use pool_core::Core;
 use pool_create::create;
 use pool_format::PoolIdentity;
@@ -8,6 +8,12 @@ use pool_open::{OpenedPool, Refusal, open};
 use std::alloc::{AllocError, Global};
 use std::test::Fail;
 use vdev_label::{Config, Vdev};
+
+/// All tests in memory have disks of this one type: a pool over another type is proved once more.
+pub(crate) type TestDisk = FaultDisk<MemDisk>;
+
+/// Fails at no call.
+pub(crate) const NEVER: Fault = Fault::At(u64::MAX);
 
 /// Of each disk.
 pub(crate) const DISK_BYTES: usize = 0x80_0000;
@@ -53,19 +59,31 @@ pub(crate) fn made<D: Disk + Drop>(
     Ok(core)
 }
 
-/// Three disks in memory with nothing on them.
-pub(crate) fn blank(alloc: Global) -> Result<Vec<MemDisk>, Fail> {
-    Ok(MemDisk::several(alloc, 3, DISK_BYTES)?)
+/// A disk with these bytes, which fails so.
+pub(crate) fn failing_at(disk: TestDisk, fault: Fault) -> TestDisk {
+    FaultDisk::new(MemDisk::holding(disk.into_inner().into_bytes()), fault)
+}
+
+/// Three disks in memory with nothing on them, which don't fail.
+pub(crate) fn blank(alloc: Global) -> Result<Vec<TestDisk>, Fail> {
+    let mut disks = Vec::new(alloc);
+    for _ in 0..3 {
+        disks.push(FaultDisk::new(MemDisk::new(alloc, DISK_BYTES)?, NEVER))?;
+    }
+    Ok(disks)
 }
 
 /// The disks of a pool that was made on blank ones.
-pub(crate) fn pool_disks(alloc: Global, guid: u64) -> Result<Vec<MemDisk>, Fail> {
+pub(crate) fn pool_disks(alloc: Global, guid: u64) -> Result<Vec<TestDisk>, Fail> {
     let disks = blank(alloc)?;
     present(alloc, made(alloc, disks, guid)?.into_disks())
 }
 
 /// The disks that are there, in order.
-pub(crate) fn present(alloc: Global, members: Vec<Member<MemDisk>>) -> Result<Vec<MemDisk>, Fail> {
+pub(crate) fn present(
+    alloc: Global,
+    members: Vec<Member<TestDisk>>,
+) -> Result<Vec<TestDisk>, Fail> {
     let mut disks = Vec::new(alloc);
     for member in members {
         if let Some(disk) = member.into_disk() {
@@ -180,13 +198,13 @@ pub(crate) fn fill<D: Disk + Drop>(alloc: Global, core: &mut Core<D>) -> Result<
 pub(crate) type Opening = Result<(u64, u64), Refusal>;
 
 /// Makes a pool.
-pub(crate) fn making(alloc: Global, disks: Vec<MemDisk>, guid: u64) -> Opening {
+pub(crate) fn making(alloc: Global, disks: Vec<TestDisk>, guid: u64) -> Opening {
     let OpenedPool { uberblock, .. } = make(alloc, disks, guid)?;
     Ok((uberblock.group, uberblock.claim))
 }
 
 /// Opens a pool.
-pub(crate) fn opening(alloc: Global, disks: Vec<MemDisk>, rewind: u64) -> Opening {
+pub(crate) fn opening(alloc: Global, disks: Vec<TestDisk>, rewind: u64) -> Opening {
     let OpenedPool { uberblock, .. } = open(alloc, disks, rewind.min(2))?;
     Ok((uberblock.group, uberblock.claim))
 }

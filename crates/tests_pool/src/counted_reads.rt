@@ -1,89 +1,24 @@
 //! How many reads of disks a committed block takes, in pools of few volumes and of many.
+use crate::faulty_pool::FaultyPool;
 use crate::telling::reply_to;
+use crate::test_disk::counting;
 use block_store::VdevConfig;
-use model_disk::{Disk, DiskError, MemDisk};
-use pool_core::Core;
-use pool_model::{Name, Refusal, Reply, Step};
-use programs::StepMachine;
+use pool_model::{Name, Reply};
 use raidz_map::Geometry;
-use schedule_lines::PoolLine;
 use std::alloc::{AllocError, Global};
 use std::cell::Cell;
 use std::rc::Rc;
 use std::test::Fail;
 
-/// A disk that counts its reads, together with other disks.
-#[derive(Drop)]
-struct CountedDisk<D: Disk + Drop> {
-    inner: D,
-    reads: Rc<Cell<u64>>,
-}
-
-impl<D: Disk + Drop> Disk for CountedDisk<D> {
-    ghost start = { λ disk. D.start disk.inner };
-
-    ghost calls = { λ disk. D.calls disk.inner };
-
-    fn size(&self) -> u64 {
-        self.inner.size()
-    }
-
-    fn read(&mut self, at: u64, buffer: &mut [u8]) -> Result<(), DiskError> {
-        self.reads.set(self.reads.get().saturating_add(1));
-        self.inner.read(at, buffer)
-    }
-
-    fn write_at(&mut self, at: u64, bytes: &[u8]) -> Result<(), DiskError> {
-        self.inner.write_at(at, bytes)
-    }
-
-    fn flush(&mut self) -> Result<(), DiskError> {
-        self.inner.flush()
-    }
-}
-
-/// A pool over such disks.
-#[derive(Drop)]
-struct CountedPool {
-    core: Core<CountedDisk<MemDisk>>,
-}
-
-impl StepMachine for CountedPool {
-    ghost creates = { λ _ _. Unit {0} };
-
-    ghost refuses = { λ _ _. Unit {0} };
-
-    ghost steps = { λ _ _ _ _. Unit {0} };
-
-    fn create(_alloc: Global, _line: &PoolLine) -> Result<CountedPool, Refusal> {
-        Err(Refusal::BadConfig)
-    }
-
-    fn step(&mut self, step: Step) -> Reply {
-        self.core.step(step)
-    }
-}
-
-fn disks(alloc: Global, reads: &Rc<Cell<u64>>) -> Result<Vec<CountedDisk<MemDisk>>, AllocError> {
-    let mut disks = Vec::new(alloc);
-    for _ in 0..3 {
-        let inner = MemDisk::new(alloc, 8 << 20)?;
-        let reads = reads.clone()?;
-        disks.push(CountedDisk { inner, reads })?;
-    }
-    Ok(disks)
-}
-
 /// One vdev of three disks, with one parity: three metaslabs for volumes, and two for what leads to them.
-fn pool_over(alloc: Global, reads: &Rc<Cell<u64>>) -> Result<CountedPool, Fail> {
+fn pool_over(alloc: Global, reads: &Rc<Cell<u64>>) -> Result<FaultyPool, Fail> {
     let vdev = VdevConfig {
         geometry: Geometry::new(3, 1, 9)?,
         metaslab_shift: 12,
         meta_slabs: 2,
     };
-    let disks = disks(alloc, reads)?;
-    let core = Core::create(alloc, disks, &[vdev])?;
-    Ok(CountedPool { core })
+    let disks = counting(alloc, 3, 8 << 20, reads)?;
+    FaultyPool::over(alloc, disks, vdev).map_err(Fail::from)
 }
 
 /// Group 4 makes so many volumes of 16 blocks, named v1 and so on, and group 5 writes block 1 of the last one.
@@ -102,7 +37,7 @@ fn lines(alloc: Global, count: u64) -> Result<String, AllocError> {
 }
 
 /// Whether no line is refused.
-fn takes(alloc: Global, pool: &mut CountedPool, lines: &str) -> Result<bool, Fail> {
+fn takes(alloc: Global, pool: &mut FaultyPool, lines: &str) -> Result<bool, Fail> {
     for line in lines.lines() {
         if let Reply::Refused(_) = reply_to(alloc, pool, line)? {
             return Ok(false);
@@ -112,7 +47,7 @@ fn takes(alloc: Global, pool: &mut CountedPool, lines: &str) -> Result<bool, Fai
 }
 
 /// Whether block 1 of the volume is there under group 5.
-fn is_written(pool: &mut CountedPool, volume: &Name) -> bool {
+fn is_written(pool: &mut FaultyPool, volume: &Name) -> bool {
     match pool.core.read_under(5, volume, 512, 512, &[]) {
         Ok(bytes) => bytes.as_slice() == [0xa5; 512].as_slice(),
         Err(_) => false,
@@ -122,7 +57,7 @@ fn is_written(pool: &mut CountedPool, volume: &Name) -> bool {
 /// How many reads that block takes once the lines are taken; none where it is not there.
 fn reads_of_block(
     alloc: Global,
-    pool: &mut CountedPool,
+    pool: &mut FaultyPool,
     lines: &str,
     volume: &Name,
     reads: &Cell<u64>,

@@ -1,12 +1,15 @@
 //! A pool over disks in memory that fail as they are told.
+use crate::test_disk::{TestDisk, disk};
 use block_store::VdevConfig;
-use model_disk::{Fault, FaultDisk, MemDisk};
+use model_disk::Fault;
 use pool_core::Core;
 use pool_model::{Bytes, Name, Refusal, Reply, Step};
 use programs::StepMachine;
 use raidz_map::Geometry;
 use schedule_lines::PoolLine;
 use std::alloc::{AllocError, Global};
+use std::cell::Cell;
+use std::rc::Rc;
 
 /// Which call of which disk fails.
 #[derive(Clone, Copy)]
@@ -18,7 +21,7 @@ pub struct DiskFault {
 /// A pool of one vdev. Its reads under a group take some disks as missing.
 #[derive(Drop)]
 pub struct FaultyPool {
-    core: Core<FaultDisk<MemDisk>>,
+    pub core: Core<TestDisk>,
     missing: Vec<usize>,
 }
 
@@ -33,40 +36,34 @@ fn fault_of(faults: &[DiskFault], disk: usize) -> Fault {
     found
 }
 
-/// So many zeros, put together from pieces: to make the bytes of all disks one by one takes most
-/// of the time of a schedule.
-pub fn zeros(alloc: Global, count: usize) -> Result<Vec<u8>, AllocError> {
-    let piece = [0; 4096];
-    let mut zeros = Vec::with_capacity(alloc, count)?;
-    for _ in 0..count / 4096 {
-        zeros.extend_from_slice(&piece)?;
-    }
-    zeros.resize(count, 0)?;
-    Ok(zeros)
-}
-
 fn disks_of(
     alloc: Global,
     line: &PoolLine,
     faults: &[DiskFault],
-) -> Result<Vec<FaultDisk<MemDisk>>, AllocError> {
+) -> Result<Vec<TestDisk>, AllocError> {
+    let reads = Rc::new(alloc, Cell::new(0u64))?;
     let mut disks = Vec::new(alloc);
-    for disk in 0..line.disks as usize {
-        let inner = MemDisk::holding(zeros(alloc, line.bytes as usize)?);
-        disks.push(FaultDisk::new(inner, fault_of(faults, disk)))?;
+    for which in 0..line.disks as usize {
+        let fault = fault_of(faults, which);
+        disks.push(disk(alloc, line.bytes as usize, fault, &reads)?)?;
     }
     Ok(disks)
 }
 
-fn core_of(
-    alloc: Global,
-    vdev: VdevConfig,
-    disks: Vec<FaultDisk<MemDisk>>,
-) -> Result<Core<FaultDisk<MemDisk>>, Refusal> {
-    Core::create(alloc, disks, &[vdev])
-}
-
 impl FaultyPool {
+    /// Of a vdev over disks that weren't used before.
+    pub fn over(
+        alloc: Global,
+        disks: Vec<TestDisk>,
+        vdev: VdevConfig,
+    ) -> Result<FaultyPool, Refusal> {
+        let core = Core::create(alloc, disks, &[vdev])?;
+        Ok(FaultyPool {
+            core,
+            missing: Vec::new(alloc),
+        })
+    }
+
     pub fn with_faults(
         alloc: Global,
         line: &PoolLine,
@@ -83,11 +80,7 @@ impl FaultyPool {
         let Ok(disks) = disks_of(alloc, line, faults) else {
             return Err(Refusal::NoMemory);
         };
-        let core = core_of(alloc, vdev, disks)?;
-        Ok(FaultyPool {
-            core,
-            missing: Vec::new(alloc),
-        })
+        FaultyPool::over(alloc, disks, vdev)
     }
 
     /// From now on these disks are missing for reads under a group.

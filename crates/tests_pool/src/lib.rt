@@ -24,3 +24,5 @@ mod schedules;
 mod shown_slots;
 #[cfg(test)]
 mod telling;
+#[cfg(test)]
+mod test_disk;

@@ -1,10 +1,9 @@
 //! A volume of thousands of blocks, with indirect blocks below another: written by three groups,
 //! and read under each of them with disks missing.
-use crate::faulty_pool::zeros;
+use crate::faulty_pool::FaultyPool;
 use crate::telling::reply_to;
+use crate::test_disk::disks;
 use block_store::VdevConfig;
-use model_disk::MemDisk;
-use pool_core::Core;
 use pool_model::{Bytes, Name, Refusal, Reply};
 use raidz_map::Geometry;
 use std::alloc::{AllocError, Global};
@@ -109,10 +108,10 @@ fn lines(alloc: Global, group: u64) -> Result<String, AllocError> {
 }
 
 /// Whether no line of a group is refused.
-fn takes(alloc: Global, core: &mut Core<MemDisk>, group: u64) -> Result<bool, Fail> {
+fn takes(alloc: Global, pool: &mut FaultyPool, group: u64) -> Result<bool, Fail> {
     let lines = lines(alloc, group)?;
     for line in lines.lines() {
-        if let Reply::Refused(_) = reply_to(alloc, core, line)? {
+        if let Reply::Refused(_) = reply_to(alloc, pool, line)? {
             return Ok(false);
         }
     }
@@ -136,13 +135,15 @@ fn is_right(read: &Result<Bytes, Refusal>, group: u64, (offset, len): (u64, u64)
 
 /// Under which groups, and with which disks missing, something else is read than was written.
 /// Each has another of the ranges.
-fn misread(alloc: Global, core: &mut Core<MemDisk>, sets: &[&[usize]]) -> Result<String, Fail> {
+fn misread(alloc: Global, pool: &mut FaultyPool, sets: &[&[usize]]) -> Result<String, Fail> {
     let volume = Name::new(Vec::from_slice(alloc, b"v")?);
     let mut text = String::new(alloc);
     for (place, missing) in sets.iter().enumerate() {
         for group in 5..8 {
             let range = RANGES[(place % 5 + group as usize) % 5];
-            let read = core.read_under(group, &volume, range.0, range.1, missing);
+            let read = pool
+                .core
+                .read_under(group, &volume, range.0, range.1, missing);
             if !is_right(&read, group, range) {
                 text.push_str(format!(in alloc; "{group} {range:?} {missing:?}\n")?.as_str())?;
             }
@@ -154,31 +155,23 @@ fn misread(alloc: Global, core: &mut Core<MemDisk>, sets: &[&[usize]]) -> Result
 /// The cause for which a read with these disks missing is refused.
 fn cause(
     alloc: Global,
-    core: &mut Core<MemDisk>,
+    pool: &mut FaultyPool,
     missing: &[usize],
 ) -> Result<Option<Refusal>, AllocError> {
     let volume = Name::new(Vec::from_slice(alloc, b"v")?);
-    Ok(core.read_under(7, &volume, 0, 1, missing).err())
+    Ok(pool.core.read_under(7, &volume, 0, 1, missing).err())
 }
 
 /// What is told of the volume once its groups are committed.
-fn told(alloc: Global, core: &mut Core<MemDisk>, sets: &[&[usize]]) -> Result<String, Fail> {
+fn told(alloc: Global, pool: &mut FaultyPool, sets: &[&[usize]]) -> Result<String, Fail> {
     for group in 4..8 {
-        if !takes(alloc, core, group)? {
+        if !takes(alloc, pool, group)? {
             return Err(Fail::from(Refusal::NotNow));
         }
     }
-    let cause = cause(alloc, core, &[0, 1, 2])?;
-    let misread = misread(alloc, core, sets)?;
+    let cause = cause(alloc, pool, &[0, 1, 2])?;
+    let misread = misread(alloc, pool, sets)?;
     Ok(format!(in alloc; "{misread}{cause:?}")?)
-}
-
-fn four_disks(alloc: Global) -> Result<Vec<MemDisk>, AllocError> {
-    let mut disks = Vec::new(alloc);
-    for _ in 0..4 {
-        disks.push(MemDisk::holding(zeros(alloc, 0x800000)?))?;
-    }
-    Ok(disks)
 }
 
 /// The same of a pool of one vdev over four disks, of which each block can lose two.
@@ -188,9 +181,8 @@ fn told_of_pool(alloc: Global, sets: &[&[usize]]) -> Result<String, Fail> {
         metaslab_shift: 12,
         meta_slabs: 1,
     };
-    let disks = four_disks(alloc)?;
-    let mut core = Core::create(alloc, disks, &[vdev])?;
-    told(alloc, &mut core, sets)
+    let mut pool = FaultyPool::over(alloc, disks(alloc, 4, 0x800000)?, vdev)?;
+    told(alloc, &mut pool, sets)
 }
 
 // With three disks missing the read at the end is refused: so those that are named are missing.

@@ -1,6 +1,6 @@
 //! Calls of the parts by themselves: what no schedule says.
+use crate::test_disk::{TestDisk, disks};
 use block_store::VdevConfig;
-use model_disk::MemDisk;
 use plain_machine::Machine;
 use pool_commit::{Commit, Progress};
 use pool_core::Core;
@@ -536,7 +536,7 @@ pub(crate) fn three_disks() -> Result<VdevConfig, Fail> {
     })
 }
 
-fn replies_of(alloc: Global, core: &mut Core<MemDisk>) -> Result<String, Fail> {
+fn replies_of(alloc: Global, core: &mut Core<TestDisk>) -> Result<String, Fail> {
     let steps = steps(alloc, WRITING + BEHIND)?;
     let mut replies = Vec::new(alloc);
     pool_core::run(core, steps, &mut replies)?;
@@ -545,7 +545,7 @@ fn replies_of(alloc: Global, core: &mut Core<MemDisk>) -> Result<String, Fail> {
 
 fn run_over_disks(alloc: Global) -> Result<String, Fail> {
     let vdev = three_disks()?;
-    let disks = MemDisk::several(alloc, 3, 0x800000)?;
+    let disks = disks(alloc, 3, 0x800000)?;
     let mut core = Core::create(alloc, disks, &[vdev])?;
     replies_of(alloc, &mut core)
 }
@@ -569,7 +569,7 @@ fn runs_are_replied_to(rt: HostRuntime) -> Result<(), Fail> {
 
 fn refusal_over(alloc: Global, count: usize, size: usize) -> Result<Option<Refusal>, Fail> {
     let vdev = three_disks()?;
-    let disks = MemDisk::several(alloc, count, size)?;
+    let disks = disks(alloc, count, size)?;
     Ok(Core::create(alloc, disks, &[vdev]).err())
 }
 
@@ -616,13 +616,13 @@ const LARGE: u64 = 0x20000;
 
 /// A pool of one vdev over two small disks, of which each block can lose one: the meta region of one
 /// metaslab, and before it two, each for eight large blocks.
-fn small_commit(alloc: Global) -> Result<Commit<MemDisk>, Fail> {
+fn small_commit(alloc: Global) -> Result<Commit<TestDisk>, Fail> {
     let vdev = VdevConfig {
         geometry: Geometry::new(2, 1, 9)?,
         metaslab_shift: 12,
         meta_slabs: 1,
     };
-    let disks = MemDisk::several(alloc, 2, 0x800000)?;
+    let disks = disks(alloc, 2, 0x800000)?;
     Ok(Commit::new(alloc, disks, &[vdev])?)
 }
 
@@ -658,7 +658,7 @@ fn items_of(alloc: Global, group: u64) -> Result<Pipeline, Fail> {
 }
 
 /// Makes the plan's device calls, and says whether the group is committed then.
-fn is_done(commit: &mut Commit<MemDisk>) -> bool {
+fn is_done(commit: &mut Commit<TestDisk>) -> bool {
     for _ in 0..100 {
         match commit.device() {
             Some(Progress::Moved(_)) => {}
@@ -671,7 +671,7 @@ fn is_done(commit: &mut Commit<MemDisk>) -> bool {
 /// What the plan of a group is refused for; one that isn't is committed.
 fn plan_cause(
     alloc: Global,
-    commit: &mut Commit<MemDisk>,
+    commit: &mut Commit<TestDisk>,
     group: u64,
 ) -> Result<(Option<pool_commit::Refusal>, bool), Fail> {
     if commit.is_planned() {
@@ -682,7 +682,7 @@ fn plan_cause(
     Ok((cause, is_done(commit)))
 }
 
-fn causes(alloc: Global, commit: &mut Commit<MemDisk>) -> Result<String, Fail> {
+fn causes(alloc: Global, commit: &mut Commit<TestDisk>) -> Result<String, Fail> {
     let mut text = String::new(alloc);
     for group in 0..4 {
         let cause = plan_cause(alloc, commit, group)?;

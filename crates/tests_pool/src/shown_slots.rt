@@ -1,6 +1,7 @@
 //! The uberblock slots that a commit writes.
 use crate::parts::{BEHIND, WRITING, steps, three_disks};
-use model_disk::{DiskArray, MemDisk};
+use crate::test_disk::{TestDisk, disks};
+use model_disk::DiskArray;
 use pool_core::Core;
 use std::alloc::Global;
 use std::test::Fail;
@@ -10,16 +11,16 @@ use uberblock_ring::{Uberblock, read_slots};
 const LABELS_LEN: u64 = 1_048_576;
 
 /// Commits group 4, which makes a volume.
-fn commit(alloc: Global, core: &mut Core<MemDisk>) -> Result<(), Fail> {
+fn commit(alloc: Global, core: &mut Core<TestDisk>) -> Result<(), Fail> {
     let steps = steps(alloc, WRITING + BEHIND)?;
     let mut replies = Vec::new(alloc);
     pool_core::run(core, steps, &mut replies).map_err(Fail::from)
 }
 
 /// The disks of a pool of three that has committed it.
-fn committed(alloc: Global) -> Result<DiskArray<MemDisk>, Fail> {
+fn committed(alloc: Global) -> Result<DiskArray<TestDisk>, Fail> {
     let vdev = three_disks()?;
-    let disks = MemDisk::several(alloc, 3, 0x800000)?;
+    let disks = disks(alloc, 3, 0x800000)?;
     let mut core = Core::create(alloc, disks, &[vdev])?;
     let ran = commit(alloc, &mut core);
     let disks = core.into_disks();
@@ -55,7 +56,7 @@ fn counts(slots: &[Option<Uberblock>]) -> (u32, u32) {
 /// The same of a disk. It has no slots where it isn't there, or has no room for labels.
 fn counted_on(
     alloc: Global,
-    disks: &mut DiskArray<MemDisk>,
+    disks: &mut DiskArray<TestDisk>,
     which: usize,
 ) -> Result<(u32, u32), Fail> {
     if which >= disks.len() || disks.size(which) < LABELS_LEN {
@@ -66,7 +67,7 @@ fn counted_on(
 }
 
 /// The same of each disk.
-fn counted_on_all(alloc: Global, disks: &mut DiskArray<MemDisk>) -> Result<[(u32, u32); 3], Fail> {
+fn counted_on_all(alloc: Global, disks: &mut DiskArray<TestDisk>) -> Result<[(u32, u32); 3], Fail> {
     let first = counted_on(alloc, disks, 0)?;
     let second = counted_on(alloc, disks, 1)?;
     Ok([first, second, counted_on(alloc, disks, 2)?])

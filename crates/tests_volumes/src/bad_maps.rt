@@ -1,4 +1,4 @@
-//! Roots with space maps that are none of their metaslabs, as an open reads them.
+//! Roots with space maps that are none of their metaslabs, or without stale spans, as an open reads them.
 ghost use Rattle.std.specs.Prelude.{◌+◌, ◌<◌, ◌≤◌, ◌^◌, length, IfOk};
 ghost use Rattle.dnode.specs.ObjectSet.{FitsObjectSet};
 
@@ -7,8 +7,8 @@ use crate::stores::{Store, new_store};
 use block_pointer::Block;
 use block_store::VdevShape;
 use dnode::ObjectSet;
-use meta_objset::{Directory, MetaslabMap, MetaslabPlace, SpaceMaps};
-use pool_open::{Refusal, read_root};
+use meta_objset::{Directory, MetaslabMap, MetaslabPlace, SpaceMaps, StaleSpans};
+use pool_open::{ReadRoot, Refusal, read_root};
 use space_map::{FreeSet, Kind, Run};
 use std::alloc::Global;
 use std::test::Fail;
@@ -45,19 +45,24 @@ fn table_of(alloc: Global, metaslab: MetaslabPlace) -> Result<SpaceMaps, Fail>
     Ok(table)
 }
 
-/// A meta object set of a pool with no volumes, with that map for that metaslab.
+/// A meta object set of a pool with no volumes, with that map for that metaslab, and an empty table as the object of this number:
+/// 3 is that of the stale spans.
 fn set_with(
     store: &mut Store,
     alloc: Global,
     metaslab: MetaslabPlace,
     free: &FreeSet,
+    spans: u64,
 ) -> Result<ObjectSet, Fail>
+    requires { (0 < spans) × (spans < 32) }
     ensures { IfOk result FitsObjectSet }
 {
     let made = space_map_objects::creation(alloc, free)?;
     let set = with(&EMPTY, store, alloc, 5, made, 1)?;
     let made = table_of(alloc, metaslab)?.creation(alloc)?;
     let set = with(&set, store, alloc, 4, made, 2)?;
+    let made = StaleSpans::new(alloc).creation(alloc)?;
+    let set = with(&set, store, alloc, spans, made, 2)?;
     let made = Directory::new(alloc).creation(alloc)?;
     Ok(with(&set, store, alloc, 1, made, 3)?)
 }
@@ -68,8 +73,11 @@ fn root_with(
     alloc: Global,
     metaslab: MetaslabPlace,
     free: &FreeSet,
-) -> Result<(Block, Vec<VdevShape>), Fail> {
-    let set = set_with(store, alloc, metaslab, free)?;
+    spans: u64,
+) -> Result<(Block, Vec<VdevShape>), Fail>
+    requires { (0 < spans) × (spans < 32) }
+{
+    let set = set_with(store, alloc, metaslab, free, spans)?;
     let root = root_block(&set, store, alloc)?;
     let mut shapes = Vec::new(alloc);
     for index in 0..store.vdev_count() {
@@ -78,31 +86,38 @@ fn root_with(
     Ok((root, shapes))
 }
 
-/// How many space maps an open reads under such a root; or the number of its refusal.
-fn opened(alloc: Global, index: u64, free: &FreeSet) -> Result<Result<usize, u8>, Fail> {
+/// How many space maps and stale spans an open reads under such a root; or the number of its refusal.
+type Opened = Result<(usize, usize), u8>;
+
+fn opened(alloc: Global, index: u64, free: &FreeSet, spans: u64) -> Result<Opened, Fail>
+    requires { (0 < spans) × (spans < 32) }
+{
     let mut store = new_store(alloc)?;
     let metaslab = MetaslabPlace { vdev: 0, index };
-    let (root, shapes) = root_with(&mut store, alloc, metaslab, free)?;
+    let (root, shapes) = root_with(&mut store, alloc, metaslab, free, spans)?;
     let disks = store.into_array();
     match read_root(alloc, disks, &shapes, &[false; 3], &root, root.birth, LEFT) {
-        Ok(read) => Ok(Ok(read.contents.maps.len())),
-        Err(refusal) => Ok(Err(Refusal::from(refusal).number())),
+        Ok(ReadRoot { contents, .. }) => {
+            Ok(Ok((contents.maps.len(), contents.spans.rows().len())))
+        }
+        Err((refusal, _)) => Ok(Err(Refusal::from(refusal).number())),
     }
 }
 
-/// A map of the metaslab, one of a greater metaslab, and a map for a metaslab that isn't there.
-fn outcomes(alloc: Global) -> Result<[Result<usize, u8>; 3], Fail> {
+/// A map of the metaslab, one of a greater metaslab, a map for a metaslab that isn't there, and no stale spans.
+fn outcomes(alloc: Global) -> Result<[Opened; 4], Fail> {
     let own = all_but(alloc, METASLAB, 100)?;
     let greater = all_but(alloc, 2 * METASLAB, METASLAB)?;
     Ok([
-        opened(alloc, 0, &own)?,
-        opened(alloc, 0, &greater)?,
-        opened(alloc, 99, &own)?,
+        opened(alloc, 0, &own, 3)?,
+        opened(alloc, 0, &greater, 3)?,
+        opened(alloc, 99, &own, 3)?,
+        opened(alloc, 0, &own, 6)?,
     ])
 }
 
 #[test]
-fn bad_maps_are_refused(rt: HostRuntime) -> Result<(), Fail> {
-    assert!(rt; outcomes(rt.alloc())? == [Ok(1), Err(27), Err(20)]);
+fn bad_tables_are_refused(rt: HostRuntime) -> Result<(), Fail> {
+    assert!(rt; outcomes(rt.alloc())? == [Ok((1, 0)), Err(27), Err(20), Err(20)]);
     Ok(())
 }

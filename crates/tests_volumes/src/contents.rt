@@ -82,7 +82,7 @@ fn read_again(alloc: Global, out: &[bool]) -> Result<Result<[bool; 5], Refusal>,
     let disks = store.into_array();
     match read_root(alloc, disks, &shapes, out, &root, root.birth, LEFT) {
         Ok(read) => outcomes(&read.contents, alloc).map(Ok),
-        Err(refusal) => Ok(Err(refusal)),
+        Err((refusal, _)) => Ok(Err(refusal)),
     }
 }
 

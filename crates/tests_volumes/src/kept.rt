@@ -5,15 +5,13 @@ use crate::groups::{
 };
 use crate::roots::first_with;
 use crate::sets::name_of;
-use crate::stores::{Store, new_store, store_of};
+use crate::stores::{Store, new_store};
 use block_pointer::Block;
-use block_store::BlockStore;
 use dataset_snapshots::{
     FirstRoot, KeptDirectory, NextRoot, Refusal, VolumeRange, after_group, directory_under,
     find_in, read_range_in,
 };
 use meta_objset::{Directory, DirectoryRow};
-use model_disk::{Disk, DiskError, MemDisk};
 use pool_model::Name;
 use std::alloc::{AllocError, Global};
 use std::test::Fail;
@@ -82,9 +80,9 @@ fn roots_come_with_their_directories(rt: HostRuntime) -> Result<(), Fail> {
 }
 
 /// The bytes of a volume from one on, by a directory that is kept.
-fn bytes_in<D: Disk + Drop>(
+fn bytes_in(
     root: &Block,
-    store: &mut BlockStore<D>,
+    store: &mut Store,
     alloc: Global,
     directory: &Directory,
     name: &Name,
@@ -172,52 +170,11 @@ fn volumes_are_read_by_a_kept_directory(rt: HostRuntime) -> Result<(), Fail> {
     Ok(())
 }
 
-/// A disk that counts its reads.
-#[derive(Drop)]
-struct CountedDisk<D: Disk + Drop> {
-    inner: D,
-    reads: u64,
-}
-
-impl<D: Disk + Drop> Disk for CountedDisk<D> {
-    ghost start = { λ disk. D.start disk.inner };
-
-    ghost calls = { λ disk. D.calls disk.inner };
-
-    fn size(&self) -> u64 {
-        self.inner.size()
-    }
-
-    fn read(&mut self, at: u64, buffer: &mut [u8]) -> Result<(), DiskError> {
-        self.reads = self.reads.saturating_add(1);
-        self.inner.read(at, buffer)
-    }
-
-    fn write_at(&mut self, at: u64, bytes: &[u8]) -> Result<(), DiskError> {
-        self.inner.write_at(at, bytes)
-    }
-
-    fn flush(&mut self) -> Result<(), DiskError> {
-        self.inner.flush()
-    }
-}
-
-type CountedStore = BlockStore<CountedDisk<MemDisk>>;
-
-fn counted_store(alloc: Global) -> Result<CountedStore, Fail> {
-    let mut disks = Vec::new(alloc);
-    for _ in 0..3 {
-        let inner = MemDisk::new(alloc, 16 << 20)?;
-        disks.push(CountedDisk { inner, reads: 0 })?;
-    }
-    store_of(alloc, disks)
-}
-
 /// How many reads its disks have counted.
-fn reads_of(store: CountedStore) -> u64 {
+fn reads_of(store: Store) -> u64 {
     let mut reads: u64 = 0;
     for disk in &store.into_disks() {
-        reads = reads.saturating_add(disk.reads);
+        reads = reads.saturating_add(disk.reads());
     }
     reads
 }
@@ -242,7 +199,7 @@ fn accept_many(pipeline: &mut Pipeline, alloc: Global, count: u8) -> Result<(), 
 }
 
 /// The first root after a group that makes so many volumes.
-fn root_of_many(store: &mut CountedStore, alloc: Global, count: u8) -> Result<FirstRoot, Fail> {
+fn root_of_many(store: &mut Store, alloc: Global, count: u8) -> Result<FirstRoot, Fail> {
     let mut pipeline = Pipeline::new(alloc, 3);
     accept_many(&mut pipeline, alloc, count)?;
     first_with(store, alloc, &pipeline)
@@ -250,7 +207,7 @@ fn root_of_many(store: &mut CountedStore, alloc: Global, count: u8) -> Result<Fi
 
 /// A root, and its directory as it came with it, or as it is read.
 fn root_with_directory(
-    store: &mut CountedStore,
+    store: &mut Store,
     alloc: Global,
     count: u8,
     is_kept: bool,
@@ -266,7 +223,7 @@ fn root_with_directory(
 }
 
 /// Whether a range of a volume reads as zeros, by the directory that a root came with.
-fn is_zeros_in(first: &FirstRoot, store: &mut CountedStore, alloc: Global, name: &Name) -> bool {
+fn is_zeros_in(first: &FirstRoot, store: &mut Store, alloc: Global, name: &Name) -> bool {
     match bytes_in(
         &first.root,
         store,
@@ -281,12 +238,7 @@ fn is_zeros_in(first: &FirstRoot, store: &mut CountedStore, alloc: Global, name:
 }
 
 /// The same of the last of so many volumes.
-fn is_last_read(
-    store: &mut CountedStore,
-    alloc: Global,
-    count: u8,
-    is_kept: bool,
-) -> Result<bool, Fail> {
+fn is_last_read(store: &mut Store, alloc: Global, count: u8, is_kept: bool) -> Result<bool, Fail> {
     let name = name_among(alloc, count)?;
     let first = root_with_directory(store, alloc, count, is_kept)?;
     Ok(is_zeros_in(&first, store, alloc, &name))
@@ -294,7 +246,7 @@ fn is_last_read(
 
 /// How many reads of disks a range of the last of so many volumes takes, by the directory that was kept, or by one that is read first.
 fn reads_among(alloc: Global, count: u8, is_kept: bool) -> Result<u64, Fail> {
-    let mut store = counted_store(alloc)?;
+    let mut store = new_store(alloc)?;
     let is_read = is_last_read(&mut store, alloc, count, is_kept);
     let reads = reads_of(store);
     Ok(if is_read? { reads } else { 0 })
@@ -320,7 +272,7 @@ fn reads_do_not_grow_with_the_names(rt: HostRuntime) -> Result<(), Fail> {
 }
 
 /// The root after a group that writes to the last of so many volumes.
-fn written_of_many(store: &mut CountedStore, alloc: Global, count: u8) -> Result<NextRoot, Fail> {
+fn written_of_many(store: &mut Store, alloc: Global, count: u8) -> Result<NextRoot, Fail> {
     let pipeline = group_of(alloc, write_to(alloc, 1, name_among(alloc, count)?)?)?;
     let first = root_of_many(store, alloc, count)?;
     store.drop_plan(2);
@@ -331,13 +283,13 @@ fn written_of_many(store: &mut CountedStore, alloc: Global, count: u8) -> Result
 }
 
 /// The group that it is born in.
-fn birth_of_many(store: &mut CountedStore, alloc: Global, count: u8) -> Result<u64, Fail> {
+fn birth_of_many(store: &mut Store, alloc: Global, count: u8) -> Result<u64, Fail> {
     Ok(written_of_many(store, alloc, count)?.root.birth)
 }
 
 /// How many reads of disks the plan of that group takes.
 fn plan_reads_among(alloc: Global, count: u8) -> Result<u64, Fail> {
-    let mut store = counted_store(alloc)?;
+    let mut store = new_store(alloc)?;
     let birth = birth_of_many(&mut store, alloc, count);
     let reads = reads_of(store);
     Ok(if birth? == 2 { reads } else { 0 })

@@ -2,17 +2,15 @@
 ghost use Rattle.std.specs.Prelude.{IfOk, ◌<◌, ◌≤◌};
 ghost use Rattle.volume.specs.Volume.{size_of, block_size_of, HasShape};
 
-use crate::stores::store_plan;
+use crate::stores::{NEVER, Store, TestDisk, store_plan};
 use crate::volumes::{accepted, name, write_of};
 use block_store::{BlockStore, VdevConfig};
-use model_disk::{Fault, FaultDisk, MemDisk};
+use model_disk::Fault;
 use pool_model::Write;
 use raidz_map::Geometry;
 use std::alloc::{AllocError, Global};
 use std::test::Fail;
 use volume::{GroupWrites, Refusal, VolumeSet};
-
-type LossyStore = BlockStore<FaultDisk<MemDisk>>;
 
 /// The smallest disk.
 const DISK_BYTES: usize = 0x800000;
@@ -22,11 +20,8 @@ const SIZE: u64 = 2048;
 
 const BLOCK_SIZE: u64 = 512;
 
-/// Fails at no call.
-const NEVER: Fault = Fault::At(u64::MAX);
-
 /// Six disks, of which the second and the third fail at their first flush.
-fn six_disks(alloc: Global) -> Result<Vec<FaultDisk<MemDisk>>, Fail> {
+fn six_disks(alloc: Global) -> Result<Vec<TestDisk>, Fail> {
     let mut disks = Vec::new(alloc);
     for which in 0..6u64 {
         let fault = if matches!(which, 1 | 2) {
@@ -34,13 +29,13 @@ fn six_disks(alloc: Global) -> Result<Vec<FaultDisk<MemDisk>>, Fail> {
         } else {
             NEVER
         };
-        disks.push(FaultDisk::new(MemDisk::new(alloc, DISK_BYTES)?, fault))?;
+        disks.push(TestDisk::new(alloc, DISK_BYTES, fault)?)?;
     }
     Ok(disks)
 }
 
 /// Two vdevs of three disks. The first block of data goes to the first of them and the next one to the second, and all else lies in both.
-fn new_store(alloc: Global) -> Result<LossyStore, Fail> {
+fn new_store(alloc: Global) -> Result<Store, Fail> {
     let vdev = VdevConfig {
         geometry: Geometry::new(3, 1, 9)?,
         metaslab_shift: 12,
@@ -51,7 +46,7 @@ fn new_store(alloc: Global) -> Result<LossyStore, Fail> {
 }
 
 /// Flushes each disk: those that fail are out.
-fn lose_disks(store: &mut LossyStore) {
+fn lose_disks(store: &mut Store) {
     for disk in 0..store.disk_count() {
         if disk < store.disk_count() {
             let _ = store.flush(disk);
@@ -60,7 +55,7 @@ fn lose_disks(store: &mut LossyStore) {
 }
 
 /// A volume of zeros, once it is stored.
-fn made(store: &mut LossyStore, alloc: Global) -> Result<VolumeSet, Refusal>
+fn made(store: &mut Store, alloc: Global) -> Result<VolumeSet, Refusal>
     ensures { IfOk result (λ volume. HasShape volume 2048 512) }
 {
     store.drop_plan(1);
@@ -79,7 +74,7 @@ fn front(alloc: Global, byte: u8, len: usize) -> Result<Vec<Write>, AllocError> 
 /// The volume after what a group writes, once it is stored. The volume before was stored in the second group, or earlier.
 fn with_writes(
     volume: &VolumeSet,
-    store: &mut LossyStore,
+    store: &mut Store,
     alloc: Global,
     group: u64,
     changes: &GroupWrites,
@@ -97,7 +92,7 @@ fn with_writes(
 /// The volume after a write of so many bytes of one value at its front.
 fn with_front(
     volume: &VolumeSet,
-    store: &mut LossyStore,
+    store: &mut Store,
     alloc: Global,
     group: u64,
     byte: u8,
@@ -117,12 +112,7 @@ fn with_front(
 }
 
 /// Whether its first block has bytes of one value, or why it was not read.
-fn is_front(
-    volume: &VolumeSet,
-    store: &mut LossyStore,
-    alloc: Global,
-    byte: u8,
-) -> Result<bool, Refusal>
+fn is_front(volume: &VolumeSet, store: &mut Store, alloc: Global, byte: u8) -> Result<bool, Refusal>
     requires { 512 ≤ size_of volume.now }
 {
     let read = volume.read(store, alloc, 4, 0, BLOCK_SIZE, &[])?;
@@ -130,7 +120,7 @@ fn is_front(
 }
 
 /// Whether the first block can't be read, a write of a part of it is refused, and one of all its bytes makes it readable.
-fn outcomes(store: &mut LossyStore, alloc: Global) -> Result<[bool; 3], Refusal> {
+fn outcomes(store: &mut Store, alloc: Global) -> Result<[bool; 3], Refusal> {
     let zeros = made(store, alloc)?;
     let before = with_front(&zeros, store, alloc, 2, 5, 512)?;
     lose_disks(store);

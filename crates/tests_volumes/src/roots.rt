@@ -6,11 +6,9 @@ ghost use Rattle.meta_objset.specs.Record.{FitsRecord};
 use crate::sets::{EMPTY, name_of, record_of, root_block, volume_block, with};
 use crate::stores::{Store, new_store, store_plan};
 use block_pointer::Block;
-use block_store::BlockStore;
 use dataset_snapshots::{Dataset, FirstRoot, find, first_group};
 use dnode::ObjectSet;
 use meta_objset::{DatasetRecord, Directory, is_name, record_creation};
-use model_disk::Disk;
 use pool_model::Name;
 use std::alloc::Global;
 use std::test::Fail;
@@ -101,8 +99,8 @@ pub(crate) fn first_root(
 }
 
 /// And its directory.
-pub(crate) fn first_with<D: Disk + Drop>(
-    store: &mut BlockStore<D>,
+pub(crate) fn first_with(
+    store: &mut Store,
     alloc: Global,
     pipeline: &Pipeline,
 ) -> Result<FirstRoot, Fail> {
