@@ -7,7 +7,7 @@ use crate::stores::{Store, new_store};
 use block_pointer::Block;
 use block_store::VdevShape;
 use dnode::ObjectSet;
-use meta_objset::{Directory, MetaslabMap, MetaslabPlace, SpaceMaps, StaleSpans};
+use meta_objset::{Directory, MetaslabMap, MetaslabPlace, SpaceMaps, StaleSpan, StaleSpans};
 use pool_open::{ReadRoot, Refusal, read_root};
 use space_map::{FreeSet, Kind, Run};
 use std::alloc::Global;
@@ -45,8 +45,24 @@ fn table_of(alloc: Global, metaslab: MetaslabPlace) -> Result<SpaceMaps, Fail>
     Ok(table)
 }
 
-/// A meta object set of a pool with no volumes, with that map for that metaslab, and an empty table as the object of this number:
-/// 3 is that of the stale spans.
+/// One disk missed the blocks of groups 2 and 3.
+fn one_span(alloc: Global) -> Result<StaleSpans, Fail>
+    ensures { IfOk result (λ spans. length spans < 2 ^ 40) }
+{
+    let mut spans = StaleSpans::new(alloc);
+    spans.set(StaleSpan {
+        disk: 101,
+        from: 2,
+        to: 3,
+    })?;
+    if spans.rows().len() > 1 {
+        return Ok(StaleSpans::new(alloc));
+    }
+    Ok(spans)
+}
+
+/// A meta object set of a pool with no volumes, with that map for that metaslab, and a stale span in the object of this number, which is
+/// 3 where it is to be found.
 fn set_with(
     store: &mut Store,
     alloc: Global,
@@ -61,7 +77,7 @@ fn set_with(
     let set = with(&EMPTY, store, alloc, 5, made, 1)?;
     let made = table_of(alloc, metaslab)?.creation(alloc)?;
     let set = with(&set, store, alloc, 4, made, 2)?;
-    let made = StaleSpans::new(alloc).creation(alloc)?;
+    let made = one_span(alloc)?.creation(alloc)?;
     let set = with(&set, store, alloc, spans, made, 2)?;
     let made = Directory::new(alloc).creation(alloc)?;
     Ok(with(&set, store, alloc, 1, made, 3)?)
@@ -118,6 +134,6 @@ fn outcomes(alloc: Global) -> Result<[Opened; 4], Fail> {
 
 #[test]
 fn bad_tables_are_refused(rt: HostRuntime) -> Result<(), Fail> {
-    assert!(rt; outcomes(rt.alloc())? == [Ok((1, 0)), Err(27), Err(20), Err(20)]);
+    assert!(rt; outcomes(rt.alloc())? == [Ok((1, 1)), Err(27), Err(20), Err(20)]);
     Ok(())
 }
