@@ -13,7 +13,7 @@ use Rattle.space_map.specs.declared.entry.Run.{Run}
 use Rattle.space_map.specs.Sectors.{names}
 use Rattle.metaslab.specs.Space.{Space, state, sectors_of}
 use Rattle.metaslab.specs.State.{State, Free, InUse, Released, settled, is_due}
-use Rattle.metaslab_group.specs.Spaces.{ChangesIn}
+use Rattle.metaslab.specs.Spaces.{ChangesIn}
 use Rattle.block_store.specs.declared.shape.VdevShape.{VdevShape}
 use Rattle.block_store.specs.Accounts.{SectorAt, IsUsed, HasSector, AreAccounted}
 use Rattle.block_store.specs.Blocks.{Contents}

@@ -11,8 +11,8 @@ use Rattle.space_map.specs.declared.entry.Run.{Run}
 use Rattle.space_map.specs.Sectors.{names}
 use Rattle.metaslab.specs.Space.{Space, state}
 use Rattle.metaslab.specs.State.{State, Free, InUse, Released}
-use Rattle.metaslab_group.proofs.Elements.{length_set}
-use Rattle.metaslab_group.specs.Spaces.{ChangesIn}
+use Rattle.metaslab.proofs.Elements.{length_set}
+use Rattle.metaslab.specs.Spaces.{ChangesIn}
 use Rattle.block_store.specs.Beside.{IsFreeBeside, AreFreeBeside}
 use Rattle.block_store.specs.Opened.{TakeIn}
 use Rattle.block_store.specs.Places.{shapes_of, HaveMarks, run_at, EachSector, IsFree, AreChosen, IsTakenToo}

@@ -12,7 +12,7 @@ use Rattle.block_pointer.specs.declared.copies.Copies.TheVariants.{One}
 use Rattle.raidz_io.specs.Stands.{IsDone}
 use Rattle.raidz_io.proofs.Written.{same_some}
 use Rattle.metaslab.specs.State.{State, Free, InUse, Released}
-use Rattle.metaslab_group.specs.Spaces.{ChangesIn}
+use Rattle.metaslab.specs.Spaces.{ChangesIn}
 use Rattle.block_store.specs.declared.refusal.Refusal.{Refusal}
 use Rattle.block_store.specs.declared.refusal.Refusal.TheVariants.{NoMemory, BadPointer}
 use Rattle.block_store.specs.Blocks.{Contents, AreStored, AreDistinct}

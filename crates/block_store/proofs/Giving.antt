@@ -14,10 +14,10 @@ use Rattle.space_map.proofs.RunLemmas.{named}
 use Rattle.metaslab.specs.Calls.{AreUnused}
 use Rattle.metaslab.specs.Space.{Space, state, sectors_of}
 use Rattle.metaslab.specs.State.{State, InUse, Released, is_in_use}
-use Rattle.metaslab_group.specs.Spaces.{ChangesIn}
+use Rattle.metaslab.specs.Spaces.{ChangesIn}
 use Rattle.block_store.specs.declared.gone.MetaslabAt.{MetaslabAt}
 use Rattle.block_store.specs.Gone.{CannotGiveBack, GivesBack, HasUnused}
-use Rattle.metaslab_group.specs.Maps.{HoldsAt}
+use Rattle.metaslab.specs.Maps.{HoldsAt}
 use Rattle.block_store.specs.Maps.{group_of, HasSectors, LeavesUnused}
 use Rattle.block_store.specs.Places.{filled, planned, run_at}
 use Rattle.block_store.specs.Releases.{CopyAt, AreReleased, IsReleased}

@@ -16,8 +16,8 @@ use Rattle.space_map.proofs.RunLemmas.{named}
 use Rattle.metaslab.specs.Space.{Space, state, sectors_of}
 use Rattle.metaslab.specs.State.{State, Free, InUse}
 use Rattle.metaslab.specs.Unused.{is_unused}
-use Rattle.metaslab_group.specs.Maps.{AreWhollyFreeOf, HoldsAt, LoadsAt}
-use Rattle.metaslab_group.specs.Spaces.{Spaces, GroupSpaces}
+use Rattle.metaslab.specs.Maps.{AreWhollyFreeOf, HoldsAt, LoadsAt}
+use Rattle.metaslab.specs.Spaces.{Spaces, GroupSpaces}
 use Rattle.block_store.specs.declared.shape.VdevShape.{VdevShape}
 use Rattle.block_store.specs.Accounts.{SectorAt, IsUsed}
 use Rattle.block_store.specs.Maps.{group_of, HasMetaslab, HoldsIn, LoadsIn, IsElsewhere}

@@ -8,7 +8,7 @@ use Rattle.block_pointer.specs.declared.dva.Dva.{Dva}
 use Rattle.raidz_io.proofs.Written.{same_some, slice_get_some}
 use Rattle.metaslab.specs.Space.{Space, state}
 use Rattle.metaslab.specs.State.{State, settled}
-use Rattle.metaslab_group.specs.Spaces.{AreSettled, AreSettledInPart}
+use Rattle.metaslab.specs.Spaces.{AreSettled, AreSettledInPart}
 use Rattle.block_store.specs.declared.shape.VdevShape.{VdevShape}
 use Rattle.block_store.specs.Blocks.{Contents}
 use Rattle.block_store.specs.Spaces.{VdevSpace}

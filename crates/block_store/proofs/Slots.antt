@@ -13,7 +13,7 @@ use Rattle.space_map.specs.declared.entry.Run.{Run}
 use Rattle.metaslab.specs.Space.{Space, sectors_of}
 use Rattle.metaslab.specs.State.{State, Free, InUse}
 use Rattle.metaslab.specs.Calls.{IsRunOf}
-use Rattle.metaslab_group.specs.Spaces.{GroupSpaces, IsFreeIn, IsInUseIn, ChangesIn, AreSettled, AreSettledInPart}
+use Rattle.metaslab.specs.Spaces.{GroupSpaces, IsFreeIn, IsInUseIn, ChangesIn, AreSettled, AreSettledInPart}
 use Rattle.block_store.specs.declared.shape.VdevShape.{VdevShape}
 use Rattle.block_store.specs.Spaces.{VdevSpace, AreMetaslabsOf}
 use Rattle.block_store.specs.Places.{run_at, EachSector, IsFree, IsTakenIn}

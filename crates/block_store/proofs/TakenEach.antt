@@ -9,7 +9,7 @@ use Rattle.block_pointer.specs.declared.dva.Dva.{Dva}
 use Rattle.block_pointer.specs.Copies.{dvas}
 use Rattle.raidz_io.proofs.Written.{same_some}
 use Rattle.metaslab.specs.State.{State, Free, InUse}
-use Rattle.metaslab_group.specs.Spaces.{ChangesIn}
+use Rattle.metaslab.specs.Spaces.{ChangesIn}
 use Rattle.block_store.specs.Opened.{HasFreePlace, TakesIn, TakeIn, TakeInPart, CannotTakeIn}
 use Rattle.block_store.specs.Places.{Marks, shapes_of, run_at, EachSector, IsFree, IsPlaceIn, IsPlaceFor}
 use Rattle.block_store.specs.Places.{filled as filled_marks, planned as planned_marks}

@@ -11,7 +11,7 @@ use Rattle.space_map.specs.Sectors.{names}
 use Rattle.space_map.proofs.RunLemmas.{named}
 use Rattle.metaslab.specs.Space.{Space, state, sectors_of}
 use Rattle.metaslab.specs.State.{State, Free, InUse}
-use Rattle.metaslab_group.specs.Spaces.{ChangesIn}
+use Rattle.metaslab.specs.Spaces.{ChangesIn}
 use Rattle.block_store.specs.declared.shape.VdevShape.{VdevShape}
 use Rattle.block_store.specs.Accounts.{SectorAt, IsUsed}
 use Rattle.block_store.specs.Opened.{TakesIn, TakeIn}

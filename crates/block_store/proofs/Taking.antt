@@ -21,7 +21,7 @@ use Rattle.space_map.specs.Sectors.{names}
 use Rattle.space_map.proofs.RunLemmas.{is_named}
 use Rattle.metaslab.specs.Space.{Space, state}
 use Rattle.metaslab.specs.State.{Free, InUse}
-use Rattle.metaslab_group.specs.Spaces.{ChangesIn}
+use Rattle.metaslab.specs.Spaces.{ChangesIn}
 use Rattle.block_store.proofs.Sizes.{asize_some}
 use Rattle.block_store.specs.Shapes.{metaslab_sectors, metaslab_of, sector_of, IsPlace, IsInRegion}
 use Rattle.block_store.specs.Store.{ArePlaced}

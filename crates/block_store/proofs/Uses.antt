@@ -11,7 +11,7 @@ use Rattle.space_map.specs.Sectors.{names}
 use Rattle.space_map.proofs.RunLemmas.{named}
 use Rattle.metaslab.specs.Space.{Space, state}
 use Rattle.metaslab.specs.State.{State, Free, InUse, Released}
-use Rattle.metaslab_group.specs.Spaces.{ChangesIn}
+use Rattle.metaslab.specs.Spaces.{ChangesIn}
 use Rattle.block_store.specs.declared.shape.VdevShape.{VdevShape}
 use Rattle.block_store.specs.Spaces.{VdevSpace}
 use Rattle.block_store.specs.Shapes.{metaslab_sectors, metaslab_of, IsPlace}

@@ -4,8 +4,8 @@ use Rattle.space_map.specs.FreeRuns.{FreeRuns}
 use Rattle.metaslab.specs.Calls.{AreUnused}
 use Rattle.metaslab.specs.Space.{Space}
 use Rattle.metaslab.specs.State.{State}
-use Rattle.metaslab_group.specs.Maps.{AreWhollyFreeOf, HoldsAt, LoadsAt}
-use Rattle.metaslab_group.specs.Spaces.{Spaces, GroupSpaces}
+use Rattle.metaslab.specs.Maps.{AreWhollyFreeOf, HoldsAt, LoadsAt}
+use Rattle.metaslab.specs.Spaces.{Spaces, GroupSpaces}
 use Rattle.block_store.specs.Accounts.{SectorAt, IsUsed}
 use Rattle.block_store.specs.Places.{Marks, filled, planned}
 use Rattle.block_store.specs.Shapes.{metaslabs, metaslab_sectors}

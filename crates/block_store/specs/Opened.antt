@@ -5,7 +5,7 @@ use Rattle.block_pointer.specs.declared.block.Block.{Block}
 use Rattle.block_pointer.specs.Copies.{dvas}
 use Rattle.block_pointer.specs.declared.dva.Dva.{Dva}
 use Rattle.metaslab.specs.State.{State, Free, InUse}
-use Rattle.metaslab_group.specs.Spaces.{ChangesIn}
+use Rattle.metaslab.specs.Spaces.{ChangesIn}
 use Rattle.raidz_io.specs.declared.vdev.Extent.{Extent}
 use Rattle.raidz_io.specs.Stands.{ExtentStands}
 use Rattle.block_store.specs.Accounts.{SectorAt, IsUsed, HasSector}

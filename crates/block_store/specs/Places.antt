@@ -10,7 +10,7 @@ use Rattle.space_map.specs.declared.entry.Run.{Run}
 use Rattle.space_map.specs.Sectors.{names}
 use Rattle.metaslab.specs.Space.{Space, state}
 use Rattle.metaslab.specs.State.{State, Free, InUse}
-use Rattle.metaslab_group.specs.Spaces.{AreWhollyFree, HasFreeRunIn, ChangesIn}
+use Rattle.metaslab.specs.Spaces.{AreWhollyFree, HasFreeRunIn, ChangesIn}
 use Rattle.block_store.specs.declared.choice.Spread.{Spread}
 use Rattle.block_store.specs.declared.choice.Spread.TheVariants.{Vdevs, Metaslabs, Anywhere}
 use Rattle.block_store.specs.declared.shape.VdevShape.{VdevShape}

@@ -6,7 +6,7 @@ use Rattle.block_pointer.specs.declared.dva.Dva.{Dva}
 use Rattle.block_pointer.specs.Copies.{dvas}
 use Rattle.metaslab.specs.Space.{Space}
 use Rattle.metaslab.specs.State.{State, InUse, Released}
-use Rattle.metaslab_group.specs.Spaces.{ChangesIn, AreSettled, AreSettledInPart}
+use Rattle.metaslab.specs.Spaces.{ChangesIn, AreSettled, AreSettledInPart}
 use Rattle.block_store.specs.Blocks.{Contents}
 use Rattle.block_store.specs.Places.{run_at, planned, filled}
 use Rattle.block_store.specs.Shapes.{metaslab_of, IsPlace}

@@ -1,7 +1,7 @@
 //! Space maps: what those of the last committed group leave free, and those of a plan; and maps that are loaded as a pool is opened.
 ghost use Rattle.std.specs.Prelude.{◌≡◌, ◌⊎◌, ◌↔◌, ℕ, List, IsTrue, IfOk, IfErr};
 ghost use Rattle.std.specs.Bool.{OnTrue, OnFalse};
-ghost use Rattle.metaslab_group.specs.Maps.{AreWhollyFreeOf};
+ghost use Rattle.metaslab.specs.Maps.{AreWhollyFreeOf};
 ghost use Rattle.block_store.specs.Gone.{AreNotReleasable};
 ghost use Rattle.block_store.specs.Maps.{HasMetaslab, HasSectors, HoldsIn, LeavesUnused, LoadsIn};
 ghost use Rattle.block_store.specs.Maps.{StayElsewhere};

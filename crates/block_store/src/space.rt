@@ -4,8 +4,7 @@ ghost use Rattle.block_store.specs.Shapes.{metaslabs};
 
 use crate::shape::VdevShape;
 use block_pointer::Dva;
-use metaslab::Refusal;
-use metaslab_group::MetaslabGroup;
+use metaslab::{MetaslabGroup, Refusal};
 use space_map::{FreeSet, Run};
 use std::alloc::{AllocError, Global};
 use std::marker::Model;
@@ -40,13 +39,13 @@ impl Model for VdevMetaslabs {
 
 impl VdevMetaslabs {
     ghost use Rattle.metaslab.specs.State.{Free, InUse, Released};
-    ghost use Rattle.metaslab_group.specs.Spaces.{ChangesIn, AreSettled, AreSettledInPart};
+    ghost use Rattle.metaslab.specs.Spaces.{ChangesIn, AreSettled, AreSettledInPart};
     ghost use Rattle.std.specs.Bool.{OnTrue, OnFalse};
     ghost use Rattle.block_store.specs.Places.{IsEmpty, HasRoomIn, EachSector, IsFree, run_at};
     ghost use Rattle.block_store.specs.Uses.{IsInUse};
     ghost use Rattle.block_store.specs.Shapes.{metaslab_of, metaslab_sectors, IsPlace};
     ghost use Rattle.metaslab.specs.Calls.{AreUnused};
-    ghost use Rattle.metaslab_group.specs.Maps.{AreWhollyFreeOf, HoldsAt, LoadsAt};
+    ghost use Rattle.metaslab.specs.Maps.{AreWhollyFreeOf, HoldsAt, LoadsAt};
     ghost use Rattle.block_store.specs.Maps.{group_of};
     ghost use Rattle.block_store.specs.Spaces.{IsSpace};
 

@@ -16,7 +16,7 @@ use Rattle.dnode.specs.declared.dnode.Dnode.{Dnode}
 use Rattle.dnode.specs.declared.dnode.Dnode.TheVariants.{Free as NoObject, Object as Node}
 use Rattle.dnode.specs.declared.node.ObjectNode.{ObjectNode}
 use Rattle.dnode.specs.declared.object_set.ObjectSet.{ObjectSet}
-use Rattle.dnode_slots.specs.Nodes.{IsNodeIn, birth_of}
+use Rattle.objset.specs.Nodes.{IsNodeIn, birth_of}
 use Rattle.dnode_tree.specs.Subtree.{IsSubtree, joined}
 use Rattle.dnode_tree.specs.Tree.{IsTree, property_of}
 use Rattle.meta_objset.specs.Record.{FitsRecord}

@@ -12,7 +12,7 @@ use Rattle.dataset_changes.specs.declared.states.ListState.TheVariants as lists
 use Rattle.dataset_changes.specs.declared.states.RecordState.{RecordState}
 use Rattle.dataset_changes.specs.declared.states.RecordState.TheVariants as records
 use Rattle.dead_list.specs.Datasets.{Free, Head, Snapshot, Kind, Pool}
-use Rattle.dead_list_objects.specs.Lists.{HasDeadList}
+use Rattle.dataset_changes.specs.Lists.{HasDeadList}
 use Rattle.meta_objset.proofs.Readings.{record_once}
 use Rattle.meta_objset.specs.Datasets.{HasRecord}
 use Rattle.meta_objset.specs.declared.record.DatasetRecord.{DatasetRecord}

@@ -14,7 +14,7 @@ use Rattle.dataset_changes.specs.declared.states.RecordState.TheVariants as reco
 use Rattle.dead_list.specs.Datasets.{Free, Pool}
 use Rattle.dead_list.specs.Operations.{NextGroup}
 use Rattle.dead_list.proofs.Steps.{stays_sound}
-use Rattle.dead_list_objects.specs.Lists.{HasDeadList}
+use Rattle.dataset_changes.specs.Lists.{HasDeadList}
 use Rattle.meta_objset.specs.Datasets.{HasRecord}
 use Rattle.meta_objset.specs.declared.record.DatasetRecord.{DatasetRecord}
 use Rattle.objset.specs.Changes.{changed}

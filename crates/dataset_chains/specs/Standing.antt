@@ -6,7 +6,7 @@ use Rattle.dataset_changes.specs.States.{AreUntouched, IsNumber}
 use Rattle.dataset_changes.specs.declared.changes.DatasetChanges.{DatasetChanges}
 use Rattle.dead_list.specs.Datasets.{Free, Pool, nothing}
 use Rattle.dead_list.specs.Sound.{IsSound}
-use Rattle.dead_list_objects.specs.Lists.{HasDeadList}
+use Rattle.dataset_changes.specs.Lists.{HasDeadList}
 use Rattle.meta_objset.specs.Datasets.{HasRecord}
 use Rattle.meta_objset.specs.declared.record.DatasetRecord.{DatasetRecord}
 use Rattle.objset.specs.Changes.{changed}

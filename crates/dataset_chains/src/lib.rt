@@ -10,6 +10,7 @@ mod standing;
 mod taking;
 
 pub use block_store::Refusal;
+pub use dataset_changes::DatasetChanges;
 pub use heads::{RewrittenHead, create, group_before, overwrite};
 pub use laws::{chains_stay, datasets_have_one_record};
 pub use standing::{groups_begin_with_chains, groups_leave_chains};

@@ -3,9 +3,9 @@ use Rattle.std.proofs.Common.{◌≡◌, ◌≢◌, ℕ, ◌<◌, List, Option, 
 use Rattle.block_pointer.specs.declared.block.Block.{Block}
 use Rattle.block_store.specs.Blocks.{Contents}
 use Rattle.dataset_chains.specs.Chains.{HasCloneCount, HasDataset, IsRecordFor, LeadsTo, Reading, kind_of}
-use Rattle.dataset_changes.specs.Over.{HasListNow}
-use Rattle.dataset_changes.specs.States.{IsNumber}
-use Rattle.dataset_changes.specs.declared.changes.DatasetChanges.{DatasetChanges}
+use Rattle.dataset_chains.specs.Over.{HasListNow}
+use Rattle.dataset_chains.specs.States.{IsNumber}
+use Rattle.dataset_chains.specs.DatasetChanges.{DatasetChanges}
 use Rattle.dead_list.specs.Datasets.{Dataset, Free, Head, Pool}
 use Rattle.dead_list.specs.Datasets.{Snapshot as ASnapshot}
 use Rattle.dead_list.specs.Sound.{IsSound}

@@ -3,10 +3,10 @@ use Rattle.std.proofs.Common.{◌≡◌, ◌≢◌, ◌↔◌, ℕ, List, Option
 use Rattle.block_pointer.specs.declared.block.Block.{Block}
 use Rattle.block_store.specs.Blocks.{Contents}
 use Rattle.dataset_chains.specs.Chains.{Reading, SpellsChains}
-use Rattle.dataset_changes.specs.Over.{AreOver, HasRecordNow}
-use Rattle.dataset_changes.specs.States.{HasListPut, HaveSameLists, HaveSameRecords}
-use Rattle.dataset_changes.specs.declared.changes.DatasetChanges.{DatasetChanges}
-use Rattle.dataset_changes.specs.declared.states.ListState.{ListState}
+use Rattle.dataset_chains.specs.Over.{AreOver, HasRecordNow}
+use Rattle.dataset_chains.specs.States.{HasListPut, HaveSameLists, HaveSameRecords}
+use Rattle.dataset_chains.specs.DatasetChanges.{DatasetChanges}
+use Rattle.dataset_chains.specs.ListState.{ListState}
 use Rattle.dead_list.specs.Blocks.{IsSplit}
 use Rattle.dead_list.specs.Datasets.{Dataset, Free, Pool, group_before}
 use Rattle.dead_list.specs.Datasets.{Snapshot as ASnapshot}

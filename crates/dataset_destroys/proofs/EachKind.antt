@@ -8,9 +8,9 @@ use Rattle.block_store.specs.declared.refusal.Refusal.{Refusal}
 use Rattle.dataset_chains.proofs.ReadRecords.{read_of, read_on}
 use Rattle.dataset_chains.specs.Chains.{Reading, SpellsChains, kind_of}
 use Rattle.dataset_chains.specs.Refused.{HasKnown}
-use Rattle.dataset_changes.specs.Over.{AreOver, HasRecordNow}
-use Rattle.dataset_changes.specs.States.{AreOfOneSet, HasRecordPut, HaveSameLists, birth_of, once_read, record_at, set_of}
-use Rattle.dataset_changes.specs.declared.changes.DatasetChanges.{DatasetChanges}
+use Rattle.dataset_chains.specs.Over.{AreOver, HasRecordNow}
+use Rattle.dataset_chains.specs.States.{AreOfOneSet, HasRecordPut, HaveSameLists, birth_of, once_read, record_at, set_of}
+use Rattle.dataset_chains.specs.DatasetChanges.{DatasetChanges}
 use Rattle.dead_list.specs.Datasets.{Free, Head, Kind, Pool}
 use Rattle.dead_list.specs.Datasets.{Snapshot as ASnapshot}
 use Rattle.dead_list.specs.Operations.{DestroyHead, DestroySnapshot, Makes, MayDo}

@@ -6,9 +6,9 @@ use Rattle.block_store.specs.Store.{Store}
 use Rattle.block_store.specs.declared.refusal.Refusal.{Refusal}
 use Rattle.dataset_chains.specs.Chains.{HasCloneCount, Reading, SpellsChains}
 use Rattle.dataset_chains.specs.Refused.{IsChainRefused}
-use Rattle.dataset_changes.specs.Over.{HasRecordNow}
-use Rattle.dataset_changes.specs.States.{AreOfOneSet, IsNumber}
-use Rattle.dataset_changes.specs.declared.changes.DatasetChanges.{DatasetChanges}
+use Rattle.dataset_chains.specs.Over.{HasRecordNow}
+use Rattle.dataset_chains.specs.States.{AreOfOneSet, IsNumber}
+use Rattle.dataset_chains.specs.DatasetChanges.{DatasetChanges}
 use Rattle.dead_list.specs.Datasets.{Dataset, Free, Head, Pool}
 use Rattle.dead_list.specs.Datasets.{Snapshot as ASnapshot}
 use Rattle.dead_list.specs.Operations.{HasNoClones}

@@ -3,10 +3,10 @@ use Rattle.std.proofs.Common.{◌≢◌, ◌++◌, ℕ, List, [], Option, Some, 
 use Rattle.std.specs.Prelude.{IsPermutation}
 use Rattle.std.proofs.lemmas.List.Sorted.{IsPermutation-append_right, IsPermutation-refl, IsPermutation-sym, IsPermutation-trans}
 use Rattle.block_pointer.specs.declared.block.Block.{Block}
-use Rattle.dataset_changes.specs.Over.{AreOver, HasListNow, IsListNow}
-use Rattle.dataset_changes.specs.States.{HasListPut, list_at, with_list}
-use Rattle.dataset_changes.specs.declared.changes.DatasetChanges.{DatasetChanges}
-use Rattle.dataset_changes.specs.declared.states.ListState.{ListState}
+use Rattle.dataset_chains.specs.Over.{AreOver, HasListNow, IsListNow}
+use Rattle.dataset_chains.specs.States.{HasListPut, list_at, with_list}
+use Rattle.dataset_chains.specs.DatasetChanges.{DatasetChanges}
+use Rattle.dataset_chains.specs.ListState.{ListState}
 use Rattle.dead_list.specs.Blocks.{IsSplit}
 use Rattle.objset.specs.Objects.{Object}
 use Rattle.dataset_destroys.proofs.RecordSteps.{list_put_at}

@@ -8,9 +8,9 @@ use Rattle.std.proofs.lemmas.List.Sorted.{IsPermutation-filter_both}
 use Rattle.block_pointer.specs.declared.block.Block.{Block}
 use Rattle.block_store.specs.Blocks.{Contents}
 use Rattle.dataset_chains.specs.Chains.{LeadsTo, Reading, SpellsChains}
-use Rattle.dataset_changes.specs.States.{HasListPut, HaveSameLists, HaveSameRecords}
-use Rattle.dataset_changes.specs.declared.changes.DatasetChanges.{DatasetChanges}
-use Rattle.dataset_changes.specs.declared.states.ListState.{ListState}
+use Rattle.dataset_chains.specs.States.{HasListPut, HaveSameLists, HaveSameRecords}
+use Rattle.dataset_chains.specs.DatasetChanges.{DatasetChanges}
+use Rattle.dataset_chains.specs.ListState.{ListState}
 use Rattle.dead_list.specs.Blocks.{AreDistinct, IsSplit}
 use Rattle.dead_list.specs.Datasets.{Dataset, Pool, group_before, nothing}
 use Rattle.dead_list.specs.Operations.{DestroyHead, IsHeadDestroyed, Makes, MayDo, Operation, with_dataset}

@@ -7,11 +7,11 @@ use Rattle.block_store.specs.declared.refusal.Refusal.{Refusal}
 use Rattle.block_store.specs.declared.refusal.Refusal.TheVariants.{BadPointer}
 use Rattle.dataset_chains.specs.Chains.{HasCloneCount, Reading, SpellsChains}
 use Rattle.dataset_chains.specs.Refused.{HasKnown}
-use Rattle.dataset_changes.specs.Over.{HasRecordNow}
-use Rattle.dataset_changes.specs.States.{HaveSameRecords, IsNumber}
-use Rattle.dataset_changes.specs.declared.changes.DatasetChanges.{DatasetChanges}
-use Rattle.dataset_changes.specs.declared.states.RecordState.{RecordState}
-use Rattle.dataset_changes.specs.declared.states.RecordState.TheVariants as records
+use Rattle.dataset_chains.specs.Over.{HasRecordNow}
+use Rattle.dataset_chains.specs.States.{HaveSameRecords, IsNumber}
+use Rattle.dataset_chains.specs.DatasetChanges.{DatasetChanges}
+use Rattle.dataset_chains.specs.RecordState.{RecordState}
+use Rattle.dataset_chains.specs.RecordState.TheVariants as records
 use Rattle.dead_list.specs.Datasets.{Pool}
 use Rattle.dead_list.specs.Operations.{DestroyHead, MayDo}
 use Rattle.meta_objset.specs.declared.record.DatasetKind.TheVariants.{Volume}

@@ -17,3 +17,11 @@ pub mod Touching
 pub mod LostTrees
 pub mod LostChains
 pub mod Losses
+pub use Rattle.dataset_chains.proofs.Chained as ChainChained
+pub use Rattle.dataset_chains.proofs.Frames as ChainFrames
+pub use Rattle.dataset_chains.proofs.ReadRecords as ChainReadRecords
+pub use Rattle.dataset_chains.proofs.RecordsNow as ChainRecordsNow
+pub use Rattle.dataset_chains.proofs.SameLists as ChainSameLists
+pub use Rattle.dataset_chains.proofs.Stands as ChainStands
+pub use Rattle.dataset_chains.proofs.Staying as ChainStaying
+pub use Rattle.dataset_chains.proofs.Touching as ChainTouching

@@ -5,7 +5,7 @@ use Rattle.block_store.specs.Losses.{IsBlockLost}
 use Rattle.block_store.specs.Store.{Store}
 use Rattle.block_store.specs.declared.refusal.Refusal.{Refusal}
 use Rattle.block_store.specs.declared.refusal.Refusal.TheVariants.{DiskFault}
-use Rattle.dataset_changes.specs.declared.changes.DatasetChanges.{DatasetChanges}
+use Rattle.dataset_chains.specs.DatasetChanges.{DatasetChanges}
 use Rattle.meta_objset.specs.declared.record.DatasetKind.{DatasetKind}
 use Rattle.meta_objset.specs.declared.record.DatasetKind.TheVariants.{Volume, Snapshot}
 use Rattle.dataset_destroys.proofs.LostChains.{chain_lost, record_unread_lost}

@@ -6,12 +6,12 @@ use Rattle.block_store.specs.Store.{Store}
 use Rattle.block_store.specs.declared.refusal.Refusal.{Refusal}
 use Rattle.block_store.specs.declared.refusal.Refusal.TheVariants.{DiskFault}
 use Rattle.dataset_chains.specs.Refused.{IsChainRefused}
-use Rattle.dataset_changes.specs.Refused.{IsListEndUnread, IsListUnread, IsRecordUnread, of_list}
-use Rattle.dataset_changes.specs.States.{birth_of, set_of}
-use Rattle.dataset_changes.specs.declared.changes.DatasetChanges.{DatasetChanges}
-use Rattle.dead_list_objects.specs.Lists.{IsEndUnread, IsListRefused, dead_list_kind}
-use Rattle.dead_list_objects.specs.declared.refusal.Refusal.{Refusal as ListRefusal}
-use Rattle.dead_list_objects.specs.declared.refusal.Refusal.TheVariants as of_lists
+use Rattle.dataset_chains.specs.ChangesRefused.{IsListEndUnread, IsListUnread, IsRecordUnread, of_list}
+use Rattle.dataset_chains.specs.States.{birth_of, set_of}
+use Rattle.dataset_chains.specs.DatasetChanges.{DatasetChanges}
+use Rattle.dataset_chains.specs.Lists.{IsEndUnread, IsListRefused, dead_list_kind}
+use Rattle.dataset_chains.specs.ListRefusal.{Refusal as ListRefusal}
+use Rattle.dataset_chains.specs.ListRefusal.TheVariants as of_lists
 use Rattle.dnode.specs.declared.object_set.ObjectSet.{ObjectSet}
 use Rattle.meta_objset.proofs.Losses.{record_lost}
 use Rattle.meta_objset.specs.declared.record.DatasetKind.{DatasetKind}

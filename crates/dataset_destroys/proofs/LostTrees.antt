@@ -9,9 +9,9 @@ use Rattle.block_store.specs.declared.refusal.Refusal.{Refusal}
 use Rattle.block_store.specs.declared.refusal.Refusal.TheVariants.{DiskFault}
 use Rattle.dnode.specs.declared.node.ObjectNode.{ObjectNode}
 use Rattle.dnode.specs.declared.object_set.ObjectSet.{ObjectSet}
-use Rattle.dnode_slots.proofs.Losses.{set_lost}
-use Rattle.dnode_slots.specs.Within.{HasNoNode, asked_of_nodes}
-use Rattle.dnode_slots.specs.Younger.{AreYoungerRefused}
+use Rattle.objset.proofs.NodeLosses.{set_lost}
+use Rattle.objset.specs.NodesWithin.{HasNoNode, asked_of_nodes}
+use Rattle.objset.specs.NodesYounger.{AreYoungerRefused}
 use Rattle.dnode_tree.proofs.Losses.{cause_lost}
 use Rattle.dnode_tree.specs.Tree.{property_of}
 use Rattle.dnode_tree.specs.Younger.{IsWithinRefusedWhere, is_younger}

@@ -8,13 +8,13 @@ use Rattle.block_store.specs.Steps.{OnlyReadsBlocks}
 use Rattle.block_store.specs.Store.{Store}
 use Rattle.block_store.specs.declared.refusal.Refusal.{Refusal}
 use Rattle.dataset_chains.specs.Refused.{HasKnown, IsListLost, IsRecordLost}
-use Rattle.dataset_changes.specs.Over.{AreOver, HasListNow, HasRecordNow, IsListNow, IsRecordNow}
-use Rattle.dataset_changes.specs.Refused.{IsListUnread, IsRecordUnread}
-use Rattle.dataset_changes.specs.States.{AreOfOneSet, HasRecordPut, HaveSameLists, HaveSameRecords, birth_of, once_read, record_at, set_of}
-use Rattle.dataset_changes.specs.declared.changes.DatasetChanges.{DatasetChanges}
-use Rattle.dataset_changes.specs.declared.states.ListState.{ListState}
-use Rattle.dataset_changes.specs.declared.states.RecordState.{RecordState}
-use Rattle.dataset_changes.specs.declared.states.RecordState.TheVariants as records
+use Rattle.dataset_chains.specs.Over.{AreOver, HasListNow, HasRecordNow, IsListNow, IsRecordNow}
+use Rattle.dataset_chains.specs.ChangesRefused.{IsListUnread, IsRecordUnread}
+use Rattle.dataset_chains.specs.States.{AreOfOneSet, HasRecordPut, HaveSameLists, HaveSameRecords, birth_of, once_read, record_at, set_of}
+use Rattle.dataset_chains.specs.DatasetChanges.{DatasetChanges}
+use Rattle.dataset_chains.specs.ListState.{ListState}
+use Rattle.dataset_chains.specs.RecordState.{RecordState}
+use Rattle.dataset_chains.specs.RecordState.TheVariants as records
 use Rattle.dnode.specs.declared.object_set.ObjectSet.{ObjectSet}
 use Rattle.dnode_tree.proofs.FurtherReads.{true_before, true_after}
 use Rattle.meta_objset.specs.declared.record.DatasetRecord.{DatasetRecord}

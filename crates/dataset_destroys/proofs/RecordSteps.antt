@@ -2,13 +2,13 @@
 use Rattle.std.proofs.Common.{◌≡◌, ◌≢◌, ◌↔◌, ℕ, List, Option, Some, None, inl, inr, refl, sym, ap, ◌∙◌, subst}
 use Rattle.std.proofs.lemmas.Bool.{cases_eq, cond-true, cond-false, eq-eqb, ne_eqb, and_left, and_from}
 use Rattle.block_pointer.specs.declared.block.Block.{Block}
-use Rattle.dataset_changes.specs.Over.{AreOver, HasRecordNow, IsListNow, IsRecordNow, IsRecordOver}
-use Rattle.dataset_changes.specs.States.{HasRecordPut, record_at, with_list, with_record, without_record}
-use Rattle.dataset_changes.specs.declared.changes.DatasetChanges.{DatasetChanges}
-use Rattle.dataset_changes.specs.declared.states.ListState.{ListState}
-use Rattle.dataset_changes.specs.declared.states.ListState.TheVariants as lists
-use Rattle.dataset_changes.specs.declared.states.RecordState.{RecordState}
-use Rattle.dataset_changes.specs.declared.states.RecordState.TheVariants as records
+use Rattle.dataset_chains.specs.Over.{AreOver, HasRecordNow, IsListNow, IsRecordNow, IsRecordOver}
+use Rattle.dataset_chains.specs.States.{HasRecordPut, record_at, with_list, with_record, without_record}
+use Rattle.dataset_chains.specs.DatasetChanges.{DatasetChanges}
+use Rattle.dataset_chains.specs.ListState.{ListState}
+use Rattle.dataset_chains.specs.ListState.TheVariants as lists
+use Rattle.dataset_chains.specs.RecordState.{RecordState}
+use Rattle.dataset_chains.specs.RecordState.TheVariants as records
 use Rattle.meta_objset.specs.declared.record.DatasetRecord.{DatasetRecord}
 use Rattle.objset.specs.Objects.{Object}
 use Rattle.dataset_destroys.specs.Steps.{AreLinked, IsBefore, IsPassed, IsPutNow, IsTakenOut, IsTheRecord, next_of}

@@ -4,8 +4,8 @@ use Rattle.std.proofs.lemmas.Bool.{cases_eq}
 use Rattle.block_pointer.specs.declared.block.Block.{Block}
 use Rattle.block_store.specs.Blocks.{Contents}
 use Rattle.dataset_chains.specs.Chains.{HasCloneCount, HasDataset, HasNoDataset, Reading, SpellsChains}
-use Rattle.dataset_changes.specs.Over.{HasListNow, HasRecordNow}
-use Rattle.dataset_changes.specs.declared.changes.DatasetChanges.{DatasetChanges}
+use Rattle.dataset_chains.specs.Over.{HasListNow, HasRecordNow}
+use Rattle.dataset_chains.specs.DatasetChanges.{DatasetChanges}
 use Rattle.dead_list.specs.Datasets.{Dataset, Datasets, Free, Pool, nothing, updated}
 use Rattle.dead_list.specs.Datasets.{Snapshot as ASnapshot}
 use Rattle.dead_list.specs.Operations.{without_snapshot}

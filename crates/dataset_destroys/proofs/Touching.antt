@@ -5,11 +5,11 @@ use Rattle.block_pointer.specs.declared.block.Block.{Block}
 use Rattle.dataset_chains.proofs.Touching.{all_read, at_most_on}
 use Rattle.dataset_chains.specs.Refused.{HasKnown}
 use Rattle.dataset_chains.specs.Touched.{AreAtMostRead, IsAtMostRead}
-use Rattle.dataset_changes.specs.Over.{HasListNow, IsListNow}
-use Rattle.dataset_changes.specs.States.{AreOfOneSet, HasListPut, HaveSameLists, HaveSameRecords, list_at, record_at}
-use Rattle.dataset_changes.specs.declared.changes.DatasetChanges.{DatasetChanges}
-use Rattle.dataset_changes.specs.declared.states.ListState.{ListState}
-use Rattle.dataset_changes.specs.declared.states.RecordState.{RecordState}
+use Rattle.dataset_chains.specs.Over.{HasListNow, IsListNow}
+use Rattle.dataset_chains.specs.States.{AreOfOneSet, HasListPut, HaveSameLists, HaveSameRecords, list_at, record_at}
+use Rattle.dataset_chains.specs.DatasetChanges.{DatasetChanges}
+use Rattle.dataset_chains.specs.ListState.{ListState}
+use Rattle.dataset_chains.specs.RecordState.{RecordState}
 use Rattle.meta_objset.specs.declared.record.DatasetKind.TheVariants.{Snapshot}
 use Rattle.meta_objset.specs.declared.record.DatasetRecord.{DatasetRecord}
 use Rattle.objset.specs.Objects.{Object}

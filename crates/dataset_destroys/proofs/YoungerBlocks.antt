@@ -12,7 +12,7 @@ use Rattle.dnode.specs.declared.dnode.Dnode.{Dnode}
 use Rattle.dnode.specs.declared.dnode.Dnode.TheVariants.{Free, Object as Node}
 use Rattle.dnode.specs.declared.object_set.ObjectSet.{ObjectSet}
 use Rattle.dnode.specs.ObjectSet.{FitsObjectSet}
-use Rattle.dnode_slots.specs.Sets.{IsSetBlock}
+use Rattle.objset.specs.Sets.{IsSetBlock}
 use Rattle.dnode_tree.proofs.Picking.{none_picked, passed_over, picked_first}
 use Rattle.dnode_tree.proofs.Standing.{tree_blocks_known}
 use Rattle.dnode_tree.specs.Rewriting.{AreDistinct}

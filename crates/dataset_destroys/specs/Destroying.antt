@@ -5,9 +5,9 @@ use Rattle.block_store.specs.Steps.{OnlyReadsBlocks}
 use Rattle.block_store.specs.Store.{Store}
 use Rattle.block_store.specs.declared.refusal.Refusal.{Refusal}
 use Rattle.dataset_chains.specs.Refused.{HasKnown}
-use Rattle.dataset_changes.specs.Refused.{IsRecordUnread}
-use Rattle.dataset_changes.specs.States.{AreOfOneSet}
-use Rattle.dataset_changes.specs.declared.changes.DatasetChanges.{DatasetChanges}
+use Rattle.dataset_chains.specs.ChangesRefused.{IsRecordUnread}
+use Rattle.dataset_chains.specs.States.{AreOfOneSet}
+use Rattle.dataset_chains.specs.DatasetChanges.{DatasetChanges}
 use Rattle.dead_list.specs.Datasets.{Free, Head, Kind, Pool}
 use Rattle.dead_list.specs.Datasets.{Snapshot as ASnapshot}
 use Rattle.dead_list.specs.Operations.{DestroyHead, DestroySnapshot, IsHead, Makes, MayDo, Operation}

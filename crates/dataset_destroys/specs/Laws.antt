@@ -4,7 +4,7 @@ use Rattle.block_store.specs.Losses.{IsBlockLost}
 use Rattle.block_store.specs.Store.{Store}
 use Rattle.block_store.specs.declared.refusal.Refusal.{Refusal}
 use Rattle.block_store.specs.declared.refusal.Refusal.TheVariants.{DiskFault}
-use Rattle.dataset_changes.specs.declared.changes.DatasetChanges.{DatasetChanges}
+use Rattle.dataset_chains.specs.DatasetChanges.{DatasetChanges}
 use Rattle.dataset_destroys.specs.Destroying.{IsDatasetKept}
 
 -- Where a dataset is not destroyed for a fault of disks a block is lost.

@@ -1,7 +1,7 @@
 -- A snapshot in its chain, as it is looked up.
 use Rattle.std.specs.Prelude.{ℕ, ◌≡◌, ◌≢◌, Option}
-use Rattle.dataset_changes.specs.States.{IsNumber}
-use Rattle.dataset_changes.specs.declared.changes.DatasetChanges.{DatasetChanges}
+use Rattle.dataset_chains.specs.States.{IsNumber}
+use Rattle.dataset_chains.specs.DatasetChanges.{DatasetChanges}
 use Rattle.dataset_destroys.specs.Steps.{FitsBefore, IsBefore, IsTheRecord}
 use Rattle.dataset_destroys.specs.declared.places.Place.{Place}
 use Rattle.meta_objset.specs.Record.{FitsRecord}

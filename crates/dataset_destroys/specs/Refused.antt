@@ -5,8 +5,8 @@ use Rattle.block_store.specs.Store.{Store}
 use Rattle.block_store.specs.declared.refusal.Refusal.{Refusal}
 use Rattle.block_store.specs.declared.refusal.Refusal.TheVariants.{BadPointer}
 use Rattle.dataset_chains.specs.Refused.{HasKnown, IsChainRefused}
-use Rattle.dataset_changes.specs.States.{IsNumber}
-use Rattle.dataset_changes.specs.declared.changes.DatasetChanges.{DatasetChanges}
+use Rattle.dataset_chains.specs.States.{IsNumber}
+use Rattle.dataset_chains.specs.DatasetChanges.{DatasetChanges}
 use Rattle.dataset_destroys.specs.Steps.{IsKnownBefore, group_of}
 use Rattle.dataset_destroys.specs.Younger.{IsTreeRefused}
 use Rattle.meta_objset.specs.declared.record.DatasetKind.TheVariants as kinds

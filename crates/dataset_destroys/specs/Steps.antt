@@ -4,10 +4,10 @@ use Rattle.block_pointer.specs.declared.block.Block.{Block}
 use Rattle.block_store.specs.Blocks.{Contents}
 use Rattle.block_store.specs.Steps.{AnswersAreTrue}
 use Rattle.block_store.specs.Store.{Store, Holds}
-use Rattle.dataset_changes.specs.Over.{AreOver, HasListNow, HasRecordNow}
+use Rattle.dataset_chains.specs.Over.{AreOver, HasListNow, HasRecordNow}
 use Rattle.dataset_chains.specs.Refused.{HasKnown}
-use Rattle.dataset_changes.specs.States.{IsNumber, birth_of, set_of}
-use Rattle.dataset_changes.specs.declared.changes.DatasetChanges.{DatasetChanges}
+use Rattle.dataset_chains.specs.States.{IsNumber, birth_of, set_of}
+use Rattle.dataset_chains.specs.DatasetChanges.{DatasetChanges}
 use Rattle.dead_list.specs.Blocks.{IsSplit}
 use Rattle.meta_objset.specs.Record.{FitsRecord}
 use Rattle.meta_objset.specs.declared.record.DatasetRecord.{DatasetRecord}

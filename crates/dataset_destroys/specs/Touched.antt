@@ -3,9 +3,9 @@ use Rattle.std.specs.Prelude.{ℕ, ◌≡◌, ◌≢◌, ◌⊎◌, List, Option
 use Rattle.block_pointer.specs.declared.block.Block.{Block}
 use Rattle.dataset_chains.specs.Refused.{HasKnown}
 use Rattle.dataset_chains.specs.Touched.{AreAtMostRead, TouchesOnly}
-use Rattle.dataset_changes.specs.Over.{HasListNow}
-use Rattle.dataset_changes.specs.States.{AreOfOneSet, list_at}
-use Rattle.dataset_changes.specs.declared.changes.DatasetChanges.{DatasetChanges}
+use Rattle.dataset_chains.specs.Over.{HasListNow}
+use Rattle.dataset_chains.specs.States.{AreOfOneSet, list_at}
+use Rattle.dataset_chains.specs.DatasetChanges.{DatasetChanges}
 use Rattle.meta_objset.specs.declared.record.DatasetKind.TheVariants as kinds
 use Rattle.meta_objset.specs.declared.record.DatasetRecord.{DatasetRecord}
 use Rattle.objset.specs.Objects.{Object}

@@ -7,7 +7,7 @@ use Rattle.block_store.specs.declared.refusal.Refusal.{Refusal}
 use Rattle.block_store.specs.declared.refusal.Refusal.TheVariants.{NoMemory, BadPointer}
 use Rattle.dnode.specs.declared.object_set.ObjectSet.{ObjectSet}
 use Rattle.dnode.specs.declared.object_set.ObjectSetKind.TheVariants as sets
-use Rattle.dnode_slots.specs.Sets.{IsSetFound, IsSetRefused}
+use Rattle.objset.specs.Sets.{IsSetFound, IsSetRefused}
 use Rattle.objset.specs.Younger.{IsYoungerSetRefused}
 
 -- the object set was not read: no block was left to be read, or it was refused, or it is of something else

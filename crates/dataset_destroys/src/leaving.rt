@@ -1,7 +1,7 @@
 //! Heads whose records go.
 ghost use Rattle.std.specs.Prelude.{◌≡◌, ◌⊎◌, ℕ, Option, OnOk};
-ghost use Rattle.dataset_changes.specs.Over.{AreOver};
-ghost use Rattle.dataset_changes.specs.States.{AreOfOneSet, HaveSameLists, record_at};
+ghost use Rattle.dataset_chains.specs.Over.{AreOver};
+ghost use Rattle.dataset_chains.specs.States.{AreOfOneSet, HaveSameLists, record_at};
 ghost use Rattle.dataset_destroys.specs.HeadPlaces.{AreHeadPlaced, FitsHead, IsLoneHead};
 ghost use Rattle.dataset_destroys.specs.Steps.{AreOneLess, IsBefore, IsLeft};
 ghost use Rattle.dataset_destroys.specs.Touched.{IsBeside};
@@ -9,7 +9,7 @@ ghost use Rattle.objset.specs.Objects.{Object};
 
 use crate::head_places::HeadPlace;
 use crate::records::{put_record, take_out};
-use dataset_changes::DatasetChanges;
+use dataset_chains::DatasetChanges;
 use meta_objset::DatasetRecord;
 use std::alloc::AllocError;
 

@@ -14,6 +14,9 @@ mod snapshots;
 mod younger;
 
 pub use block_store::Refusal;
+pub use dataset_chains::{
+    DatasetChanges, NewNumbers, RewrittenHead, clone, create, overwrite, snapshot,
+};
 pub use destroying::destroy;
 pub use heads::destroy_head;
 pub use laws::losses_of_destroys;

@@ -1,7 +1,7 @@
 //! Records of chains that are linked past a snapshot.
 ghost use Rattle.std.specs.Prelude.{◌≡◌, ◌⊎◌, ℕ, Option, OnOk};
-ghost use Rattle.dataset_changes.specs.Over.{AreOver};
-ghost use Rattle.dataset_changes.specs.States.{AreOfOneSet, HaveSameLists, record_at};
+ghost use Rattle.dataset_chains.specs.Over.{AreOver};
+ghost use Rattle.dataset_chains.specs.States.{AreOfOneSet, HaveSameLists, record_at};
 ghost use Rattle.dataset_destroys.specs.Places.{ArePlaced, FitsPlace, IsApart, IsLone, after_of};
 ghost use Rattle.dataset_destroys.specs.Steps.{AreLinked, IsBefore, IsPassed};
 ghost use Rattle.dataset_destroys.specs.Touched.{IsBeside};
@@ -9,7 +9,7 @@ ghost use Rattle.objset.specs.Objects.{Object};
 
 use crate::places::Place;
 use crate::records::{put_record, take_out};
-use dataset_changes::DatasetChanges;
+use dataset_chains::DatasetChanges;
 use meta_objset::DatasetRecord;
 use std::alloc::AllocError;
 

@@ -5,8 +5,8 @@ ghost use Rattle.block_store.specs.Losses.{IsForLoss};
 ghost use Rattle.block_store.specs.Steps.{OnlyReadsBlocks};
 ghost use Rattle.dataset_chains.specs.Refused.{HasKnown, IsRecordLost};
 ghost use Rattle.dataset_chains.specs.Touched.{AreAtMostRead};
-ghost use Rattle.dataset_changes.specs.Over.{AreOver, HasRecordNow};
-ghost use Rattle.dataset_changes.specs.States.{AreOfOneSet, HaveSameLists, IsNumber, record_at};
+ghost use Rattle.dataset_chains.specs.Over.{AreOver, HasRecordNow};
+ghost use Rattle.dataset_chains.specs.States.{AreOfOneSet, HaveSameLists, IsNumber, record_at};
 ghost use Rattle.dataset_destroys.specs.Steps.{AreSameNow, FitsBefore, IsBefore, IsFound, IsKnownBefore, IsPutNow, IsTakenOut, TellsObjects};
 ghost use Rattle.meta_objset.specs.Record.{FitsRecord};
 ghost use Rattle.meta_objset.specs.declared.record.DatasetKind.TheVariants as kinds;
@@ -14,7 +14,7 @@ ghost use Rattle.meta_objset.specs.declared.record.DatasetRecord.{DatasetRecord}
 ghost use Rattle.objset.specs.Objects.{Object};
 
 use block_store::{BlockStore, Refusal};
-use dataset_changes::DatasetChanges;
+use dataset_chains::DatasetChanges;
 use meta_objset::{DatasetKind, DatasetRecord};
 use model_disk::Disk;
 use std::alloc::{AllocError, Global};

@@ -7,7 +7,7 @@ ghost use Rattle.block_store.specs.Store.{Holds};
 ghost use Rattle.dnode.specs.ObjectSet.{FitsObjectSet};
 ghost use Rattle.dnode.specs.declared.object_set.ObjectSet.{ObjectSet};
 ghost use Rattle.dnode.specs.declared.object_set.ObjectSetKind.TheVariants as kinds;
-ghost use Rattle.dnode_slots.specs.Sets.{IsSetBlock, IsSetFound};
+ghost use Rattle.objset.specs.Sets.{IsSetBlock, IsSetFound};
 ghost use Rattle.dnode_tree.specs.Rewriting.{AreDistinct};
 ghost use Rattle.dnode_tree.specs.Younger.{younger};
 ghost use Rattle.volume.specs.Volume.{IsVolume};
@@ -17,8 +17,8 @@ ghost use Rattle.dataset_destroys.specs.Younger.{IsTreeMissed, IsTreeRefused};
 use block_pointer::Block;
 use block_store::{BlockStore, Refusal};
 use dnode::{ObjectSet, ObjectSetKind};
-use dnode_slots::read_set;
 use model_disk::Disk;
+use objset::read_set;
 use std::alloc::{AllocError, Global};
 
 /// The blocks of a volume that were born after the transaction group `since`: that of its object set, `block`, and then those of the set. Where

@@ -3,9 +3,9 @@ use Rattle.std.proofs.Common.{◌≡◌, ◌+◌, ◌<◌, ◌≤◌, ℕ, true,
 use Rattle.std.proofs.lemmas.List.{length-replicate}
 use Rattle.block_pointer.specs.declared.block.Block.{Block}
 use Rattle.block_store.specs.Blocks.{Contents, Extends}
-use Rattle.dataset_chains.proofs.Staying.{chains_stay}
-use Rattle.dataset_chains.specs.Chains.{LeadsTo, Reading}
-use Rattle.dataset_chains.specs.Making.{volume_with}
+use Rattle.dataset_destroys.proofs.ChainStaying.{chains_stay}
+use Rattle.dataset_destroys.specs.Chains.{LeadsTo, Reading}
+use Rattle.dataset_destroys.specs.ChainMaking.{volume_with}
 use Rattle.dead_list.specs.Blocks.{AreDistinct}
 use Rattle.dead_list.specs.Datasets.{Head, Pool}
 use Rattle.dead_list.specs.Operations.{AreNew, IsUnused}

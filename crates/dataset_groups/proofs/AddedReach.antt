@@ -5,7 +5,7 @@ use Rattle.std.specs.List.{count_by, flat_map}
 use Rattle.std.proofs.lemmas.Bool.Decides.{nat_tests}
 use Rattle.block_pointer.specs.declared.block.Block.{Block}
 use Rattle.block_store.specs.Blocks.{Contents}
-use Rattle.dataset_chains.specs.Making.{volume_with}
+use Rattle.dataset_destroys.specs.ChainMaking.{volume_with}
 use Rattle.dead_list.specs.Datasets.{Dataset, Free, Pool, Snapshot, group_before}
 use Rattle.dead_list.specs.Operations.{IsUnused, with_dataset}
 use Rattle.dead_list.specs.Reach.{born_after, own_of}

@@ -10,9 +10,9 @@ use Rattle.block_store.specs.Demands.{Demand, HavePlaces}
 use Rattle.block_store.specs.Places.{shapes_of}
 use Rattle.block_store.specs.Store.{Store}
 use Rattle.dnode.specs.declared.object_set.ObjectSet.{ObjectSet}
-use Rattle.dnode_slots.specs.Sets.{IsSetFound, asked_of_set}
+use Rattle.objset.specs.Sets.{IsSetFound, asked_of_set}
 use Rattle.dnode_tree.specs.declared.writes.BlockWrite.{BlockWrite}
-use Rattle.dnode_slots.specs.Found.{found_dnode}
+use Rattle.objset.specs.NodesFound.{found_dnode}
 use Rattle.objset.proofs.Found.{dnode_found_in, node_found_in}
 use Rattle.objset.specs.declared.changes.Change.{Change}
 use Rattle.objset.specs.declared.changes.ObjectChange.{ObjectChange}

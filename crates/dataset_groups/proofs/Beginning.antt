@@ -3,16 +3,16 @@ use Rattle.std.proofs.Common.{◌≡◌, ◌≤◌, ◌+◌, ◌-◌, ℕ, List,
 use Rattle.std.specs.List.{AllZip}
 use Rattle.block_pointer.specs.declared.block.Block.{Block}
 use Rattle.block_store.specs.Blocks.{Contents}
-use Rattle.dataset_chains.proofs.Staying.{chains_stay}
-use Rattle.dataset_chains.proofs.Stands.{begins}
-use Rattle.dataset_chains.specs.Chains.{Reading, SpellsChains}
-use Rattle.dataset_chains.specs.Standing.{HasChains}
-use Rattle.dataset_changes.specs.States.{AreUntouched}
-use Rattle.dataset_changes.specs.declared.changes.DatasetChanges.{DatasetChanges}
+use Rattle.dataset_destroys.proofs.ChainStaying.{chains_stay}
+use Rattle.dataset_destroys.proofs.ChainStands.{begins}
+use Rattle.dataset_destroys.specs.Chains.{Reading, SpellsChains}
+use Rattle.dataset_destroys.specs.ChainStanding.{HasChains}
+use Rattle.dataset_destroys.specs.States.{AreUntouched}
+use Rattle.dataset_destroys.specs.DatasetChanges.{DatasetChanges}
 use Rattle.dead_list.specs.Datasets.{Pool}
 use Rattle.dnode.specs.declared.dnode.Dnode.{Dnode}
 use Rattle.dnode.specs.declared.object_set.ObjectSet.{ObjectSet}
-use Rattle.dnode_slots.specs.Nodes.{birth_of}
+use Rattle.objset.specs.Nodes.{birth_of}
 use Rattle.meta_objset.specs.declared.directory.DirectoryRow.{DirectoryRow}
 use Rattle.objset.specs.Objects.{AreObjects, IsObject, Object}
 use Rattle.pool_model.specs.declared.volume.PlainVolume.{PlainVolume}

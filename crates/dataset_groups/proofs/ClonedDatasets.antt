@@ -4,8 +4,8 @@ use Rattle.block_pointer.specs.declared.block.Block.{Block}
 use Rattle.block_store.specs.Blocks.{Contents}
 use Rattle.block_store.specs.Steps.{AnswersAreTrue}
 use Rattle.block_store.specs.Store.{Holds, Store}
-use Rattle.dataset_chains.specs.Chains.{Reading}
-use Rattle.dataset_changes.specs.States.{birth_of, set_of}
+use Rattle.dataset_destroys.specs.Chains.{Reading}
+use Rattle.dataset_destroys.specs.States.{birth_of, set_of}
 use Rattle.dead_list.specs.Datasets.{Head, Pool}
 use Rattle.dead_list.specs.Operations.{IsSnapshot, IsUnused, MakeClone, clone_of, with_dataset}
 use Rattle.dead_list.specs.Reach.{ReachHasEachOnce}

@@ -3,7 +3,7 @@ use Rattle.std.proofs.Common.{◌≡◌, ◌≢◌, ◌++◌, ◌∷◌, ◌≤�
 use Rattle.std.specs.Prelude.{cond, filter, find, not, ◌||◌}
 use Rattle.block_pointer.specs.declared.block.Block.{Block}
 use Rattle.block_store.specs.Blocks.{Contents}
-use Rattle.dataset_chains.specs.Chains.{Reading, SpellsChains}
+use Rattle.dataset_destroys.specs.Chains.{Reading, SpellsChains}
 use Rattle.dataset_destroys.specs.Destroying.{IsDestroyed, MayDestroy}
 use Rattle.dataset_destroys.specs.Touched.{TouchesOwnLists}
 use Rattle.dead_list.specs.Datasets.{Pool, nothing}

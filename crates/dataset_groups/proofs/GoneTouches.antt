@@ -3,17 +3,17 @@ use Rattle.std.proofs.Common.{◌≡◌, ◌≢◌, ℕ, List, Option, Some, Non
 use Rattle.std.proofs.lemmas.Bool.{cases_eq}
 use Rattle.block_pointer.specs.declared.block.Block.{Block}
 use Rattle.block_store.specs.Blocks.{Contents}
-use Rattle.dataset_chains.specs.Chains.{Reading, SpellsChains}
-use Rattle.dataset_changes.specs.Over.{IsListNow, IsRecordNow, IsRecordOver}
-use Rattle.dataset_changes.specs.Results.{AreMixed}
-use Rattle.dataset_changes.specs.States.{list_at, record_at}
-use Rattle.dataset_changes.specs.declared.changes.DatasetChanges.{DatasetChanges}
-use Rattle.dataset_changes.specs.declared.states.ListState.{ListState}
-use Rattle.dataset_changes.specs.declared.states.RecordState.{RecordState}
-use Rattle.dataset_changes.specs.declared.states.RecordState.TheVariants as records
+use Rattle.dataset_destroys.specs.Chains.{Reading, SpellsChains}
+use Rattle.dataset_destroys.specs.Over.{IsListNow, IsRecordNow, IsRecordOver}
+use Rattle.dataset_destroys.specs.Results.{AreMixed}
+use Rattle.dataset_destroys.specs.States.{list_at, record_at}
+use Rattle.dataset_destroys.specs.DatasetChanges.{DatasetChanges}
+use Rattle.dataset_destroys.specs.ListState.{ListState}
+use Rattle.dataset_destroys.specs.RecordState.{RecordState}
+use Rattle.dataset_destroys.specs.RecordState.TheVariants as records
 use Rattle.dataset_destroys.specs.Touched.{TouchesOwnLists}
 use Rattle.dead_list.specs.Datasets.{Dataset, Free, Pool, nothing}
-use Rattle.dead_list_objects.specs.Lists.{HasDeadList}
+use Rattle.dataset_destroys.specs.Lists.{HasDeadList}
 use Rattle.meta_objset.specs.declared.record.DatasetRecord.{DatasetRecord}
 use Rattle.objset.specs.Objects.{Object}
 use Rattle.dataset_groups.specs.Groups.{IsFresh}

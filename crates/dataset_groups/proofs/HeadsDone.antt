@@ -3,7 +3,7 @@ use Rattle.std.proofs.Common.{◌≡◌, ℕ, List, Option, Contains, inl, inr, 
 use Rattle.std.specs.Prelude.{fold}
 use Rattle.block_pointer.specs.declared.block.Block.{Block}
 use Rattle.block_store.specs.Blocks.{Contents}
-use Rattle.dataset_chains.specs.Chains.{Reading}
+use Rattle.dataset_destroys.specs.Chains.{Reading}
 use Rattle.dead_list.specs.Datasets.{Dataset, Pool}
 use Rattle.dead_list.specs.Reach.{AreNumbersOf, ReachHasEachOnce}
 use Rattle.meta_objset.specs.declared.directory.DirectoryRow.{DirectoryRow}

@@ -9,8 +9,8 @@ use Rattle.block_pointer.specs.declared.block.Block.{Block}
 use Rattle.block_store.specs.Blocks.{Contents, Extends}
 use Rattle.block_store.specs.Plans.{Plans}
 use Rattle.block_store.specs.Store.{Store}
-use Rattle.dataset_chains.specs.Chains.{Reading, SpellsChains}
-use Rattle.dataset_changes.specs.Results.{AreMixed}
+use Rattle.dataset_destroys.specs.Chains.{Reading, SpellsChains}
+use Rattle.dataset_destroys.specs.Results.{AreMixed}
 use Rattle.dead_list.specs.Datasets.{AreFreed, Dataset, Free, IsReached, Pool, group_before, updated}
 use Rattle.dead_list.specs.Operations.{IsHead, IsWritable, MayDo, Overwrite}
 use Rattle.dead_list.proofs.Steps.{frees, reached_before}

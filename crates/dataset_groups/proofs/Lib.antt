@@ -54,3 +54,8 @@ pub mod GoneRows
 pub mod GoneTouches
 pub mod OneLess
 pub mod Losses
+pub use Rattle.dataset_destroys.proofs.ChainFrames
+pub use Rattle.dataset_destroys.proofs.ChainReadRecords
+pub use Rattle.dataset_destroys.proofs.ChainStands
+pub use Rattle.dataset_destroys.proofs.ChainStaying
+pub use Rattle.dataset_destroys.proofs.ChainTouching

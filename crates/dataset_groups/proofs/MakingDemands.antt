@@ -9,8 +9,8 @@ use Rattle.block_store.specs.Demands.{Demand, HavePlaces}
 use Rattle.block_store.specs.Places.{shapes_of}
 use Rattle.block_store.specs.Steps.{OnlyReadsAndPlans}
 use Rattle.block_store.specs.Store.{Store}
-use Rattle.dataset_chains.proofs.Chained.{one_set_on}
-use Rattle.dataset_changes.specs.States.{AreOfOneSet}
+use Rattle.dataset_destroys.proofs.ChainChained.{one_set_on}
+use Rattle.dataset_destroys.specs.States.{AreOfOneSet}
 use Rattle.meta_objset.proofs.Edits.{row_added}
 use Rattle.meta_objset.specs.declared.directory.DirectoryRow.{DirectoryRow}
 use Rattle.meta_objset.specs.Directory.{IsPlacedAmong, IsWith, LacksName}

@@ -6,7 +6,7 @@ use Rattle.block_store.specs.declared.refusal.Refusal.{Refusal}
 use Rattle.block_store.specs.declared.refusal.Refusal.TheVariants.{NoMemory, NoSpace, BadPointer, BadConfig}
 use Rattle.block_store.specs.Store.{Store}
 use Rattle.dnode.specs.declared.object_set.ObjectSet.{ObjectSet}
-use Rattle.dnode_slots.specs.Refused.{IsNodeWriteRefused}
+use Rattle.objset.specs.NodesRefused.{IsNodeWriteRefused}
 use Rattle.dnode_tree.specs.Tree.{property_of}
 use Rattle.dnode_tree.specs.Ways.{IsCause, Reached}
 use Rattle.objset.specs.declared.changes.Change.{Change}

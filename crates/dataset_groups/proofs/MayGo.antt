@@ -2,7 +2,7 @@
 use Rattle.std.proofs.Common.{◌≡◌, ◌≢◌, ◌<◌, ℕ, true, false, true≢false, List, Contains, Some, inl, inr, refl, sym, ap, subst, ◌∙◌, arith}
 use Rattle.std.proofs.lemmas.Bool.{cases_eq}
 use Rattle.block_pointer.specs.declared.block.Block.{Block}
-use Rattle.dataset_chains.specs.Chains.{Reading}
+use Rattle.dataset_destroys.specs.Chains.{Reading}
 use Rattle.dataset_destroys.specs.Destroying.{IsDestroyed, MayDestroy, operation_of}
 use Rattle.dead_list.specs.Datasets.{Dataset, Datasets, Free, Head, Kind, Pool, nothing, updated}
 use Rattle.dead_list.specs.Datasets.{Snapshot as ASnapshot}

@@ -1,8 +1,8 @@
 -- The datasets of a group with one more, or with none.
 use Rattle.std.proofs.Common.{◌≡◌, ◌⊎◌, ◌+◌, ◌<◌, ◌≤◌, ℕ, [], Option, inl, sym, subst, arith}
 use Rattle.block_store.specs.Blocks.{Contents}
-use Rattle.dataset_chains.specs.Chains.{AreNewNumbers, Reading, SpellsChains}
-use Rattle.dataset_changes.specs.States.{list_at}
+use Rattle.dataset_destroys.specs.Chains.{AreNewNumbers, Reading, SpellsChains}
+use Rattle.dataset_destroys.specs.States.{list_at}
 use Rattle.dead_list.specs.Datasets.{Kind, Pool, updated}
 use Rattle.dead_list.specs.Operations.{IsUnused}
 use Rattle.objset.specs.Objects.{Object}

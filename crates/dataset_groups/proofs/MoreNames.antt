@@ -3,7 +3,7 @@ use Rattle.std.proofs.Common.{◌≡◌, ◌≢◌, ℕ, true, List, [], ◌∷�
 use Rattle.std.specs.Prelude.{insert}
 use Rattle.std.specs.List.{AllZip}
 use Rattle.std.proofs.lemmas.Bool.{cases_eq}
-use Rattle.dataset_chains.specs.Chains.{Reading}
+use Rattle.dataset_destroys.specs.Chains.{Reading}
 use Rattle.dead_list.specs.Datasets.{Free, Head, Kind, Pool, updated}
 use Rattle.dead_list.specs.Datasets.{Snapshot as ASnapshot}
 use Rattle.dead_list.specs.Reach.{AreNumbersOf}

@@ -2,13 +2,13 @@
 use Rattle.std.proofs.Common.{◌≡◌, ◌≢◌, ◌⊎◌, ◌+◌, ◌≤◌, ℕ, Option, Some, None, inl, inr, refl, ap, ◌∙◌, arith}
 use Rattle.std.proofs.lemmas.Bool.{cases_eq}
 use Rattle.block_store.specs.Blocks.{Contents}
-use Rattle.dataset_chains.specs.Chains.{Reading, SpellsChains}
-use Rattle.dataset_changes.specs.Over.{IsRecordNow, IsRecordOver}
-use Rattle.dataset_changes.specs.Results.{AreMixed}
-use Rattle.dataset_changes.specs.States.{list_at, record_at}
-use Rattle.dataset_changes.specs.declared.changes.DatasetChanges.{DatasetChanges}
-use Rattle.dataset_changes.specs.declared.states.RecordState.{RecordState}
-use Rattle.dataset_changes.specs.declared.states.RecordState.TheVariants as records
+use Rattle.dataset_destroys.specs.Chains.{Reading, SpellsChains}
+use Rattle.dataset_destroys.specs.Over.{IsRecordNow, IsRecordOver}
+use Rattle.dataset_destroys.specs.Results.{AreMixed}
+use Rattle.dataset_destroys.specs.States.{list_at, record_at}
+use Rattle.dataset_destroys.specs.DatasetChanges.{DatasetChanges}
+use Rattle.dataset_destroys.specs.RecordState.{RecordState}
+use Rattle.dataset_destroys.specs.RecordState.TheVariants as records
 use Rattle.dead_list.specs.Datasets.{Free, Kind, Pool}
 use Rattle.dead_list.specs.Operations.{IsUnused}
 use Rattle.meta_objset.specs.declared.record.DatasetRecord.{DatasetRecord}

@@ -3,7 +3,7 @@ use Rattle.std.proofs.Common.{◌≡◌, ℕ, List, [], ◌∷◌, Bool, true, f
 use Rattle.std.specs.Prelude.{cond}
 use Rattle.std.specs.List.{AllZip}
 use Rattle.std.proofs.lemmas.List.Elements.{All-contains}
-use Rattle.dataset_chains.specs.Chains.{Reading}
+use Rattle.dataset_destroys.specs.Chains.{Reading}
 use Rattle.dead_list.specs.Datasets.{Pool}
 use Rattle.meta_objset.proofs.Edits.{apart, pairs_head, pairs_tail}
 use Rattle.meta_objset.specs.declared.directory.DirectoryRow.{DirectoryRow}

@@ -2,12 +2,12 @@
 use Rattle.std.proofs.Common.{◌≡◌, ◌⊎◌, ◌+◌, ◌*◌, ℕ, List, [], ◌∷◌, ◌++◌, length, Contains, inl, inr, refl, sym, ◌∙◌, arith}
 use Rattle.std.proofs.lemmas.List.{length-append}
 use Rattle.std.proofs.lemmas.List.Quantifiers.{Any-push}
-use Rattle.dataset_chains.specs.Refused.{HasKnown}
-use Rattle.dataset_chains.specs.Touched.{TouchesOnly}
-use Rattle.dataset_chains.proofs.Chained.{one_set_on}
-use Rattle.dataset_chains.proofs.Touching.{at_most_on}
-use Rattle.dataset_changes.specs.States.{AreOfOneSet, record_at}
-use Rattle.dataset_changes.specs.declared.changes.DatasetChanges.{DatasetChanges}
+use Rattle.dataset_destroys.specs.ChainRefused.{HasKnown}
+use Rattle.dataset_destroys.specs.ChainTouched.{TouchesOnly}
+use Rattle.dataset_destroys.proofs.ChainChained.{one_set_on}
+use Rattle.dataset_destroys.proofs.ChainTouching.{at_most_on}
+use Rattle.dataset_destroys.specs.States.{AreOfOneSet, record_at}
+use Rattle.dataset_destroys.specs.DatasetChanges.{DatasetChanges}
 use Rattle.meta_objset.specs.declared.directory.DirectoryRow.{DirectoryRow}
 use Rattle.meta_objset.specs.declared.record.DatasetRecord.{DatasetRecord}
 use Rattle.pool_model.specs.declared.item.Action.{Action}

@@ -7,8 +7,8 @@ use Rattle.block_pointer.specs.declared.block.Block.{Block}
 use Rattle.block_store.specs.Blocks.{Contents, Extends, Adds}
 use Rattle.dnode.specs.declared.dnode.Dnode.{Dnode}
 use Rattle.dnode.specs.declared.object_set.ObjectSet.{ObjectSet}
-use Rattle.dnode_slots.specs.declared.writes.SetRewrite.{SetRewrite}
-use Rattle.dnode_slots.specs.Nodes.{birth_of}
+use Rattle.objset.specs.declared.node_writes.SetRewrite.{SetRewrite}
+use Rattle.objset.specs.Nodes.{birth_of}
 use Rattle.dnode_tree.proofs.Exchanging.{count_by-append}
 use Rattle.dnode_tree.specs.declared.writes.CopyCounts.{CopyCounts}
 use Rattle.meta_objset.proofs.Edits.{pairs_head, pairs_tail}

@@ -7,11 +7,11 @@ use Rattle.std.proofs.lemmas.List.Elements.{All-nil}
 use Rattle.std.proofs.lemmas.List.Sorted.{IsPermutation-refl}
 use Rattle.block_pointer.specs.declared.block.Block.{Block}
 use Rattle.block_store.specs.Blocks.{Contents}
-use Rattle.dataset_chains.specs.Chains.{HasDataset, LeadsTo, Reading, SpellsChains}
-use Rattle.dataset_chains.specs.Making.{AreRewritten}
-use Rattle.dataset_chains.specs.Touched.{HasSameList}
-use Rattle.dataset_chains.proofs.RecordsNow.{one_record_now}
-use Rattle.dataset_changes.specs.declared.changes.DatasetChanges.{DatasetChanges}
+use Rattle.dataset_destroys.specs.Chains.{HasDataset, LeadsTo, Reading, SpellsChains}
+use Rattle.dataset_destroys.specs.ChainMaking.{AreRewritten}
+use Rattle.dataset_destroys.specs.ChainTouched.{HasSameList}
+use Rattle.dataset_destroys.proofs.ChainRecordsNow.{one_record_now}
+use Rattle.dataset_destroys.specs.DatasetChanges.{DatasetChanges}
 use Rattle.dead_list.specs.Blocks.{IsDifference, IsSplit}
 use Rattle.dead_list.specs.Datasets.{Dataset, Free, Head, IsReached, Pool, group_before, updated}
 use Rattle.dead_list.specs.Operations.{AreNew, IsHead, Makes, Overwrite, with_dataset}

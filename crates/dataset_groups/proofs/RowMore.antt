@@ -1,6 +1,6 @@
 -- What datasets are called by rows with one more.
 use Rattle.std.proofs.Common.{◌≡◌, ◌≢◌, ℕ, List, None, inl, inr, refl, sym, ap, subst, ◌∙◌}
-use Rattle.dataset_chains.specs.Chains.{Reading}
+use Rattle.dataset_destroys.specs.Chains.{Reading}
 use Rattle.dead_list.specs.Datasets.{Dataset, Free, Pool, Snapshot}
 use Rattle.dead_list.specs.Operations.{IsSnapshot, IsUnused}
 use Rattle.dead_list.specs.Sound.{IsSound}

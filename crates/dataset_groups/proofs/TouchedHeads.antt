@@ -4,21 +4,21 @@ use Rattle.std.proofs.lemmas.List.{map-append}
 use Rattle.std.proofs.lemmas.List.Elements.{Contains-append_cases, Contains-append_left, Contains-append_right}
 use Rattle.block_pointer.specs.declared.block.Block.{Block}
 use Rattle.block_store.specs.Blocks.{Contents}
-use Rattle.dataset_chains.specs.Chains.{HasDataset, Reading, SpellsChains}
-use Rattle.dataset_chains.specs.Refused.{HasKnown}
-use Rattle.dataset_chains.specs.Touched.{HasSameList, KeepsDeadLists, TouchesOnly}
-use Rattle.dataset_chains.proofs.SameLists.{known_now}
-use Rattle.dataset_chains.proofs.Touching.{at_most_on}
-use Rattle.dataset_changes.specs.Over.{HasListNow, HasRecordNow, IsForList, IsForRecord, IsListNow, IsListOver, IsRecordNow, IsRecordOver}
-use Rattle.dataset_changes.specs.Results.{AreMixed}
-use Rattle.dataset_changes.specs.States.{list_at, record_at}
-use Rattle.dataset_changes.specs.declared.changes.DatasetChanges.{DatasetChanges}
-use Rattle.dataset_changes.specs.declared.states.ListState.{ListState}
-use Rattle.dataset_changes.specs.declared.states.ListState.TheVariants as lists
-use Rattle.dataset_changes.specs.declared.states.RecordState.{RecordState}
-use Rattle.dataset_changes.specs.declared.states.RecordState.TheVariants as records
+use Rattle.dataset_destroys.specs.Chains.{HasDataset, Reading, SpellsChains}
+use Rattle.dataset_destroys.specs.ChainRefused.{HasKnown}
+use Rattle.dataset_destroys.specs.ChainTouched.{HasSameList, KeepsDeadLists, TouchesOnly}
+use Rattle.dataset_destroys.proofs.ChainSameLists.{known_now}
+use Rattle.dataset_destroys.proofs.ChainTouching.{at_most_on}
+use Rattle.dataset_destroys.specs.Over.{HasListNow, HasRecordNow, IsForList, IsForRecord, IsListNow, IsListOver, IsRecordNow, IsRecordOver}
+use Rattle.dataset_destroys.specs.Results.{AreMixed}
+use Rattle.dataset_destroys.specs.States.{list_at, record_at}
+use Rattle.dataset_destroys.specs.DatasetChanges.{DatasetChanges}
+use Rattle.dataset_destroys.specs.ListState.{ListState}
+use Rattle.dataset_destroys.specs.ListState.TheVariants as lists
+use Rattle.dataset_destroys.specs.RecordState.{RecordState}
+use Rattle.dataset_destroys.specs.RecordState.TheVariants as records
 use Rattle.dead_list.specs.Datasets.{Free, Pool}
-use Rattle.dead_list_objects.specs.Lists.{HasDeadList}
+use Rattle.dataset_destroys.specs.Lists.{HasDeadList}
 use Rattle.meta_objset.specs.Datasets.{HasRecord}
 use Rattle.meta_objset.specs.declared.record.DatasetRecord.{DatasetRecord}
 use Rattle.objset.specs.Objects.{Object}

@@ -1,7 +1,7 @@
 -- What actions make of a pool's datasets.
 use Rattle.std.specs.Prelude.{ℕ, [], Option}
 use Rattle.block_store.specs.Blocks.{Contents}
-use Rattle.dataset_chains.specs.Chains.{Reading}
+use Rattle.dataset_destroys.specs.Chains.{Reading}
 use Rattle.dead_list.specs.Datasets.{Pool}
 use Rattle.objset.specs.Objects.{Object}
 use Rattle.pool_model.specs.Pools.{PlainPool}

@@ -4,11 +4,11 @@ use Rattle.block_pointer.specs.declared.block.Block.{Block}
 use Rattle.block_store.specs.Blocks.{Contents}
 use Rattle.block_store.specs.Steps.{AnswersAreTrue}
 use Rattle.block_store.specs.Store.{Holds, Store}
-use Rattle.dataset_chains.specs.Chains.{AreNewNumbers, LeadsTo, Reading, SpellsChains}
-use Rattle.dataset_chains.specs.Making.{IsNewRecord, volume_with}
-use Rattle.dataset_chains.specs.Touched.{IsCloneTouched, IsSnapshotTouched, TouchesOnly}
-use Rattle.dataset_changes.specs.States.{birth_of, set_of}
-use Rattle.dataset_changes.specs.declared.changes.DatasetChanges.{DatasetChanges}
+use Rattle.dataset_destroys.specs.Chains.{AreNewNumbers, LeadsTo, Reading, SpellsChains}
+use Rattle.dataset_destroys.specs.ChainMaking.{IsNewRecord, volume_with}
+use Rattle.dataset_destroys.specs.ChainTouched.{IsCloneTouched, IsSnapshotTouched, TouchesOnly}
+use Rattle.dataset_destroys.specs.States.{birth_of, set_of}
+use Rattle.dataset_destroys.specs.DatasetChanges.{DatasetChanges}
 use Rattle.dead_list.specs.Blocks.{AreDistinct}
 use Rattle.dead_list.specs.Datasets.{Pool, updated}
 use Rattle.dead_list.specs.Operations.{AreNew, IsHead, IsSnapshot, IsUnused, clone_of, with_dataset, with_snapshot}

@@ -7,9 +7,9 @@ use Rattle.block_store.specs.Demands.{Demand, HavePlaces}
 use Rattle.block_store.specs.Spaces.{VdevSpace}
 use Rattle.block_store.specs.Steps.{OnlyReadsAndPlans}
 use Rattle.block_store.specs.Store.{Store}
-use Rattle.dataset_chains.specs.Refused.{HasMostClones, IsBlockMisfit, IsChainRefused}
-use Rattle.dataset_changes.specs.States.{AreOfOneSet}
-use Rattle.dataset_changes.specs.declared.changes.DatasetChanges.{DatasetChanges}
+use Rattle.dataset_destroys.specs.ChainRefused.{HasMostClones, IsBlockMisfit, IsChainRefused}
+use Rattle.dataset_destroys.specs.States.{AreOfOneSet}
+use Rattle.dataset_destroys.specs.DatasetChanges.{DatasetChanges}
 use Rattle.dnode.specs.declared.object_set.ObjectSet.{ObjectSet}
 use Rattle.meta_objset.specs.declared.directory.DirectoryRow.{DirectoryRow}
 use Rattle.meta_objset.specs.declared.record.DatasetKind.TheVariants as kinds

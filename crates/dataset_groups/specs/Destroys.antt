@@ -6,8 +6,8 @@ use Rattle.block_store.specs.Steps.{OnlyReadsBlocks}
 use Rattle.block_store.specs.Store.{Store}
 use Rattle.block_store.specs.declared.refusal.Refusal.{Refusal}
 use Rattle.block_store.specs.declared.refusal.Refusal.TheVariants.{NoMemory}
-use Rattle.dataset_chains.specs.Chains.{Reading}
-use Rattle.dataset_changes.specs.declared.changes.DatasetChanges.{DatasetChanges}
+use Rattle.dataset_destroys.specs.Chains.{Reading}
+use Rattle.dataset_destroys.specs.DatasetChanges.{DatasetChanges}
 use Rattle.dataset_destroys.specs.Destroying.{IsDatasetKept}
 use Rattle.dataset_destroys.specs.Touched.{IsDestroyTouched}
 use Rattle.dead_list.specs.Datasets.{Pool}

@@ -5,9 +5,9 @@ use Rattle.block_store.specs.Blocks.{Contents}
 use Rattle.block_store.specs.Demands.{Demand, HavePlaces}
 use Rattle.block_store.specs.Store.{Store}
 use Rattle.block_store.specs.declared.refusal.Refusal.{Refusal}
-use Rattle.dataset_chains.specs.Chains.{Reading, SpellsChains}
-use Rattle.dataset_chains.specs.Touched.{HasSameList}
-use Rattle.dataset_changes.specs.declared.changes.DatasetChanges.{DatasetChanges}
+use Rattle.dataset_destroys.specs.Chains.{Reading, SpellsChains}
+use Rattle.dataset_destroys.specs.ChainTouched.{HasSameList}
+use Rattle.dataset_destroys.specs.DatasetChanges.{DatasetChanges}
 use Rattle.dead_list.specs.Datasets.{Pool, updated}
 use Rattle.dead_list.specs.Operations.{IsHead, IsWritable, Makes, Overwrite}
 use Rattle.dnode_tree.specs.Rewriting.{AreDistinct}

@@ -1,8 +1,8 @@
 -- What follows from these definitions.
 use Rattle.std.specs.Prelude.{ℕ, ◌≤◌, Option}
 use Rattle.block_store.specs.Blocks.{Contents}
-use Rattle.dataset_chains.specs.Chains.{Reading}
-use Rattle.dataset_chains.specs.Standing.{HasChains}
+use Rattle.dataset_destroys.specs.Chains.{Reading}
+use Rattle.dataset_destroys.specs.ChainStanding.{HasChains}
 pub use Rattle.dataset_destroys.specs.Laws.{LossesOfDestroys}
 use Rattle.dead_list.specs.Datasets.{Pool, group_before}
 use Rattle.objset.specs.Objects.{Object}

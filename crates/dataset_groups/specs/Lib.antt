@@ -10,3 +10,17 @@ pub mod Demands
 pub mod Actions
 pub mod Laws
 pub mod Destroys
+pub use Rattle.dataset_destroys.specs.Chains
+pub use Rattle.dataset_destroys.specs.ChainRefused
+pub use Rattle.dataset_destroys.specs.ChainStanding
+pub use Rattle.dataset_destroys.specs.ChainTouched
+pub use Rattle.dataset_destroys.specs.Numbers
+pub use Rattle.dataset_destroys.specs.Over
+pub use Rattle.dataset_destroys.specs.ChangesRefused
+pub use Rattle.dataset_destroys.specs.Results
+pub use Rattle.dataset_destroys.specs.States
+pub use Rattle.dataset_destroys.specs.DatasetChanges
+pub use Rattle.dataset_destroys.specs.ListState
+pub use Rattle.dataset_destroys.specs.RecordState
+pub use Rattle.dataset_destroys.specs.Lists
+pub use Rattle.dataset_destroys.specs.ListRefusal

@@ -2,7 +2,7 @@
 use Rattle.std.specs.Prelude.{ℕ, ◌≡◌, ◌≢◌, true, List, map, Some, Contains}
 use Rattle.std.specs.List.{AllZip}
 use Rattle.block_pointer.specs.declared.block.Block.{Block}
-use Rattle.dataset_chains.specs.Chains.{Reading}
+use Rattle.dataset_destroys.specs.Chains.{Reading}
 use Rattle.dead_list.specs.Datasets.{Head, Kind, Pool}
 use Rattle.dead_list.specs.Datasets.{Snapshot as ASnapshot}
 use Rattle.dead_list.specs.Reach.{AreNumbersOf, reach_of}

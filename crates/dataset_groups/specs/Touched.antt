@@ -1,9 +1,9 @@
 -- Which records and dead lists a group's changes are of.
 use Rattle.std.specs.Prelude.{ℕ, ◌≡◌, ◌⊎◌, ◌+◌, ◌*◌, ◌<◌, ◌≤◌, List, Any, Contains, length}
-use Rattle.dataset_chains.specs.Touched.{IsCloneTouched, IsSnapshotTouched, TouchesOnly}
-use Rattle.dataset_changes.specs.declared.changes.DatasetChanges.{DatasetChanges}
-use Rattle.dataset_chains.specs.Refused.{HasKnown}
-use Rattle.dataset_changes.specs.States.{AreOfOneSet}
+use Rattle.dataset_destroys.specs.ChainTouched.{IsCloneTouched, IsSnapshotTouched, TouchesOnly}
+use Rattle.dataset_destroys.specs.DatasetChanges.{DatasetChanges}
+use Rattle.dataset_destroys.specs.ChainRefused.{HasKnown}
+use Rattle.dataset_destroys.specs.States.{AreOfOneSet}
 use Rattle.meta_objset.specs.Names.{IsNamed}
 use Rattle.meta_objset.specs.declared.directory.DirectoryRow.{DirectoryRow}
 use Rattle.meta_objset.specs.declared.record.DatasetRecord.{DatasetRecord}

@@ -2,9 +2,9 @@
 use Rattle.std.specs.Prelude.{ℕ, ◌≡◌, false, List, Contains, All, map}
 use Rattle.std.specs.List.Sorted.{IsStrictlyIncreasing}
 use Rattle.block_store.specs.Blocks.{Contents}
-use Rattle.dataset_chains.specs.Chains.{Reading}
-use Rattle.dataset_chains.specs.Refused.{HasKnown}
-use Rattle.dataset_changes.specs.declared.changes.DatasetChanges.{DatasetChanges}
+use Rattle.dataset_destroys.specs.Chains.{Reading}
+use Rattle.dataset_destroys.specs.ChainRefused.{HasKnown}
+use Rattle.dataset_destroys.specs.DatasetChanges.{DatasetChanges}
 use Rattle.dead_list.specs.Datasets.{Pool}
 use Rattle.dead_list.specs.Operations.{IsHead, IsWritable}
 use Rattle.meta_objset.specs.declared.directory.DirectoryRow.{DirectoryRow}

@@ -1,7 +1,7 @@
 //! The datasets of a pool as a group finds and changes them.
 ghost use Rattle.std.specs.Prelude.{◌≡◌, ◌≤◌, ◌<◌, ℕ, List, Option};
 
-use dataset_changes::DatasetChanges;
+use dataset_destroys::DatasetChanges;
 use dnode::ObjectSet;
 use meta_objset::Directory;
 use std::alloc::Global;
@@ -40,9 +40,9 @@ pub struct GroupDatasets {
 impl GroupDatasets {
     ghost use Rattle.block_pointer.specs.declared.block.Block.{Block};
     ghost use Rattle.block_store.specs.Blocks.{Contents};
-    ghost use Rattle.dataset_chains.specs.Chains.{Reading};
-    ghost use Rattle.dataset_chains.specs.Standing.{HasChains};
-    ghost use Rattle.dataset_changes.specs.States.{AreUntouched, birth_of, set_of};
+    ghost use Rattle.dataset_destroys.specs.Chains.{Reading};
+    ghost use Rattle.dataset_destroys.specs.ChainStanding.{HasChains};
+    ghost use Rattle.dataset_destroys.specs.States.{AreUntouched, birth_of, set_of};
     ghost use Rattle.dataset_groups.specs.Groups.{SpellsGroup, first_number};
     ghost use Rattle.dataset_groups.specs.Names.{NamesPool};
     ghost use Rattle.dataset_groups.specs.NewVolumes.{numbers_end};

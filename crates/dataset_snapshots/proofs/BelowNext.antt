@@ -4,9 +4,9 @@ use Rattle.std.specs.Prelude.{Any}
 use Rattle.std.proofs.lemmas.Bool.{cases_lt}
 use Rattle.std.proofs.lemmas.List.Elements.{All-cons, All-contains, All-nil}
 use Rattle.block_store.specs.Blocks.{Contents}
-use Rattle.dataset_chains.specs.Chains.{Reading}
-use Rattle.dataset_changes.specs.Results.{IsRecordChanged}
-use Rattle.dataset_changes.specs.States.{list_at, record_at}
+use Rattle.dataset_groups.specs.Chains.{Reading}
+use Rattle.dataset_groups.specs.Results.{IsRecordChanged}
+use Rattle.dataset_groups.specs.States.{list_at, record_at}
 use Rattle.dataset_groups.specs.declared.datasets.GroupDatasets.{GroupDatasets}
 use Rattle.dataset_groups.specs.Groups.{SpellsGroup}
 use Rattle.dead_list.specs.Datasets.{Pool}

@@ -7,8 +7,8 @@ use Rattle.std.proofs.lemmas.List.{length-append, take-append-drop, take_more}
 use Rattle.std.proofs.lemmas.List.Elements.{All-contains, All-contains_itself, All-filter, Contains-append_cases}
 use Rattle.block_pointer.specs.declared.block.Block.{Block}
 use Rattle.block_store.specs.Blocks.{Contents}
-use Rattle.dataset_chains.specs.Chains.{Reading}
-use Rattle.dataset_chains.specs.Standing.{HasChains, StandsAt}
+use Rattle.dataset_groups.specs.Chains.{Reading}
+use Rattle.dataset_groups.specs.ChainStanding.{HasChains, StandsAt}
 use Rattle.dataset_groups.specs.Names.{NamesPool, NamesVolume, objects_of_rows, reach_by}
 use Rattle.dead_list.specs.Datasets.{Dataset, Datasets, Free, IsBornIn, IsReached, Pool, Snapshot, group_before, nothing}
 use Rattle.dead_list.specs.Reach.{own_of}

@@ -4,8 +4,8 @@ use Rattle.std.specs.List.{AllZip}
 use Rattle.std.proofs.lemmas.List.{get_or-map, length-map}
 use Rattle.block_pointer.specs.declared.block.Block.{Block}
 use Rattle.block_store.specs.Blocks.{Contents}
-use Rattle.dataset_chains.specs.Chains.{Reading, kind_of}
-use Rattle.dataset_chains.specs.Standing.{HasChains, StandsAt}
+use Rattle.dataset_groups.specs.Chains.{Reading, kind_of}
+use Rattle.dataset_groups.specs.ChainStanding.{HasChains, StandsAt}
 use Rattle.dataset_groups.specs.Names.{IsOfKind, NamesPool, NamesVolume}
 use Rattle.dead_list.specs.Datasets.{Free, Head, Kind, Pool, Snapshot}
 use Rattle.meta_objset.specs.declared.directory.DirectoryRow.{DirectoryRow}

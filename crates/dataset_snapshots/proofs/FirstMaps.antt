@@ -12,9 +12,9 @@ use Rattle.block_store.specs.Places.{filled, planned}
 use Rattle.block_store.specs.Spaces.{VdevSpace}
 use Rattle.block_store.specs.Steps.{OnlyReadsAndPlans}
 use Rattle.block_store.specs.Store.{Store}
-use Rattle.dataset_chains.proofs.Stands.{leaves}
-use Rattle.dataset_chains.specs.Chains.{Reading}
-use Rattle.dataset_chains.specs.Standing.{HasChains}
+use Rattle.dataset_groups.proofs.ChainStands.{leaves}
+use Rattle.dataset_groups.specs.Chains.{Reading}
+use Rattle.dataset_groups.specs.ChainStanding.{HasChains}
 use Rattle.dataset_groups.specs.declared.datasets.GroupDatasets.{GroupDatasets}
 use Rattle.dataset_groups.specs.Groups.{SpellsGroup}
 use Rattle.dataset_groups.specs.Leaving.{AddsData, AddsMeta, IsReachExchanged}

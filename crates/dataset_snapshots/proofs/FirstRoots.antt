@@ -13,10 +13,10 @@ use Rattle.block_store.specs.Demands.{HavePlaces}
 use Rattle.block_store.specs.Places.{shapes_of}
 use Rattle.block_store.specs.Steps.{OnlyReadsAndPlans, OnlyReadsBlocks}
 use Rattle.block_store.specs.Store.{Store}
-use Rattle.dataset_chains.specs.Chains.{Reading}
-use Rattle.dataset_chains.specs.Standing.{HasChains}
-use Rattle.dataset_changes.specs.States.{AreOfOneSet, AreUntouched, birth_of, set_of}
-use Rattle.dataset_changes.specs.declared.changes.DatasetChanges.{DatasetChanges}
+use Rattle.dataset_groups.specs.Chains.{Reading}
+use Rattle.dataset_groups.specs.ChainStanding.{HasChains}
+use Rattle.dataset_groups.specs.States.{AreOfOneSet, AreUntouched, birth_of, set_of}
+use Rattle.dataset_groups.specs.DatasetChanges.{DatasetChanges}
 use Rattle.dataset_groups.specs.declared.datasets.GroupDatasets.{GroupDatasets}
 use Rattle.dataset_groups.specs.Demands.{AreMade, HasMoreRows, IsActionRefused, MakesAll}
 use Rattle.dataset_groups.specs.Groups.{SpellsGroup}

@@ -6,8 +6,8 @@ use Rattle.std.proofs.lemmas.List.{get_or-map, length-map}
 use Rattle.std.proofs.lemmas.List.Elements.{All-contains, All-contains_itself, All-filter, Contains-get_or, filter_passes}
 use Rattle.std.proofs.lemmas.List.Kept.{AllPairs-cons, AllPairs-filter}
 use Rattle.block_store.specs.Blocks.{Contents}
-use Rattle.dataset_chains.specs.Chains.{HasCloneCount, IsRecordFor, Reading, kind_of}
-use Rattle.dataset_chains.specs.Standing.{HasChains}
+use Rattle.dataset_groups.specs.Chains.{HasCloneCount, IsRecordFor, Reading, kind_of}
+use Rattle.dataset_groups.specs.ChainStanding.{HasChains}
 use Rattle.dataset_groups.proofs.ListParts.{all_from, first_or_later, is_first, is_later, nothing_in}
 use Rattle.dataset_groups.specs.Names.{BranchesOff, NamesPool, objects_of_rows}
 use Rattle.dead_list.specs.Datasets.{Dataset, Free, Pool, nothing}

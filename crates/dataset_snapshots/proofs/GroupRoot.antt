@@ -3,30 +3,21 @@ use Rattle.std.proofs.Common.{◌≡◌, ◌≢◌, ℕ, ◌<◌, ◌≤◌, Lis
 use Rattle.block_pointer.specs.declared.block.Block.{Block}
 use Rattle.block_pointer.specs.Copies.{dvas}
 use Rattle.block_store.specs.Blocks.{Contents, Extends}
-use Rattle.dataset_chains.specs.Standing.{HasChains}
+use Rattle.dataset_groups.specs.ChainStanding.{HasChains}
 use Rattle.dataset_groups.specs.Names.{reach_by}
 use Rattle.dnode.specs.declared.object_set.ObjectSetKind.TheVariants as sets
 use Rattle.meta_objset.specs.declared.stale_spans.StaleSpan.{StaleSpan}
-use Rattle.meta_objset.specs.Reading.{HasConfig, HasStaleSpans}
-use Rattle.meta_objset.specs.StaleSpans.{spans_kind}
-use Rattle.object_table.specs.Tables.{HasTable}
+use Rattle.meta_objset.specs.Reading.{HasStaleSpans}
 use Rattle.objset.specs.declared.changes.ObjectChange.{ObjectChange}
 use Rattle.objset.specs.Changes.{changed}
 use Rattle.objset.specs.Objects.{Object}
 use Rattle.objset.specs.Within.{blocks_of_set}
 use Rattle.pool_model.specs.Pools.{PlainPool}
-use Rattle.vdev_label.specs.Plain.{PlainVdev}
-use Rattle.dataset_snapshots.specs.Creating.{HasFirstTables}
+use Rattle.dataset_snapshots.specs.Creating.{KeepsTables}
 use Rattle.dataset_snapshots.specs.Groups.{IsSetOf, SpellsAfter}
 use Rattle.dataset_snapshots.specs.Mapped.{AreCopied}
 use Rattle.dataset_snapshots.specs.Pools.{SpellsPool}
 use Rattle.dataset_snapshots.proofs.OtherObjects.{chains_more}
-
-tables_stay : (objects now : ℕ → Option Object) (vdevs : List PlainVdev) → ((number : ℕ) → 1 < number → number ≤ 3 → now number ≡ objects number) → HasFirstTables objects vdevs → HasFirstTables now vdevs
-tables_stay objects now vdevs same tables = record {
-  config = subst (λ (o : Option Object). HasConfig o vdevs) (sym (same 2 (omega arith) (omega arith))) tables.config;
-  spans = subst (λ (o : Option Object). HasTable spans_kind o []) (sym (same 3 (omega arith) (omega arith))) tables.spans;
-}
 
 -- the set with these objects and its block
 module _ (stored later : Contents) (group : ℕ) (root : Block) (objects : ℕ → Option Object) (changes : List ObjectChange) (pool : PlainPool) (after : SpellsAfter stored group objects changes pool)
@@ -52,8 +43,8 @@ module _ (stored later : Contents) (group : ℕ) (root : Block) (objects : ℕ �
     names = after.names;
   }
 
-  pub root_tables : (vdevs : List PlainVdev) → HasFirstTables objects vdevs → HasFirstTables spells_root.objects vdevs
-  root_tables vdevs tables = tables_stay objects (changed changes objects) vdevs after.tables tables
+  pub root_keeps : KeepsTables objects spells_root.objects
+  root_keeps = after.tables
 
   pub root_copied : All (λ block. length (dvas block.copies) ≡ 3) (root ∷ blocks_of_set set.set set.own set.blocks)
       → All (λ block. length (dvas block.copies) ≢ 3) (reach_by after.datasets after.rows) → AreCopied spells_root

@@ -9,14 +9,14 @@ use Rattle.block_store.specs.declared.refusal.Refusal.{Refusal}
 use Rattle.block_store.specs.declared.refusal.Refusal.TheVariants.{NoMemory}
 use Rattle.block_store.specs.Spaces.{VdevSpace}
 use Rattle.block_store.specs.Store.{Store}
-use Rattle.dataset_chains.specs.Chains.{Reading}
+use Rattle.dataset_groups.specs.Chains.{Reading}
 use Rattle.dataset_groups.specs.declared.writing.WrittenHead.{WrittenHead}
 use Rattle.dataset_groups.specs.Names.{IsOfKind, NamesVolume}
 use Rattle.dataset_groups.specs.Writing.{AreWritten, IsAfterWrites, IsHeadRead, numbers_of}
 use Rattle.dead_list.specs.Datasets.{Head, Kind, Pool, Snapshot as ASnapshot}
 use Rattle.dead_list.specs.Operations.{IsHead, IsWritable}
 use Rattle.dnode.specs.declared.object_set.ObjectSet.{ObjectSet}
-use Rattle.dnode_slots.specs.declared.reading.FoundDnode.{FoundDnode}
+use Rattle.objset.specs.declared.node_reading.FoundDnode.{FoundDnode}
 use Rattle.meta_objset.specs.Found.{IsRecordThere}
 use Rattle.meta_objset.specs.declared.directory.DirectoryRow.{DirectoryRow}
 use Rattle.meta_objset.specs.Names.{IsNamed}

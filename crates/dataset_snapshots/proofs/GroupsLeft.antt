@@ -4,17 +4,17 @@ use Rattle.std.proofs.lemmas.Bool.{cases_eq}
 use Rattle.std.proofs.lemmas.List.Elements.{All-cons, All-contains, All-weaker}
 use Rattle.block_pointer.specs.declared.block.Block.{Block}
 use Rattle.block_store.specs.Blocks.{Contents, Extends}
-use Rattle.dataset_chains.proofs.Stands.{leaves}
-use Rattle.dataset_chains.proofs.Staying.{chains_stay}
-use Rattle.dataset_chains.specs.Chains.{Reading}
-use Rattle.dataset_changes.specs.Over.{AreOver, IsForList, IsForRecord, IsListOver, IsRecordOver}
-use Rattle.dataset_changes.specs.Results.{AreChangesOf, IsRecordChanged}
-use Rattle.dataset_changes.specs.States.{AreOfOneSet, IsNumber, birth_of, list_at, record_at, set_of}
-use Rattle.dataset_changes.specs.declared.changes.DatasetChanges.{DatasetChanges}
-use Rattle.dataset_changes.specs.declared.states.ListState.{ListState}
-use Rattle.dataset_changes.specs.declared.states.ListState.TheVariants as lists
-use Rattle.dataset_changes.specs.declared.states.RecordState.{RecordState}
-use Rattle.dataset_changes.specs.declared.states.RecordState.TheVariants as records
+use Rattle.dataset_groups.proofs.ChainStands.{leaves}
+use Rattle.dataset_groups.proofs.ChainStaying.{chains_stay}
+use Rattle.dataset_groups.specs.Chains.{Reading}
+use Rattle.dataset_groups.specs.Over.{AreOver, IsForList, IsForRecord, IsListOver, IsRecordOver}
+use Rattle.dataset_groups.specs.Results.{AreChangesOf, IsRecordChanged}
+use Rattle.dataset_groups.specs.States.{AreOfOneSet, IsNumber, birth_of, list_at, record_at, set_of}
+use Rattle.dataset_groups.specs.DatasetChanges.{DatasetChanges}
+use Rattle.dataset_groups.specs.ListState.{ListState}
+use Rattle.dataset_groups.specs.ListState.TheVariants as lists
+use Rattle.dataset_groups.specs.RecordState.{RecordState}
+use Rattle.dataset_groups.specs.RecordState.TheVariants as records
 use Rattle.dataset_groups.specs.declared.datasets.GroupDatasets.{GroupDatasets}
 use Rattle.dataset_groups.specs.Groups.{SpellsGroup}
 use Rattle.dataset_groups.specs.Names.{reach_by}

@@ -10,7 +10,7 @@ use Rattle.block_store.specs.Places.{shapes_of}
 use Rattle.block_store.specs.Spaces.{VdevSpace}
 use Rattle.block_store.specs.Steps.{OnlyReadsAndPlans}
 use Rattle.block_store.specs.Store.{Store}
-use Rattle.dataset_changes.specs.States.{AreOfOneSet}
+use Rattle.dataset_groups.specs.States.{AreOfOneSet}
 use Rattle.dataset_groups.specs.declared.datasets.GroupDatasets.{GroupDatasets}
 use Rattle.dataset_groups.specs.declared.datasets.NumberBounds.{NumberBounds}
 use Rattle.dataset_groups.specs.Demands.{AreAsked, AreMade, HasActionDemands, HasChangeDemands, HasHeadDemands, HasMoreRows, HavePlacesFor, IsActionRefused, MakesAll}

@@ -8,23 +8,23 @@ use Rattle.block_store.specs.declared.refusal.Refusal.TheVariants.{NoMemory}
 use Rattle.block_store.specs.Spaces.{VdevSpace}
 use Rattle.block_store.specs.Steps.{OnlyReadsBlocks}
 use Rattle.block_store.specs.Store.{Store}
-use Rattle.dataset_chains.proofs.ReadRecords.{read_on}
-use Rattle.dataset_chains.proofs.Touching.{at_most_on, read_at_most}
-use Rattle.dataset_chains.specs.Touched.{IsAtMostRead, TouchesOnly}
-use Rattle.dataset_changes.specs.Over.{AreOver, HasRecordNow, IsListOver, IsRecordNow}
-use Rattle.dataset_changes.specs.Refused.{IsRecordUnread}
-use Rattle.dataset_changes.specs.Numbers.{IsNumber}
-use Rattle.dataset_changes.specs.States.{AreOfOneSet, HasRecordPut, HaveSameLists, birth_of, list_at, once_read, record_at, set_of}
-use Rattle.dataset_changes.specs.declared.changes.DatasetChanges.{DatasetChanges}
-use Rattle.dataset_changes.specs.declared.states.ListState.{ListState}
-use Rattle.dataset_changes.specs.declared.states.ListState.TheVariants as lists
-use Rattle.dataset_changes.specs.declared.states.RecordState.{RecordState}
-use Rattle.dataset_changes.specs.declared.states.RecordState.TheVariants as records
+use Rattle.dataset_groups.proofs.ChainReadRecords.{read_on}
+use Rattle.dataset_groups.proofs.ChainTouching.{at_most_on, read_at_most}
+use Rattle.dataset_groups.specs.ChainTouched.{IsAtMostRead, TouchesOnly}
+use Rattle.dataset_groups.specs.Over.{AreOver, HasRecordNow, IsListOver, IsRecordNow}
+use Rattle.dataset_groups.specs.ChangesRefused.{IsRecordUnread}
+use Rattle.dataset_groups.specs.Numbers.{IsNumber}
+use Rattle.dataset_groups.specs.States.{AreOfOneSet, HasRecordPut, HaveSameLists, birth_of, list_at, once_read, record_at, set_of}
+use Rattle.dataset_groups.specs.DatasetChanges.{DatasetChanges}
+use Rattle.dataset_groups.specs.ListState.{ListState}
+use Rattle.dataset_groups.specs.ListState.TheVariants as lists
+use Rattle.dataset_groups.specs.RecordState.{RecordState}
+use Rattle.dataset_groups.specs.RecordState.TheVariants as records
 use Rattle.dataset_groups.specs.declared.datasets.GroupDatasets.{GroupDatasets}
 use Rattle.dataset_groups.specs.Groups.{IsWithin}
 use Rattle.dataset_groups.specs.declared.writing.WrittenHead.{WrittenHead}
 use Rattle.dataset_groups.specs.Names.{NamesPool}
-use Rattle.dead_list_objects.specs.Lists.{dead_list_kind}
+use Rattle.dataset_groups.specs.Lists.{dead_list_kind}
 use Rattle.dnode.specs.declared.object_set.ObjectSet.{ObjectSet}
 use Rattle.dnode.specs.ObjectSet.{FitsObjectSet}
 use Rattle.meta_objset.specs.Datasets.{HasRecord}

@@ -47,3 +47,6 @@ pub mod ToldOrigins
 pub mod WalkedRows
 pub mod WrittenObjects
 pub mod YoungerRefusals
+pub use Rattle.pool_maps.proofs.Opened as MapsOpened
+pub use Rattle.pool_maps.proofs.Reaching as MapsReaching
+pub use Rattle.pool_maps.proofs.ReadSets as MapsReadSets

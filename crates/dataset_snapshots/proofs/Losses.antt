@@ -6,14 +6,14 @@ use Rattle.block_store.specs.declared.refusal.Refusal.{Refusal}
 use Rattle.block_store.specs.declared.refusal.Refusal.TheVariants.{DiskFault}
 use Rattle.block_store.specs.Losses.{IsBlockLost}
 use Rattle.block_store.specs.Store.{Store}
-use Rattle.dataset_changes.specs.declared.changes.DatasetChanges.{DatasetChanges}
+use Rattle.dataset_groups.specs.DatasetChanges.{DatasetChanges}
 pub use Rattle.dataset_groups.proofs.Losses.{losses_of_destroys}
 use Rattle.dataset_groups.specs.Laws.{LossesOfDestroys}
 use Rattle.dataset_groups.specs.declared.datasets.GroupDatasets.{GroupDatasets}
 use Rattle.dataset_groups.specs.Destroys.{AreDestroysRefused}
 use Rattle.dataset_groups.specs.Demands.{IsActionRefused, IsMakingRefused, IsUnmade}
 use Rattle.dnode.specs.declared.object_set.ObjectSet.{ObjectSet}
-use Rattle.dnode_slots.proofs.Losses.{set_lost}
+use Rattle.objset.proofs.NodeLosses.{set_lost}
 use Rattle.meta_objset.proofs.Losses.{record_lost, rows_lost}
 use Rattle.meta_objset.specs.declared.directory.DirectoryRow.{DirectoryRow}
 use Rattle.meta_objset.specs.Found.{AreDirectoryRows, AreMapRows}

@@ -5,15 +5,15 @@ use Rattle.block_store.specs.declared.refusal.Refusal.{Refusal}
 use Rattle.block_store.specs.declared.refusal.Refusal.TheVariants.{DiskFault}
 use Rattle.block_store.specs.Losses.{IsBlockLost}
 use Rattle.block_store.specs.Store.{Store}
-use Rattle.dataset_chains.specs.Refused.{IsChainRefused}
-use Rattle.dataset_changes.specs.Refused.{IsListEndUnread, IsListUnread, IsRecordUnread, of_list}
-use Rattle.dataset_changes.specs.States.{birth_of, set_of}
-use Rattle.dataset_changes.specs.declared.changes.DatasetChanges.{DatasetChanges}
+use Rattle.dataset_groups.specs.ChainRefused.{IsChainRefused}
+use Rattle.dataset_groups.specs.ChangesRefused.{IsListEndUnread, IsListUnread, IsRecordUnread, of_list}
+use Rattle.dataset_groups.specs.States.{birth_of, set_of}
+use Rattle.dataset_groups.specs.DatasetChanges.{DatasetChanges}
 use Rattle.dataset_groups.specs.Demands.{IsHeadUnchanged, IsHeadUnplaced}
 use Rattle.dataset_groups.specs.declared.writing.WrittenHead.{WrittenHead}
-use Rattle.dead_list_objects.specs.Lists.{IsEndUnread, IsListRefused, dead_list_kind}
-use Rattle.dead_list_objects.specs.declared.refusal.Refusal.{Refusal as ListRefusal}
-use Rattle.dead_list_objects.specs.declared.refusal.Refusal.TheVariants as of_lists
+use Rattle.dataset_groups.specs.Lists.{IsEndUnread, IsListRefused, dead_list_kind}
+use Rattle.dataset_groups.specs.ListRefusal.{Refusal as ListRefusal}
+use Rattle.dataset_groups.specs.ListRefusal.TheVariants as of_lists
 use Rattle.dnode.specs.declared.object_set.ObjectSet.{ObjectSet}
 use Rattle.meta_objset.proofs.Losses.{record_lost}
 use Rattle.meta_objset.specs.declared.record.DatasetKind.{DatasetKind}

@@ -33,9 +33,8 @@ use Rattle.block_store.specs.Releases.{AreReleased, copies_of_all}
 use Rattle.block_store.specs.Plans.{Plans}
 use Rattle.meta_objset.specs.declared.directory.DirectoryRow.{DirectoryRow}
 use Rattle.dataset_snapshots.proofs.GroupReach.{AreVolumesGiven, IsRootGiven, group_given}
-use Rattle.dataset_snapshots.proofs.GroupRoot.{root_copied, root_tables, spells_root}
-use Rattle.vdev_label.specs.Plain.{PlainVdev}
-use Rattle.dataset_snapshots.specs.Creating.{HasFirstTables}
+use Rattle.dataset_snapshots.proofs.GroupRoot.{root_copied, root_keeps, spells_root}
+use Rattle.dataset_snapshots.specs.Creating.{KeepsTables}
 
 abbrev IsThree : Block → Type 0
 IsThree block = length (dvas block.copies) ≡ 3
@@ -117,7 +116,7 @@ pub group_value : (stored planned mid later : Contents) (birth group : ℕ) (old
     → AddsData planned mid → (set : IsRootGiven mid later group root sets.Meta (changed changes is.objects) (blocks_of_set is.set is.own is.blocks) gone_too) → AddsMeta mid later
     → root.birth ≡ group → replaced ≡ ((old ∷ []) ++ gone) ++ gone_too → MapAnew is.objects store.spaces gone changes → AreSameBefore store.spaces new.spaces
     → (last : Contents) × Plans new stored last × Extends planned last × (now_is : SpellsPool last group root after_pool)
-    × ((vdevs : List PlainVdev) → HasFirstTables is.objects vdevs → HasFirstTables now_is.objects vdevs)
+    × KeepsTables is.objects now_is.objects
     × IsReachExchanged group planned last (reach_of is) (reach_of now_is) replaced × (rows ≡ now_is.rows) × HasMapsBehind new.spaces replaced now_is
 group_value stored planned mid later birth group old root pool after_pool is copied changes gone gone_too replaced rows store new holds plans first last volumes adds_data set adds_meta born replaced_is anew same =
     let reached : List Block = reach_by volumes.0.datasets volumes.0.rows in
@@ -130,7 +129,7 @@ group_value stored planned mid later birth group old root pool after_pool is cop
       plans,
       λ block bytes known. last block bytes (first block bytes known),
       now_is,
-      root_tables mid later group root is.objects changes after_pool volumes.0 last set.0 born is.stale is.spans,
+      root_keeps mid later group root is.objects changes after_pool volumes.0 last set.0 born is.stale is.spans,
       group_given planned mid later group old root (volume_blocks_of is) reached (blocks_of_set is.set is.own is.blocks) own gone gone_too replaced first last volumes.1 set.1 replaced_is,
       sym volumes.2,
       maps_behind stored birth old pool is copied group planned mid later root reached own gone gone_too volumes.1 set.1 store holds changes new.spaces replaced anew same replaced_is after_pool

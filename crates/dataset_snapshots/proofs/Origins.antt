@@ -2,7 +2,7 @@
 use Rattle.std.proofs.Common.{◌≡◌, ℕ, List, [], ◌∷◌, Option, Some, None, AllPairs, Contains, inl, inr, refl, sym, ap, subst, ◌∙◌}
 use Rattle.std.specs.List.{AllZip}
 use Rattle.std.proofs.lemmas.List.Elements.{All-contains}
-use Rattle.dataset_chains.specs.Chains.{Reading}
+use Rattle.dataset_groups.specs.Chains.{Reading}
 use Rattle.dataset_groups.proofs.ListParts.{first_or_later, is_first, is_later, nothing_in}
 use Rattle.dataset_groups.specs.Names.{BranchesOff, IsCalled, NamesPool, NamesVolume}
 use Rattle.dead_list.specs.Datasets.{Pool}

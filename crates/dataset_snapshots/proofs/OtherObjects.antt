@@ -2,11 +2,11 @@
 use Rattle.std.proofs.Common.{◌≡◌, ◌≢◌, ◌⊎◌, ℕ, List, Option, Some, None, inl, inr, sym, ap, subst, ◌∙◌, arith}
 use Rattle.block_pointer.specs.declared.block.Block.{Block}
 use Rattle.block_store.specs.Blocks.{Contents, Extends}
-use Rattle.dataset_chains.proofs.Frames.{leads_stay}
-use Rattle.dataset_chains.specs.Chains.{Reading}
-use Rattle.dataset_chains.specs.Standing.{HasChains}
+use Rattle.dataset_groups.proofs.ChainFrames.{leads_stay}
+use Rattle.dataset_groups.specs.Chains.{Reading}
+use Rattle.dataset_groups.specs.ChainStanding.{HasChains}
 use Rattle.dead_list.specs.Datasets.{Pool}
-use Rattle.dead_list_objects.specs.Lists.{HasDeadList}
+use Rattle.dataset_groups.specs.Lists.{HasDeadList}
 use Rattle.dnode_tree.specs.Writes.{written}
 use Rattle.meta_objset.specs.Datasets.{HasRecord}
 use Rattle.meta_objset.specs.declared.record.DatasetRecord.{DatasetRecord}

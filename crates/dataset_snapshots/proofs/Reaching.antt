@@ -9,15 +9,15 @@ use Rattle.block_pointer.specs.declared.block.Block.{Block}
 use Rattle.block_store.specs.Blocks.{Contents}
 use Rattle.block_store.specs.Steps.{OnlyReadsBlocks}
 use Rattle.block_store.specs.Store.{Store}
-use Rattle.dataset_chains.specs.Chains.{Reading}
-use Rattle.dataset_chains.specs.Standing.{HasChains}
+use Rattle.dataset_groups.specs.Chains.{Reading}
+use Rattle.dataset_groups.specs.ChainStanding.{HasChains}
 use Rattle.dataset_groups.proofs.KnownBlocks.{IsKnown, free_or_not, volume_known}
 use Rattle.dead_list.specs.Datasets.{Dataset, Pool}
 use Rattle.dead_list.specs.Datasets.{IsReached as IsDatasetBlock}
 use Rattle.dnode.specs.declared.dnode.Dnode.{Dnode}
 use Rattle.dnode.specs.declared.dnode.Dnode.TheVariants.{Free, Object as Node}
 use Rattle.dnode.specs.declared.object_set.ObjectSet.{ObjectSet}
-use Rattle.dnode_slots.specs.Nodes.{birth_of}
+use Rattle.objset.specs.Nodes.{birth_of}
 use Rattle.dnode_tree.proofs.Standing.{tree_blocks_known}
 use Rattle.object_table.proofs.Tables.{spaces_stay}
 use Rattle.objset.specs.Objects.{Object, IsObject, AreObjects}

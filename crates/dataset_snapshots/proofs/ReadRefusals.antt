@@ -4,7 +4,7 @@ use Rattle.block_pointer.specs.declared.block.Block.{Block}
 use Rattle.block_store.specs.declared.refusal.Refusal.{Refusal}
 use Rattle.block_store.specs.Store.{Store}
 use Rattle.dnode.specs.declared.object_set.ObjectSet.{ObjectSet}
-use Rattle.dnode_slots.proofs.ReadRefusals.{set_read}
+use Rattle.objset.proofs.NodeReadRefusals.{set_read}
 use Rattle.dnode_tree.proofs.ReadRefusals.{bad_read}
 use Rattle.dnode_tree.specs.ReadRefusals.{IsForRead}
 use Rattle.meta_objset.proofs.ReadRefusals.{record_read, rows_read}

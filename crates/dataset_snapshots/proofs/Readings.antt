@@ -6,16 +6,16 @@ use Rattle.std.specs.List.{AllZip, flat_map}
 use Rattle.block_pointer.specs.declared.block.Block.{Block}
 use Rattle.block_store.specs.Opened.{AreBlocksApart}
 use Rattle.block_store.specs.Blocks.{Contents}
-use Rattle.dataset_chains.proofs.ReadRecords.{one_kind as one_kind_of}
-use Rattle.dataset_chains.specs.Chains.{Reading}
-use Rattle.dataset_chains.specs.Standing.{HasChains, StandsAt}
+use Rattle.dataset_groups.proofs.ChainReadRecords.{one_kind as one_kind_of}
+use Rattle.dataset_groups.specs.Chains.{Reading}
+use Rattle.dataset_groups.specs.ChainStanding.{HasChains, StandsAt}
 use Rattle.dataset_groups.proofs.KnownBlocks.{free_or_not}
 use Rattle.dataset_groups.proofs.ListParts.{is_first, is_later}
 use Rattle.dataset_groups.specs.Names.{NamesPool, objects_of_rows, reach_by}
 use Rattle.dead_list.specs.Datasets.{Dataset, Free, Pool, Snapshot, group_before}
 use Rattle.dead_list.specs.Reach.{born_after, own_of}
 use Rattle.dnode.specs.declared.object_set.ObjectSet.{ObjectSet}
-use Rattle.dnode_slots.proofs.Readings.{set_block_once}
+use Rattle.objset.proofs.NodeReadings.{set_block_once}
 use Rattle.dnode_tree.specs.Rewriting.{AreDistinct}
 use Rattle.meta_objset.proofs.Readings.{directory_once, name_once, record_once}
 use Rattle.meta_objset.specs.declared.directory.DirectoryRow.{DirectoryRow}
@@ -191,4 +191,5 @@ roots_spell_one_pool stored birth later root pool other one two =
         apart = subst AreBlocksApart reach has.apart;
         maps = subst (λ objects. AreMapsFor objects spaces (reach_of two)) same.0 (subst (λ (them : List Block). AreMapsFor one.objects spaces them) reach has.maps);
       },
+      same.0,
     )

@@ -5,13 +5,13 @@ use Rattle.block_store.specs.Blocks.{Contents}
 use Rattle.block_store.specs.Spaces.{VdevSpace}
 use Rattle.block_store.specs.Steps.{AnswersAreTrue}
 use Rattle.block_store.specs.Store.{Holds, Store}
-use Rattle.dataset_chains.specs.Chains.{Reading, SpellsChains}
-use Rattle.dataset_chains.specs.Touched.{IsAtMostRead, TouchesOnly}
-use Rattle.dataset_changes.specs.Over.{AreOver, IsRecordOver}
-use Rattle.dataset_changes.specs.Results.{AreMixed}
-use Rattle.dataset_changes.specs.States.{AreOfOneSet, list_at, record_at}
-use Rattle.dataset_changes.specs.declared.changes.DatasetChanges.{DatasetChanges}
-use Rattle.dataset_changes.specs.declared.states.RecordState.{RecordState}
+use Rattle.dataset_groups.specs.Chains.{Reading, SpellsChains}
+use Rattle.dataset_groups.specs.ChainTouched.{IsAtMostRead, TouchesOnly}
+use Rattle.dataset_groups.specs.Over.{AreOver, IsRecordOver}
+use Rattle.dataset_groups.specs.Results.{AreMixed}
+use Rattle.dataset_groups.specs.States.{AreOfOneSet, list_at, record_at}
+use Rattle.dataset_groups.specs.DatasetChanges.{DatasetChanges}
+use Rattle.dataset_groups.specs.RecordState.{RecordState}
 use Rattle.dataset_groups.specs.declared.datasets.GroupDatasets.{GroupDatasets}
 use Rattle.dataset_groups.specs.Groups.{IsFresh, SpellsGroup}
 use Rattle.dataset_groups.specs.declared.datasets.NumberBounds.{NumberBounds}

@@ -5,8 +5,8 @@ use Rattle.std.proofs.lemmas.Bool.{cases_eq}
 use Rattle.std.proofs.lemmas.List.Elements.{Contains-append_left, Contains-append_right}
 use Rattle.block_pointer.specs.declared.block.Block.{Block}
 use Rattle.block_store.specs.Blocks.{Contents}
-use Rattle.dataset_chains.specs.Chains.{LeadsTo, Reading}
-use Rattle.dataset_chains.specs.Standing.{HasChains}
+use Rattle.dataset_groups.specs.Chains.{LeadsTo, Reading}
+use Rattle.dataset_groups.specs.ChainStanding.{HasChains}
 use Rattle.dead_list.specs.Datasets.{Free, Pool}
 use Rattle.dnode.specs.declared.object_set.ObjectSet.{ObjectSet}
 use Rattle.dnode_tree.proofs.Standing.{first_in}
@@ -138,6 +138,7 @@ roots_stand old new bound birth root pool le is keeps =
         apart = has.apart;
         maps = has.maps;
       },
+      refl,
     )
 
 pub reach_is_known : ReachIsKnown

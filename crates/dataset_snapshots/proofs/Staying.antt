@@ -1,9 +1,9 @@
 -- Roots spell what they spelled where more is known.
 use Rattle.std.proofs.Common.{ℕ, Option, arith}
 use Rattle.block_store.specs.Blocks.{Contents, Extends}
-use Rattle.dataset_chains.proofs.Frames.{leads_stay}
-use Rattle.dataset_chains.specs.Chains.{Reading}
-use Rattle.dataset_chains.specs.Standing.{HasChains}
+use Rattle.dataset_groups.proofs.ChainFrames.{leads_stay}
+use Rattle.dataset_groups.specs.Chains.{Reading}
+use Rattle.dataset_groups.specs.ChainStanding.{HasChains}
 use Rattle.dead_list.specs.Datasets.{Pool}
 use Rattle.objset.proofs.Kept.{objects_stand}
 use Rattle.objset.specs.Objects.{Object}

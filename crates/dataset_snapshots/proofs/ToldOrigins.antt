@@ -6,8 +6,8 @@ use Rattle.std.proofs.lemmas.List.{take_more}
 use Rattle.std.proofs.lemmas.List.Elements.{All-from_recursion, All-head, All-tail, Contains-append_left, Contains-push, Contains-push_cases}
 use Rattle.block_store.specs.Blocks.{Contents}
 use Rattle.block_store.specs.Spaces.{VdevSpace}
-use Rattle.dataset_chains.specs.Chains.{Reading}
-use Rattle.dataset_chains.specs.Standing.{HasChains}
+use Rattle.dataset_groups.specs.Chains.{Reading}
+use Rattle.dataset_groups.specs.ChainStanding.{HasChains}
 use Rattle.dataset_groups.proofs.ListParts.{is_first, is_later, nothing_in}
 use Rattle.dataset_groups.specs.Names.{BranchesOff, HasClone, NamesPool, objects_of_rows}
 use Rattle.dead_list.specs.Datasets.{Pool}

@@ -8,8 +8,8 @@ use Rattle.block_store.specs.Reading.{IsReadable}
 use Rattle.block_store.specs.Store.{Store, outs}
 use Rattle.dnode.specs.declared.node.ObjectNode.{ObjectNode}
 use Rattle.dnode.specs.declared.object_set.ObjectSet.{ObjectSet}
-use Rattle.dnode_slots.specs.Within.{asked_of_nodes, HasNoNode}
-use Rattle.dnode_slots.specs.Younger.{AreYoungerRefused}
+use Rattle.objset.specs.NodesWithin.{asked_of_nodes, HasNoNode}
+use Rattle.objset.specs.NodesYounger.{AreYoungerRefused}
 use Rattle.dnode_tree.proofs.ReadRefusals.{bad_read, block_read}
 use Rattle.dnode_tree.specs.ReadRefusals.{IsForRead}
 use Rattle.dnode_tree.specs.Tree.{property_of}

@@ -11,9 +11,9 @@ use Rattle.block_store.specs.Spaces.{VdevSpace}
 use Rattle.block_store.specs.Demands.{Demand, HavePlaces, LackPlaces}
 use Rattle.block_store.specs.Steps.{OnlyReadsAndPlans, OnlyReadsBlocks}
 use Rattle.block_store.specs.Store.{Store}
-use Rattle.dataset_changes.specs.Results.{AreChangesOf, AreMixed}
-use Rattle.dataset_changes.specs.States.{AreOfOneSet}
-use Rattle.dataset_changes.specs.declared.changes.DatasetChanges.{DatasetChanges}
+use Rattle.dataset_groups.specs.Results.{AreChangesOf, AreMixed}
+use Rattle.dataset_groups.specs.States.{AreOfOneSet}
+use Rattle.dataset_groups.specs.DatasetChanges.{DatasetChanges}
 use Rattle.dataset_groups.specs.declared.datasets.GroupDatasets.{GroupDatasets}
 use Rattle.dataset_groups.specs.Demands.{AreAsked, AreHeadsRefused, AreMade, HasActionDemands, HasHeadDemands, HasMoreRows, HavePlacesFor, IsActionRefused}
 use Rattle.dataset_groups.specs.Groups.{first_number}

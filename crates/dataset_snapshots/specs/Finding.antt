@@ -9,7 +9,7 @@ use Rattle.block_store.specs.Steps.{OnlyReadsBlocks}
 use Rattle.block_store.specs.Store.{Store}
 use Rattle.dnode.specs.declared.object_set.ObjectSet.{ObjectSet}
 use Rattle.dnode.specs.declared.object_set.ObjectSetKind.TheVariants as sets
-use Rattle.dnode_slots.specs.Sets.{IsSetFound, IsSetRefused}
+use Rattle.objset.specs.Sets.{IsSetFound, IsSetRefused}
 use Rattle.meta_objset.specs.declared.directory.DirectoryRow.{DirectoryRow}
 use Rattle.meta_objset.specs.Directory.{LacksName}
 use Rattle.meta_objset.specs.Found.{AreDirectoryRows, IsDirectoryFound, IsRecordFound, IsRecordRefused, IsRowsRefused}

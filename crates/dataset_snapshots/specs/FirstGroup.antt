@@ -7,9 +7,9 @@ use Rattle.block_store.specs.Demands.{Demand, HavePlaces}
 use Rattle.block_store.specs.Spaces.{VdevSpace}
 use Rattle.block_store.specs.Steps.{OnlyReadsAndPlans, OnlyReadsBlocks}
 use Rattle.block_store.specs.Store.{Store}
-use Rattle.dataset_changes.specs.Results.{AreChangesOf}
-use Rattle.dataset_changes.specs.States.{AreUntouched, set_of}
-use Rattle.dataset_changes.specs.declared.changes.DatasetChanges.{DatasetChanges}
+use Rattle.dataset_groups.specs.Results.{AreChangesOf}
+use Rattle.dataset_groups.specs.States.{AreUntouched, set_of}
+use Rattle.dataset_groups.specs.DatasetChanges.{DatasetChanges}
 use Rattle.dataset_groups.specs.declared.datasets.GroupDatasets.{GroupDatasets}
 use Rattle.dataset_groups.specs.Demands.{AreAsked, AreMade, HasActionDemands, HasMoreRows, HavePlacesFor, IsActionRefused}
 use Rattle.dataset_groups.specs.NewVolumes.{numbers_end}

@@ -3,10 +3,10 @@ use Rattle.std.specs.Prelude.{ℕ, ◌≡◌, ◌⊎◌, ◌↔◌, ◌+◌, ◌
 use Rattle.std.specs.List.Sorted.{IsStrictlyIncreasing}
 use Rattle.block_pointer.specs.declared.block.Block.{Block}
 use Rattle.block_store.specs.Blocks.{Contents}
-use Rattle.dataset_chains.specs.Chains.{Reading}
-use Rattle.dataset_chains.specs.Standing.{HasChains}
-use Rattle.dataset_changes.specs.Over.{IsForList, IsForRecord}
-use Rattle.dataset_changes.specs.States.{birth_of, set_of}
+use Rattle.dataset_groups.specs.Chains.{Reading}
+use Rattle.dataset_groups.specs.ChainStanding.{HasChains}
+use Rattle.dataset_groups.specs.Over.{IsForList, IsForRecord}
+use Rattle.dataset_groups.specs.States.{birth_of, set_of}
 use Rattle.dataset_groups.specs.declared.datasets.GroupDatasets.{GroupDatasets}
 use Rattle.dataset_groups.specs.Groups.{SpellsGroup, first_number}
 pub use Rattle.dataset_groups.specs.Leaving.{IsReachExchanged}
@@ -17,7 +17,7 @@ use Rattle.dead_list.specs.Datasets.{Pool}
 use Rattle.dnode.specs.declared.object_set.ObjectSet.{ObjectSet}
 use Rattle.dnode.specs.declared.object_set.ObjectSetKind.{ObjectSetKind}
 use Rattle.dnode.specs.ObjectSet.{FitsObjectSet}
-use Rattle.dnode_slots.specs.Sets.{IsSetBlock}
+use Rattle.objset.specs.Sets.{IsSetBlock}
 use Rattle.meta_objset.specs.declared.directory.DirectoryRow.{DirectoryRow}
 use Rattle.meta_objset.specs.Names.{IsNamed}
 use Rattle.meta_objset.specs.Reading.{HasDirectory}

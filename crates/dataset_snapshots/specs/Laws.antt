@@ -45,17 +45,18 @@ abbrev pub KeepsItsMaps : {old new : Contents} {bound birth : ℕ} {root : Block
     → SpellsPool old bound root pool → SpellsPool new birth root other → Type 0
 KeepsItsMaps is still = (spaces : List VdevSpace) → HasItsMaps spaces is → HasItsMaps spaces still
 
--- A root spells its pool still, by the same rows, leads to the same blocks and has the same maps,
--- where the blocks that it leads to stay known, whatever becomes of others, and also for a later group.
+-- A root spells its pool still, by the same rows, leads to the same blocks, and has the same maps and the
+-- same objects, where the blocks that it leads to stay known, whatever becomes of others, and also for a
+-- later group.
 abbrev pub RootsStandOnTheirReach : Type 0
 RootsStandOnTheirReach =
     (old new : Contents) (bound birth : ℕ) (root : Block) (pool : PlainPool) → bound ≤ birth
     → (is : SpellsPool old bound root pool) → KeepsEach old new (reach_of is)
     → (still : SpellsPool new birth root pool) × (reach_of still ≡ reach_of is)
-    × (still.rows ≡ is.rows) × KeepsItsMaps is still
+    × (still.rows ≡ is.rows) × KeepsItsMaps is still × (still.objects ≡ is.objects)
 
 -- Each block that a root leads to is known; and where more is known it leads to the same blocks,
--- spells its pool by the same rows, and has the same maps.
+-- spells its pool by the same rows, and has the same maps and objects.
 pub record ReachIsKnown : Type 0 where
   pub known : (stored : Contents) (birth : ℕ) (root : Block) (pool : PlainPool)
       (is : SpellsPool stored birth root pool) (block : Block) → Contains (reach_of is) block
@@ -63,15 +64,16 @@ pub record ReachIsKnown : Type 0 where
   pub stays : (old new : Contents) (bound birth : ℕ) (root : Block) (pool : PlainPool)
       → bound ≤ birth → Extends old new → (is : SpellsPool old bound root pool)
       → (still : SpellsPool new birth root pool) × (reach_of still ≡ reach_of is)
-      × (still.rows ≡ is.rows) × KeepsItsMaps is still
+      × (still.rows ≡ is.rows) × KeepsItsMaps is still × (still.objects ≡ is.objects)
 
--- A root spells one pool, by one list of rows, leads to one list of blocks and has one table of maps,
--- whatever births are asked.
+-- A root spells one pool, by one list of rows, leads to one list of blocks, and has one table of maps and
+-- the same objects, whatever births are asked.
 abbrev pub RootsSpellOnePool : Type 0
 RootsSpellOnePool =
     (stored : Contents) (birth later : ℕ) (root : Block) (pool other : PlainPool)
     → (one : SpellsPool stored birth root pool) → (two : SpellsPool stored later root other)
     → (pool ≡ other) × (reach_of one ≡ reach_of two) × (one.rows ≡ two.rows) × KeepsItsMaps one two
+    × (one.objects ≡ two.objects)
 
 -- A block is lost where a name is not found for a fault of disks.
 abbrev pub LossesOfDatasets : Type 0

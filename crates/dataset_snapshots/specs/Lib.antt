@@ -14,3 +14,8 @@ pub mod Pools
 pub mod Ranges
 pub mod Reach
 pub mod Writing
+pub use Rattle.pool_maps.specs.Beside
+pub use Rattle.pool_maps.specs.Loads
+pub use Rattle.pool_maps.specs.Maps
+pub use Rattle.pool_maps.specs.Reached
+pub use Rattle.pool_maps.specs.declared.reading.FreeMetaslab

@@ -6,9 +6,9 @@ use Rattle.block_store.specs.declared.refusal.Refusal.TheVariants.{NoMemory, Bad
 use Rattle.block_store.specs.Spaces.{VdevSpace}
 use Rattle.block_store.specs.Steps.{OnlyReadsBlocks}
 use Rattle.block_store.specs.Store.{Store}
-use Rattle.dataset_changes.specs.States.{AreOfOneSet, AreUntouched, IsNumber, set_of}
-use Rattle.dataset_changes.specs.declared.changes.DatasetChanges.{DatasetChanges}
-use Rattle.dataset_chains.specs.Touched.{TouchesOnly}
+use Rattle.dataset_groups.specs.States.{AreOfOneSet, AreUntouched, IsNumber, set_of}
+use Rattle.dataset_groups.specs.DatasetChanges.{DatasetChanges}
+use Rattle.dataset_groups.specs.ChainTouched.{TouchesOnly}
 use Rattle.dataset_groups.specs.Demands.{IsNameThere}
 use Rattle.dataset_groups.specs.Destroys.{AreDestroysRefused, DestroysAll}
 use Rattle.dataset_groups.specs.declared.datasets.GroupDatasets.{GroupDatasets}

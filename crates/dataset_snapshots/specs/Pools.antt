@@ -2,14 +2,14 @@
 use Rattle.std.specs.Prelude.{ℕ, ◌≡◌, ◌<◌, true, List, Option, length}
 use Rattle.block_pointer.specs.declared.block.Block.{Block}
 use Rattle.block_store.specs.Blocks.{Contents}
-use Rattle.dataset_chains.specs.Chains.{Reading}
-use Rattle.dataset_chains.specs.Standing.{HasChains}
+use Rattle.dataset_groups.specs.Chains.{Reading}
+use Rattle.dataset_groups.specs.ChainStanding.{HasChains}
 use Rattle.dataset_groups.specs.Names.{NamesPool}
 pub use Rattle.dataset_groups.specs.Names.{NamesVolume}
 use Rattle.dead_list.specs.Datasets.{Pool}
 use Rattle.dnode.specs.declared.object_set.ObjectSet.{ObjectSet}
 use Rattle.dnode.specs.declared.object_set.ObjectSetKind.TheVariants as sets
-use Rattle.dnode_slots.specs.Sets.{IsSetBlock}
+use Rattle.objset.specs.Sets.{IsSetBlock}
 use Rattle.meta_objset.specs.declared.directory.DirectoryRow.{DirectoryRow}
 use Rattle.meta_objset.specs.declared.record.DatasetKind.{DatasetKind}
 use Rattle.meta_objset.specs.declared.record.DatasetKind.TheVariants as datasets

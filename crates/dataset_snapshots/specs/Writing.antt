@@ -1,9 +1,9 @@
 -- Volumes that a group writes to, as they are read.
 use Rattle.std.specs.Prelude.{ℕ, ◌≡◌, false, List, Contains, Option, Any}
 use Rattle.block_store.specs.Blocks.{Contents}
-use Rattle.dataset_chains.specs.Chains.{Reading}
-use Rattle.dataset_chains.specs.Touched.{TouchesOnly}
-use Rattle.dataset_changes.specs.States.{AreOfOneSet}
+use Rattle.dataset_groups.specs.Chains.{Reading}
+use Rattle.dataset_groups.specs.ChainTouched.{TouchesOnly}
+use Rattle.dataset_groups.specs.States.{AreOfOneSet}
 use Rattle.dataset_groups.specs.declared.datasets.GroupDatasets.{GroupDatasets}
 use Rattle.dataset_groups.specs.Groups.{SpellsGroup}
 use Rattle.dataset_groups.specs.declared.writing.WrittenHead.{WrittenHead}

@@ -8,7 +8,7 @@ ghost use Rattle.block_store.specs.Store.{Holds};
 ghost use Rattle.dnode.specs.declared.object_set.ObjectSet.{ObjectSet};
 ghost use Rattle.dnode.specs.declared.object_set.ObjectSetKind.TheVariants as sets;
 ghost use Rattle.dnode.specs.ObjectSet.{FitsObjectSet};
-ghost use Rattle.dnode_slots.specs.Sets.{IsSetBlock};
+ghost use Rattle.objset.specs.Sets.{IsSetBlock};
 ghost use Rattle.meta_objset.specs.declared.directory.DirectoryRow.{DirectoryRow};
 ghost use Rattle.meta_objset.specs.declared.record.DatasetRecord.{DatasetRecord};
 ghost use Rattle.meta_objset.specs.Datasets.{HasRecord};
@@ -26,11 +26,11 @@ ghost use Rattle.dataset_snapshots.specs.Pools.{SpellsPool};
 use block_pointer::Block;
 use block_store::{BlockStore, Refusal};
 use dnode::{ObjectSet, ObjectSetKind};
-use dnode_slots::read_set;
 use meta_objset::{
     DatasetRecord, Directory, DirectoryRow, padded, read_directory, read_record, unpadded,
 };
 use model_disk::Disk;
+use objset::read_set;
 use pool_model::Name;
 use std::alloc::{AllocError, Global};
 use volume::VolumeSet;

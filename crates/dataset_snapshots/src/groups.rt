@@ -11,7 +11,7 @@ ghost use Rattle.block_store.specs.Steps.{OnlyReadsAndPlans, OnlyReadsBlocks, An
 ghost use Rattle.block_store.specs.Store.{Holds};
 ghost use Rattle.dnode.specs.ObjectSet.{FitsObjectSet};
 ghost use Rattle.dnode.specs.declared.object_set.ObjectSetKind.TheVariants as sets;
-ghost use Rattle.dnode_slots.specs.Sets.{asked_of_set};
+ghost use Rattle.objset.specs.Sets.{asked_of_set};
 ghost use Rattle.dnode_tree.specs.Writes.{IsForRoom};
 ghost use Rattle.meta_objset.specs.Reading.{HasDirectory, directory_kind};
 ghost use Rattle.object_table.specs.Tables.{IsOfKind};
@@ -22,9 +22,8 @@ ghost use Rattle.pool_maps.specs.Maps.{AreMapsOf};
 ghost use Rattle.pool_maps.specs.Plans.{AreOrdered, MapAnew};
 ghost use Rattle.pool_model.specs.declared.item.Write.{Write};
 ghost use Rattle.pool_model.specs.Pools.{MayBeDestroyed, PlainPool, all_destroyed, applied, written};
-ghost use Rattle.vdev_label.specs.Plain.{PlainVdev};
 ghost use Rattle.volume_rules.specs.Parting.{with_made};
-ghost use Rattle.dataset_snapshots.specs.Creating.{HasFirstTables};
+ghost use Rattle.dataset_snapshots.specs.Creating.{KeepsTables};
 ghost use Rattle.dataset_snapshots.specs.Demands.{AreMappedRefused, HasDatasetChanges, AreMisnumbered, AreVolumesRefused, HasGroupPlaces, HasMappedPlaces, HasRootPlaces, HasVolumePlaces, IsGroupRefused, IsRootRefused};
 ghost use Rattle.dataset_groups.specs.Destroys.{HasAtMost};
 ghost use Rattle.dataset_groups.specs.Names.{reach_by};
@@ -149,8 +148,7 @@ pub fn after_group<D: Disk + Drop>(
         × (then : SpellsPool later group after.root
         (applied group (all_destroyed parted.now.destroyed pool)
         (with_made items.now parted.now)))
-        × ((vdevs : List PlainVdev) → HasFirstTables is.objects vdevs
-        → HasFirstTables then.objects vdevs)
+        × KeepsTables is.objects then.objects
         × IsReachExchanged group planned later (reach_of is) (reach_of then)
         after.replaced.items
         × (after.directory ≡ then.rows)

@@ -25,5 +25,6 @@ pub use laws::{
     good_changes_may_be_made, losses_by_rows, losses_of_datasets, losses_of_first_groups,
     losses_of_groups, losses_of_ranges, reaches_lie_apart, replaced_of_groups_leave, roots_stay,
 };
+pub use pool_maps::load_maps;
 pub use ranges::{VolumeRange, read_range, read_range_in};
 pub use walks::reach;

@@ -6,7 +6,7 @@ ghost use Rattle.block_store.specs.Losses.{IsForLoss};
 ghost use Rattle.block_store.specs.Steps.{OnlyReadsBlocks, AnswersAreTrue};
 ghost use Rattle.block_store.specs.Store.{Holds};
 ghost use Rattle.dnode.specs.ObjectSet.{FitsObjectSet};
-ghost use Rattle.dnode_slots.specs.Found.{IsNodeRefused};
+ghost use Rattle.objset.specs.NodesFound.{IsNodeRefused};
 ghost use Rattle.objset.specs.Changes.{IsGoodChange, MayChange, after_change};
 ghost use Rattle.objset.specs.Objects.{Object, AreObjects};
 ghost use Rattle.meta_objset.specs.declared.record.DatasetRecord.{DatasetRecord};

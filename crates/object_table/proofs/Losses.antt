@@ -6,7 +6,7 @@ use Rattle.block_store.specs.Losses.{IsBlockLost}
 use Rattle.block_store.specs.Store.{Store}
 use Rattle.block_store.proofs.Losses.{lost_behind_reads}
 use Rattle.dnode.specs.declared.object_set.ObjectSet.{ObjectSet}
-use Rattle.dnode_slots.proofs.Losses.{node_lost}
+use Rattle.objset.proofs.NodeLosses.{node_lost}
 use Rattle.objset.proofs.Losses.{data_lost}
 use Rattle.object_table.specs.declared.kind.TableKind.{TableKind}
 use Rattle.object_table.specs.Ends.{IsEndBlockRefused, IsEndRefused}

@@ -12,7 +12,7 @@ use Rattle.dnode.specs.declared.dnode.Dnode.{Dnode}
 use Rattle.dnode.specs.declared.dnode.Dnode.TheVariants.{Free, Object as Node}
 use Rattle.dnode.specs.declared.node.ObjectNode.{ObjectNode}
 use Rattle.dnode.specs.declared.object_set.ObjectSet.{ObjectSet}
-use Rattle.dnode_slots.specs.Nodes.{IsNodeIn, birth_of}
+use Rattle.objset.specs.Nodes.{IsNodeIn, birth_of}
 use Rattle.dnode_tree.proofs.Ages.{height_has, in_part}
 use Rattle.dnode_tree.proofs.Spans.{span_positive, span_up}
 use Rattle.dnode_tree.specs.Subtree.{IsSubtree}

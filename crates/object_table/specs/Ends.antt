@@ -6,7 +6,7 @@ use Rattle.block_store.specs.Spaces.{VdevSpace}
 use Rattle.block_store.specs.Steps.{OnlyReadsBlocks}
 use Rattle.block_store.specs.Store.{Store}
 use Rattle.dnode.specs.declared.object_set.ObjectSet.{ObjectSet}
-use Rattle.dnode_slots.specs.Found.{IsNodeRefused}
+use Rattle.objset.specs.NodesFound.{IsNodeRefused}
 use Rattle.objset.specs.Found.{IsDataFound, IsDataRefused}
 use Rattle.objset.specs.Objects.{Object}
 use Rattle.object_table.specs.declared.ends.TableEnd.{TableEnd}

@@ -8,8 +8,8 @@ use Rattle.block_store.proofs.Steps.{read_in}
 use Rattle.dnode.specs.declared.dnode.Dnode.{Dnode}
 use Rattle.dnode.specs.declared.node.ObjectNode.{ObjectNode}
 use Rattle.dnode.specs.declared.object_set.ObjectSet.{ObjectSet}
-use Rattle.dnode_slots.specs.declared.reading.FoundDnode.{FoundDnode}
-use Rattle.dnode_slots.specs.Found.{found_dnode, IsNodeFound}
+use Rattle.objset.specs.declared.node_reading.FoundDnode.{FoundDnode}
+use Rattle.objset.specs.NodesFound.{found_dnode, IsNodeFound}
 use Rattle.dnode_tree.specs.declared.reading.DataBlock.{DataBlock}
 use Rattle.objset.specs.Found.{IsDnodeBornBy, IsDnodeFound, IsDnodeLate}
 use Rattle.dnode_tree.specs.Tree.{property_of}

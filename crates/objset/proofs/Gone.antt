@@ -14,7 +14,7 @@ use Rattle.dnode_tree.proofs.Standing.{tree_blocks_known}
 use Rattle.dnode_tree.specs.declared.writes.CopyCounts.{CopyCounts}
 use Rattle.dnode_tree.specs.Freeing.{AreOnlyIn}
 use Rattle.dnode_tree.specs.Rewriting.{AreDistinct, IsExchanged}
-use Rattle.dnode_slots.specs.Nodes.{birth_of}
+use Rattle.objset.specs.Nodes.{birth_of}
 use Rattle.objset.proofs.Numbers.{taken, passed}
 use Rattle.objset.specs.declared.changes.ObjectChange.{ObjectChange}
 use Rattle.objset.specs.Changes.{AreExchanged, object_copies}

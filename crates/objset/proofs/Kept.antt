@@ -7,7 +7,7 @@ use Rattle.dnode.specs.declared.dnode.Dnode.{Dnode}
 use Rattle.dnode.specs.declared.dnode.Dnode.TheVariants.{Free, Object as Node}
 use Rattle.dnode.specs.declared.node.ObjectNode.{ObjectNode}
 use Rattle.dnode.specs.declared.object_set.ObjectSet.{ObjectSet}
-use Rattle.dnode_slots.specs.Nodes.{HasNodes, IsNodeIn, birth_of}
+use Rattle.objset.specs.Nodes.{HasNodes, IsNodeIn, birth_of}
 use Rattle.dnode.specs.ObjectSet.{FitsObjectSet}
 use Rattle.dnode_tree.proofs.Ages.{births_stand, births_within}
 use Rattle.dnode_tree.proofs.Standing.{trees_stand}

@@ -18,3 +18,18 @@ pub mod YoungerLemmas
 pub mod Readings
 pub mod ReadRefusals
 pub mod Born
+mod BlockLists
+mod ChangedBlocks
+pub mod NodeLosses
+pub mod NodeBirths
+mod NodeLists
+mod Outcomes
+mod PutNodes
+mod Refusing
+mod SlotBytes
+pub mod Objects
+pub mod NodesWithinLemmas
+pub mod YoungerNodes
+pub mod Spellings
+pub mod NodeReadings
+pub mod NodeReadRefusals

@@ -8,7 +8,7 @@ use Rattle.block_store.proofs.Losses.{lost_later, lost_behind_reads}
 use Rattle.dnode.specs.declared.dnode.Dnode.{Dnode}
 use Rattle.dnode.specs.declared.dnode.Dnode.TheVariants.{Free as NoObject, Object as Node}
 use Rattle.dnode.specs.declared.object_set.ObjectSet.{ObjectSet}
-use Rattle.dnode_slots.proofs.Losses.{node_lost, node_write_lost, nodes_within_lost}
+use Rattle.objset.proofs.NodeLosses.{node_lost, node_write_lost, nodes_within_lost}
 use Rattle.dnode_tree.specs.Tree.{property_of}
 use Rattle.dnode_tree.specs.Ways.{root_of}
 use Rattle.dnode_tree.proofs.Losses.{refused_lost, walk_lost, within_lost, write_lost}

@@ -6,8 +6,8 @@ use Rattle.std.proofs.lemmas.List.Elements.{All-head, All-tail, All-from_get_or}
 use Rattle.std.proofs.Math.ListN.{get_or-append}
 use Rattle.std.proofs.Math.Seq.{get_or-append_seam}
 use Rattle.dnode.specs.declared.dnode.Dnode.{Dnode}
-use Rattle.dnode_slots.specs.declared.writes.NodeWrite.{NodeWrite}
-use Rattle.dnode_slots.specs.Writes.{written_nodes}
+use Rattle.objset.specs.declared.node_writes.NodeWrite.{NodeWrite}
+use Rattle.objset.specs.NodeWrites.{written_nodes}
 use Rattle.objset.specs.declared.changes.ObjectChange.{ObjectChange}
 use Rattle.objset.specs.Changes.{after_change, changed}
 use Rattle.objset.specs.Objects.{Object}

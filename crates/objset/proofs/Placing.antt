@@ -8,9 +8,9 @@ use Rattle.block_store.specs.Steps.{OnlyReadsAndPlans}
 use Rattle.block_store.specs.Store.{Store}
 use Rattle.block_store.proofs.Demands.{have_both, lack_later}
 use Rattle.dnode.specs.declared.object_set.ObjectSet.{ObjectSet}
-use Rattle.dnode_slots.specs.declared.writes.NodeWrite.{NodeWrite}
-use Rattle.dnode_slots.specs.Refused.{IsNodeWriteRefused}
-use Rattle.dnode_slots.specs.Writes.{AreNodeDemands, HaveNodePlaces, LackNodePlaces, numbers_of}
+use Rattle.objset.specs.declared.node_writes.NodeWrite.{NodeWrite}
+use Rattle.objset.specs.NodesRefused.{IsNodeWriteRefused}
+use Rattle.objset.specs.NodeWrites.{AreNodeDemands, HaveNodePlaces, LackNodePlaces, numbers_of}
 use Rattle.dnode_tree.specs.declared.writes.CopyCounts.{CopyCounts}
 use Rattle.objset.specs.declared.changes.Changing.{Changing}
 use Rattle.objset.specs.declared.changes.ObjectChange.{ObjectChange}

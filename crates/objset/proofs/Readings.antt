@@ -5,8 +5,8 @@ use Rattle.block_store.specs.Blocks.{Contents}
 use Rattle.dnode.specs.declared.dnode.Dnode.{Dnode}
 use Rattle.dnode.specs.declared.dnode.Dnode.TheVariants.{Free, Object as Node}
 use Rattle.dnode.specs.declared.node.ObjectNode.{ObjectNode}
-use Rattle.dnode_slots.proofs.Readings.{nodes_read_as_one}
-use Rattle.dnode_slots.specs.Nodes.{IsNodeIn, birth_of}
+use Rattle.objset.proofs.NodeReadings.{nodes_read_as_one}
+use Rattle.objset.specs.Nodes.{IsNodeIn, birth_of}
 use Rattle.dnode_tree.proofs.Readings.{trees_read_as_one}
 use Rattle.objset.specs.Laws.{ObjectsAreOne}
 use Rattle.objset.specs.Objects.{Object, IsObject}

@@ -13,10 +13,10 @@ use Rattle.block_store.specs.Demands.{Demand, LackPlaces}
 use Rattle.block_store.proofs.Steps.{steps_none, steps_on}
 use Rattle.dnode.specs.declared.dnode.Dnode.{Dnode}
 use Rattle.dnode.specs.declared.object_set.ObjectSet.{ObjectSet}
-use Rattle.dnode_slots.specs.Found.{IsNodeFound, IsNodeRefused}
+use Rattle.objset.specs.NodesFound.{IsNodeFound, IsNodeRefused}
 use Rattle.objset.specs.Found.{IsDnodeBornBy, IsDnodeFound}
-use Rattle.dnode_slots.specs.declared.reading.FoundDnode.{FoundDnode}
-use Rattle.dnode_slots.specs.Refused.{IsNodeWriteRefused}
+use Rattle.objset.specs.declared.node_reading.FoundDnode.{FoundDnode}
+use Rattle.objset.specs.NodesRefused.{IsNodeWriteRefused}
 use Rattle.dnode_tree.specs.declared.writes.BlockWrite.{BlockWrite}
 use Rattle.dnode_tree.specs.Refused.{HasOverfull, IsWayOverfull, IsWriteRefused}
 use Rattle.dnode_tree.specs.Tree.{property_of}

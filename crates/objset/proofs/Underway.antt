@@ -15,11 +15,11 @@ use Rattle.dnode.specs.Dnode.{FitsDnode}
 use Rattle.dnode.specs.ObjectSet.{FitsObjectSet}
 use Rattle.dnode_tree.specs.Births.{HasBirths}
 use Rattle.dnode_tree.specs.Tree.{IsTree}
-use Rattle.dnode_slots.proofs.NodeBirths.{IsWritten, IsLeft, written_or_left}
-use Rattle.dnode_slots.specs.declared.writes.NodeWrite.{NodeWrite}
-use Rattle.dnode_slots.specs.declared.writes.SetRewrite.{SetRewrite}
-use Rattle.dnode_slots.specs.Nodes.{birth_of}
-use Rattle.dnode_slots.specs.Writes.{FitsWrite, AreNodeWrites, AreNodesRewritten, IsGrownSet, written_nodes, births_written}
+use Rattle.objset.proofs.NodeBirths.{IsWritten, IsLeft, written_or_left}
+use Rattle.objset.specs.declared.node_writes.NodeWrite.{NodeWrite}
+use Rattle.objset.specs.declared.node_writes.SetRewrite.{SetRewrite}
+use Rattle.objset.specs.Nodes.{birth_of}
+use Rattle.objset.specs.NodeWrites.{FitsWrite, AreNodeWrites, AreNodesRewritten, IsGrownSet, written_nodes, births_written}
 use Rattle.block_store.proofs.Steps.{steps_none, steps_on}
 use Rattle.dnode_tree.proofs.Steps.{true_sooner, true_later}
 use Rattle.dnode_tree.specs.declared.writes.CopyCounts.{CopyCounts}

@@ -5,7 +5,7 @@ use Rattle.std.proofs.lemmas.List.Elements.{Contains-append_cases}
 use Rattle.block_pointer.specs.declared.block.Block.{Block}
 use Rattle.block_store.specs.Blocks.{Contents}
 use Rattle.dnode.specs.declared.object_set.ObjectSet.{ObjectSet}
-use Rattle.dnode_slots.specs.declared.within.FoundNode.{FoundNode}
+use Rattle.objset.specs.declared.node_walks.FoundNode.{FoundNode}
 use Rattle.dnode_tree.proofs.Exchanging.{both_once}
 use Rattle.dnode_tree.proofs.SameBlocks.{once_counted, distinct_counted}
 use Rattle.dnode_tree.specs.Rewriting.{AreDistinct}

@@ -18,12 +18,12 @@ use Rattle.dnode.specs.declared.node.ObjectNode.{ObjectNode}
 use Rattle.dnode.specs.declared.object_set.ObjectSet.{ObjectSet}
 use Rattle.dnode.specs.Node.{FitsNode}
 use Rattle.dnode.specs.ObjectSet.{FitsObjectSet}
-use Rattle.dnode_slots.specs.declared.within.FoundNode.{FoundNode}
-use Rattle.dnode_slots.specs.Nodes.{IsNodeIn, birth_of}
-use Rattle.dnode_slots.specs.Within.{used, objects_from, objects_of, IsNodeOfOne}
-use Rattle.dnode_slots.specs.Younger.{younger_nodes}
-use Rattle.dnode_slots.proofs.Objects.{node_fits}
-use Rattle.dnode_slots.proofs.YoungerNodes.{all_refused as all_nodes_refused}
+use Rattle.objset.specs.declared.node_walks.FoundNode.{FoundNode}
+use Rattle.objset.specs.Nodes.{IsNodeIn, birth_of}
+use Rattle.objset.specs.NodesWithin.{used, objects_from, objects_of, IsNodeOfOne}
+use Rattle.objset.specs.NodesYounger.{younger_nodes}
+use Rattle.objset.proofs.Objects.{node_fits}
+use Rattle.objset.proofs.YoungerNodes.{all_refused as all_nodes_refused}
 use Rattle.dnode_tree.proofs.AllPicked.{sees_born, all_walked, within_refused, tree_born, all_younger}
 use Rattle.dnode_tree.proofs.Collecting.{joined-take_more}
 use Rattle.dnode_tree.proofs.Enough.{counted_within}

@@ -9,7 +9,7 @@ use Rattle.block_store.specs.Store.{Store}
 use Rattle.dnode.specs.declared.object_set.ObjectSet.{ObjectSet}
 use Rattle.dnode.specs.declared.object_set.ObjectSetKind.{ObjectSetKind}
 use Rattle.dnode.specs.declared.object_set.ObjectSetKind.TheVariants.{Meta, Volume}
-use Rattle.dnode_slots.specs.declared.writes.SetRewrite.{SetRewrite}
+use Rattle.objset.specs.declared.node_writes.SetRewrite.{SetRewrite}
 use Rattle.dnode_tree.specs.declared.writes.BlockWrite.{BlockWrite}
 use Rattle.dnode_tree.specs.declared.writes.CopyCounts.{CopyCounts}
 use Rattle.dnode_tree.specs.Rewriting.{IsExchanged}

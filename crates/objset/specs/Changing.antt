@@ -11,8 +11,8 @@ use Rattle.block_store.specs.Store.{Store}
 use Rattle.dnode.specs.declared.dnode.Dnode.{Dnode}
 use Rattle.dnode.specs.declared.node.ObjectNode.{ObjectNode}
 use Rattle.dnode.specs.declared.object_set.ObjectSet.{ObjectSet}
-use Rattle.dnode_slots.specs.declared.writes.NodeWrite.{NodeWrite}
-use Rattle.dnode_slots.specs.Writes.{written_nodes}
+use Rattle.objset.specs.declared.node_writes.NodeWrite.{NodeWrite}
+use Rattle.objset.specs.NodeWrites.{written_nodes}
 use Rattle.dnode_tree.specs.declared.writes.BlockWrite.{BlockWrite}
 use Rattle.dnode_tree.specs.declared.writes.CopyCounts.{CopyCounts}
 use Rattle.dnode_tree.specs.Rewriting.{IsExchanged}

@@ -9,7 +9,7 @@ use Rattle.dnode.specs.declared.dnode.Dnode.TheVariants.{Free as NoObject, Objec
 use Rattle.dnode.specs.declared.node.ObjectNode.{ObjectNode}
 use Rattle.dnode.specs.declared.object_set.ObjectSet.{ObjectSet}
 use Rattle.objset.specs.Found.{IsDnodeFound}
-use Rattle.dnode_slots.specs.Writes.{AreNodeDemands}
+use Rattle.objset.specs.NodeWrites.{AreNodeDemands}
 use Rattle.dnode_tree.specs.Spots.{demands_of}
 use Rattle.objset.specs.declared.changes.Change.{Change}
 use Rattle.objset.specs.declared.changes.Change.TheVariants.{Create, Put, Free, Replace}

@@ -13,7 +13,7 @@ use Rattle.dnode.specs.declared.node.ObjectNode.{ObjectNode}
 use Rattle.dnode.specs.declared.object_set.ObjectSet.{ObjectSet}
 use Rattle.dnode_tree.specs.Tree.{property_of}
 use Rattle.dnode_tree.specs.Ways.{root_of, IsFound, IsRefused, IsWalkRefused}
-use Rattle.dnode_slots.specs.Found.{found_dnode, IsNodeFound, IsNodeRefused}
+use Rattle.objset.specs.NodesFound.{found_dnode, IsNodeFound, IsNodeRefused}
 
 -- the pointer leads to nothing, or to a block that was born by then
 abbrev pub IsBornBy : ℕ → BlockPtr → Type 0

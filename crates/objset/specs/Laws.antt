@@ -3,7 +3,7 @@ use Rattle.std.specs.Prelude.{ℕ, ◌≡◌, ◌^◌, ◌<◌, ◌≤◌, ◌�
 use Rattle.block_pointer.specs.declared.block.Block.{Block}
 use Rattle.block_store.specs.Blocks.{Contents, Extends}
 use Rattle.dnode.specs.declared.object_set.ObjectSet.{ObjectSet}
-use Rattle.dnode_slots.specs.declared.writes.SetRewrite.{SetRewrite}
+use Rattle.objset.specs.declared.node_writes.SetRewrite.{SetRewrite}
 use Rattle.dnode_tree.specs.Rewriting.{AreDistinct}
 use Rattle.objset.specs.declared.changes.ObjectChange.{ObjectChange}
 use Rattle.objset.specs.declared.changes.SetCopies.{SetCopies}

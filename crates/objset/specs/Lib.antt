@@ -9,3 +9,11 @@ pub mod Refused
 pub mod Shapes
 pub mod Within
 pub mod Younger
+pub mod NodesFound
+pub mod Nodes
+pub mod NodesRefused
+pub mod Sets
+pub mod NodeSlots
+pub mod NodeWrites
+pub mod NodesWithin
+pub mod NodesYounger

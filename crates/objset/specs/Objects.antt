@@ -5,7 +5,7 @@ use Rattle.block_store.specs.Blocks.{Contents}
 use Rattle.dnode.specs.declared.dnode.Dnode.{Dnode}
 use Rattle.dnode.specs.declared.dnode.Dnode.TheVariants.{Free, Object as Node}
 use Rattle.dnode.specs.declared.object_set.ObjectSet.{ObjectSet}
-use Rattle.dnode_slots.specs.Nodes.{HasNodes, birth_of}
+use Rattle.objset.specs.Nodes.{HasNodes, birth_of}
 use Rattle.dnode_tree.specs.Tree.{IsTree}
 
 -- what an object reads as: its highest block id, and the bytes of each data block, none at a hole

@@ -8,7 +8,7 @@ use Rattle.dnode.specs.declared.dnode.Dnode.{Dnode}
 use Rattle.dnode.specs.declared.dnode.Dnode.TheVariants.{Object as Node}
 use Rattle.dnode.specs.declared.object_set.ObjectSet.{ObjectSet}
 use Rattle.objset.specs.Found.{IsBornBy, IsDnodeFound, IsDnodeLate}
-use Rattle.dnode_slots.specs.Refused.{IsNodeWriteRefused}
+use Rattle.objset.specs.NodesRefused.{IsNodeWriteRefused}
 use Rattle.dnode_tree.specs.Refused.{IsWriteRefused}
 use Rattle.dnode_tree.specs.Tree.{property_of}
 use Rattle.dnode_tree.specs.Ways.{root_of, IsWalkRefused}

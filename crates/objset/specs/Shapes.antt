@@ -4,7 +4,7 @@ use Rattle.block_store.specs.Spaces.{VdevSpace}
 use Rattle.dnode.specs.declared.dnode.Dnode.{Dnode}
 use Rattle.dnode.specs.declared.dnode.Dnode.TheVariants.{Free, Object as Node}
 use Rattle.dnode.specs.declared.object_set.ObjectSet.{ObjectSet}
-use Rattle.dnode_slots.specs.Found.{found_dnode, IsNodeFound}
+use Rattle.objset.specs.NodesFound.{found_dnode, IsNodeFound}
 use Rattle.objset.specs.declared.shape.ObjectShape.{ObjectShape}
 use Rattle.objset.specs.Objects.{Object, EndsAt}
 

@@ -8,8 +8,8 @@ use Rattle.block_store.specs.Spaces.{VdevSpace}
 use Rattle.block_store.specs.Steps.{OnlyReadsBlocks}
 use Rattle.block_store.specs.Store.{Store}
 use Rattle.dnode.specs.declared.object_set.ObjectSet.{ObjectSet}
-use Rattle.dnode_slots.specs.declared.within.FoundNode.{FoundNode}
-use Rattle.dnode_slots.specs.Within.{IsNodeOfOne, AreNodesRefused}
+use Rattle.objset.specs.declared.node_walks.FoundNode.{FoundNode}
+use Rattle.objset.specs.NodesWithin.{IsNodeOfOne, AreNodesRefused}
 use Rattle.dnode_tree.specs.Rewriting.{AreDistinct}
 use Rattle.dnode_tree.specs.Ways.{AreWalked}
 use Rattle.dnode_tree.specs.Within.{indirect_count, IsWithinRefused}

@@ -7,9 +7,9 @@ use Rattle.block_store.specs.Spaces.{VdevSpace}
 use Rattle.block_store.specs.Steps.{OnlyReadsBlocks}
 use Rattle.block_store.specs.Store.{Store}
 use Rattle.dnode.specs.declared.object_set.ObjectSet.{ObjectSet}
-use Rattle.dnode_slots.specs.declared.within.FoundNode.{FoundNode}
-use Rattle.dnode_slots.specs.Within.{IsNodeOfOne}
-use Rattle.dnode_slots.specs.Younger.{AreYoungerRefused}
+use Rattle.objset.specs.declared.node_walks.FoundNode.{FoundNode}
+use Rattle.objset.specs.NodesWithin.{IsNodeOfOne}
+use Rattle.objset.specs.NodesYounger.{AreYoungerRefused}
 use Rattle.dnode_tree.specs.Rewriting.{AreDistinct}
 use Rattle.dnode_tree.specs.Younger.{is_younger, AreWalkedWhere, IsWithinRefusedWhere}
 use Rattle.objset.specs.Within.{reads_of}

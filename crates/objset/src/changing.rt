@@ -9,7 +9,7 @@ ghost use Rattle.block_store.specs.Steps.{OnlyReadsBlocks, OnlyReadsAndPlans, An
 ghost use Rattle.dnode.specs.Dnode.{FitsDnode};
 ghost use Rattle.dnode.specs.Node.{FitsNode};
 ghost use Rattle.dnode.specs.ObjectSet.{FitsObjectSet};
-ghost use Rattle.dnode_slots.specs.Writes.{AreNodeWrites, numbers_of};
+ghost use Rattle.objset.specs.NodeWrites.{AreNodeWrites, numbers_of};
 ghost use Rattle.dnode_tree.specs.Spots.{demands_of};
 ghost use Rattle.dnode_tree.specs.Tree.{IsTree, property_of};
 ghost use Rattle.dnode_tree.specs.Ways.{root_of, IsWalkRefused};
@@ -22,10 +22,11 @@ ghost use Rattle.objset.specs.Found.{IsBornBy, IsDnodeBornBy};
 ghost use Rattle.objset.specs.Refused.{IsChangeRefused, AreObjectsRefused};
 
 use crate::changes::{Change, Changing, ObjectChange, SetCopies};
+use crate::node_reading::FoundDnode;
+use crate::node_writes::{NodeWrite, SetRewrite};
 use block_pointer::{Block, BlockPtr};
 use block_store::{BlockStore, Refusal};
 use dnode::{Dnode, ObjectNode, ObjectSet};
-use dnode_slots::{FoundDnode, NodeWrite, SetRewrite};
 use dnode_tree::BlockWrite;
 use model_disk::Disk;
 use std::alloc::{AllocError, Global};
@@ -98,7 +99,7 @@ pub fn change<D: Disk + Drop>(
     };
     let mut replaced = Vec::new(alloc);
     let writes = changing.change_each(set, store, alloc, changes, &mut replaced)?;
-    let rewrite = dnode_slots::put_many(
+    let rewrite = crate::node_putting::put_many(
         set,
         store,
         alloc,
@@ -190,7 +191,7 @@ impl<'a> Changing<'a> {
             (change.now ∷ []) refusal)) }
     {
         let number = change.number;
-        let found = dnode_slots::get(set, store, alloc, number, self.birth, self.missing)?;
+        let found = crate::node_reading::get(set, store, alloc, number, self.birth, self.missing)?;
         check_dnode(&found)?;
         let node = self.change_dnode(found.dnode, store, alloc, &change.change, replaced)?;
         Ok(NodeWrite { number, node })

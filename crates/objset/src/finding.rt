@@ -6,7 +6,7 @@ ghost use Rattle.block_store.specs.Losses.{IsForLoss};
 ghost use Rattle.block_store.specs.Steps.{OnlyReadsBlocks, AnswersAreTrue};
 ghost use Rattle.block_store.specs.Store.{Holds};
 ghost use Rattle.dnode.specs.ObjectSet.{FitsObjectSet};
-ghost use Rattle.dnode_slots.specs.Found.{IsNodeRefused};
+ghost use Rattle.objset.specs.NodesFound.{IsNodeRefused};
 ghost use Rattle.objset.specs.Objects.{Object, AreObjects};
 ghost use Rattle.objset.specs.Shapes.{HasShape, IsShapeFound};
 
@@ -47,6 +47,6 @@ pub fn find<D: Disk + Drop>(
         → AreObjects stored birth set.now objects own blocks → AnswersAreTrue store.old store.new
         → IsForLoss refusal) }
 {
-    let found = dnode_slots::get(set, store, alloc, number, birth, missing)?;
+    let found = crate::node_reading::get(set, store, alloc, number, birth, missing)?;
     Ok(ObjectShape::of_dnode(&found.dnode))
 }

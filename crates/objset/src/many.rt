@@ -54,7 +54,7 @@ pub fn get_many<D: Disk + Drop>(
     if ids.is_empty() {
         return Ok(Vec::new(alloc));
     }
-    let found = dnode_slots::get(set, store, alloc, number, birth, missing)?;
+    let found = crate::node_reading::get(set, store, alloc, number, birth, missing)?;
     let Dnode::Object(node) = found.dnode else {
         return Err(Refusal::BadPointer);
     };

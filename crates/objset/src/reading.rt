@@ -51,7 +51,7 @@ pub fn get<D: Disk + Drop>(
         → IsForLoss refusal ⊎ ((refusal ≡ Refusal.BadPointer)
         × (objects number ≡ None))) }
 {
-    let found = dnode_slots::get(set, store, alloc, number, birth, missing)?;
+    let found = crate::node_reading::get(set, store, alloc, number, birth, missing)?;
     let Dnode::Object(node) = found.dnode else {
         return Err(Refusal::BadPointer);
     };
@@ -88,7 +88,7 @@ pub fn walk<D: Disk + Drop>(
         → IsForLoss refusal ⊎ ((refusal ≡ Refusal.BadPointer)
         × (objects number ≡ None))) }
 {
-    let found = dnode_slots::get(set, store, alloc, number, birth, missing)?;
+    let found = crate::node_reading::get(set, store, alloc, number, birth, missing)?;
     let Dnode::Object(node) = found.dnode else {
         return Err(Refusal::BadPointer);
     };

@@ -7,7 +7,7 @@ ghost use Rattle.block_store.specs.Places.{AreChosen, RanOut};
 ghost use Rattle.block_store.specs.Plans.{Plans};
 ghost use Rattle.block_store.specs.Steps.{OnlyReadsAndPlans};
 ghost use Rattle.dnode.specs.ObjectSet.{FitsObjectSet, object_set_bytes};
-ghost use Rattle.dnode_slots.specs.Sets.{IsSetBlock, asked_of_set};
+ghost use Rattle.objset.specs.Sets.{IsSetBlock, asked_of_set};
 ghost use Rattle.dnode_tree.specs.Writes.{IsForRoom};
 ghost use Rattle.objset.specs.Changes.{copies_of};
 
@@ -49,5 +49,5 @@ pub fn plan_set<D: Disk + Drop>(
         → RanOut store.old.spaces 2 (count_of (copies_of set.now.kind).other) store.new.spaces) }
 {
     let copies = SetCopies::of_kind(set.kind).other;
-    dnode_slots::plan_set(set, store, alloc, birth, copies)
+    crate::object_sets::plan_set(set, store, alloc, birth, copies)
 }

@@ -13,10 +13,10 @@ ghost use Rattle.objset.specs.Objects.{Object, AreObjects};
 ghost use Rattle.objset.specs.Within.{blocks_of_objects, blocks_of_set, reads_of, IsSetWalked, IsSetWalkRefused};
 ghost use Rattle.objset.specs.Younger.{IsYoungerSetWalked, IsYoungerSetRefused};
 
+use crate::node_walks::FoundNodes;
 use block_pointer::Block;
 use block_store::{BlockStore, Refusal};
 use dnode::ObjectSet;
-use dnode_slots::FoundNodes;
 use dnode_tree::are_distinct;
 use model_disk::Disk;
 use std::alloc::{AllocError, Global};
@@ -101,7 +101,7 @@ pub fn walk_younger<D: Disk + Drop>(
         → reads_of (younger since own) (younger since (blocks_of_objects set.now blocks))
         ≤ left.old → AnswersAreTrue store.old store.new → IsForLoss refusal) }
 {
-    let FoundNodes { blocks, nodes } = dnode_slots::nodes_younger(
+    let FoundNodes { blocks, nodes } = crate::node_walks::nodes_younger(
         set, store, alloc, birth, since, left, missing,
     )?;
     let mut found = blocks;

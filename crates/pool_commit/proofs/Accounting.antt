@@ -12,7 +12,7 @@ use Rattle.block_pointer.specs.Copies.{dvas}
 use Rattle.raidz_io.proofs.Written.{same_some, slice_get_some}
 use Rattle.metaslab.specs.Space.{Space, state}
 use Rattle.metaslab.specs.State.{State, Free, InUse, Released, settled, is_due}
-use Rattle.metaslab_group.specs.Spaces.{IsWhollyFree, AreWhollyFree}
+use Rattle.metaslab.specs.Spaces.{IsWhollyFree, AreWhollyFree}
 use Rattle.block_store.specs.Accounts.{SectorAt, IsUsed, AreAccounted}
 use Rattle.block_store.specs.Blocks.{Contents}
 use Rattle.block_store.specs.Places.{IsNotFree, Marks, shapes_of, HaveMarks, IsEmpty, AreEmpty}

@@ -113,6 +113,7 @@ plan_stays s store planned (Some plan) v due out reads is = record {
   slot_counts = is.slot_counts;
   sync = is.sync ∙ ap (λ (writes : List ColumnWrite). Due (left_calls is.counts is.slot_counts writes plan.behind)) (sym due);
   spells = is.spells;
+  config = is.config;
   uberblock = record { root = is.uberblock.root; is_root = is.uberblock.is_root; timestamp = is.uberblock.timestamp; is = is.uberblock.is };
   to_flush = λ disk in_use. ⊎_elim inl (λ flushed. inr (due ∙ flushed.0, flushed.1, flushed_still s.store.disks store.disks disk reads flushed.2)) (is.to_flush disk in_use);
   shown = λ write in_use label. ⊎_elim inl
@@ -128,6 +129,7 @@ backs_after s store missing v reads backs =
       slots = backs.slots;
       out = λ disk. backs.out disk ∙ sym (ap (λ (t : Store). is_out t.out disk) reads.rest);
       committed = backs.committed;
+      stamped = backs.stamped;
       blocks = record {
         stored = backs.blocks.stored;
         planned = backs.blocks.planned;

@@ -1,5 +1,5 @@
 -- The last three groups, before and after one more is committed.
-use Rattle.std.proofs.Common.{◌≡◌, ◌≢◌, ◌⊎◌, ℕ, suc, ◌≤◌, Bool, true, false, Option, Some, None, refl, sym, subst, arith, inl, inr}
+use Rattle.std.proofs.Common.{◌≡◌, ◌≢◌, ◌⊎◌, ℕ, suc, ◌≤◌, Bool, true, false, Option, Some, None, refl, sym, ◌∙◌, subst, arith, inl, inr}
 use Rattle.std.specs.Prelude.{if◌then◌else◌}
 use Rattle.std.proofs.lemmas.Bool.{cases_eq}
 use Rattle.std.proofs.lemmas.Bool.Decides.{nat_tests}
@@ -14,6 +14,10 @@ use Rattle.pool_commit.specs.declared.kept.Kept.{Kept}
 use Rattle.pool_commit.specs.State.{group_at}
 use Rattle.pool_commit.specs.Backs.{SpellsKept, kept_pool, pool_after, SpellsGroup, SpellsRoot}
 use Rattle.pool_commit.proofs.Directories.{spells_by_stays}
+use Rattle.vdev_label.specs.Plain.{config_view}
+
+same_some : {X : Type 0} (x y : X) → Some x ≡ Some y → x ≡ y
+same_some x y is = cc
 
 root_stays : (before later : Contents) (group : ℕ) (root : Option Block) (pool : PlainPool) → Extends before later → SpellsRoot before group root pool → SpellsRoot later group root pool
 root_stays before later group (Some root) pool more spells = roots_stay before later group group root pool (omega arith) more spells
@@ -23,7 +27,7 @@ pub kept_stays : (before later : Contents) (group : ℕ) (kept : Option KeptGrou
     → SpellsKept before group kept pool → SpellsKept later group kept pool
 kept_stays before later group (Some kept) (Some pool) more spells = record {
   root = root_stays before later group kept.root pool more spells.root;
-  directory = spells_by_stays before later group kept.root pool kept.directory.value more spells.directory;
+  directory = spells_by_stays before later group kept.root pool kept.directory.value (config_view kept.config.value) more spells.directory;
   names = spells.names;
 }
 kept_stays before later group None None more spells = tt
@@ -70,6 +74,24 @@ gone_group new c group n a b d = grind (arith, nat_tests, n, a, b, d)
 
 pub gone_pool : (v : View) (group : ℕ) → group ≢ suc v.committed → group ≢ v.committed → suc group ≢ v.committed → kept_pool (committed_next v) group ≡ None
 gone_pool v group a b d = grind (arith, nat_tests, a, b, d)
+
+-- what is so of the new group and was of those before is so of all
+pub groups_next : (kept new : Kept) (c : ℕ) (Is : KeptGroup → Type 0) → kept.committed ≡ c → new.committed ≡ suc c → new.before ≡ Some kept.last → new.earliest ≡ kept.before
+    → Is new.last → ((group : ℕ) (it : KeptGroup) → group_at kept group ≡ Some it → Is it) → (group : ℕ) (it : KeptGroup) → group_at new group ≡ Some it → Is it
+groups_next kept new c Is k n b e last old group it at = elim (cases_eq group (suc c)) [
+  | inl here ↦ subst Is (same_some new.last it (sym (new_group kept new c group n here) ∙ at)) last
+  | inr other ↦ elim (cases_eq group c) [
+    | inl here ↦ old group it (sym (old_group kept new c group k n b e (inl here)) ∙ at)
+    | inr another ↦ elim (cases_eq (suc group) c) [
+      | inl here ↦ old group it (sym (old_group kept new c group k n b e (inr here)) ∙ at)
+      | inr far ↦ absurd (let clash : None ≡ Some it = sym (gone_group new c group n other another far) ∙ at in cc)
+    ]
+  ]
+]
+
+-- the last one is at its number
+pub last_at : (kept : Kept) → group_at kept kept.committed ≡ Some kept.last
+last_at kept = grind (arith, nat_tests)
 
 pub kept_next : (v : View) (kept new : Kept) (stored planned : Contents) → kept.committed ≡ v.committed → new.committed ≡ suc v.committed
     → new.before ≡ Some kept.last → new.earliest ≡ kept.before → Extends stored planned → SpellsGroup planned (suc v.committed) new.last (pool_after v)

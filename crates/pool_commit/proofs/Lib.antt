@@ -7,6 +7,7 @@ pub mod Disks
 pub mod Keeping
 pub mod Labels
 pub mod Made
+pub mod Growing
 pub mod Mapping
 pub mod SlotWrites
 pub mod PlanMaps
@@ -25,3 +26,7 @@ pub mod Refusing
 pub mod Reopened
 pub mod Suspending
 pub mod Writing
+pub use Rattle.dataset_snapshots.proofs.Losses as SnapshotsLosses
+pub use Rattle.dataset_snapshots.proofs.Readings as SnapshotsReadings
+pub use Rattle.dataset_snapshots.proofs.Standing as SnapshotsStanding
+pub use Rattle.dataset_snapshots.proofs.MapsReadSets

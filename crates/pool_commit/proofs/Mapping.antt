@@ -13,7 +13,7 @@ use Rattle.dataset_snapshots.specs.Reach.{reach_of}
 use Rattle.pool_model.specs.Pools.{PlainPool}
 use Rattle.pool_commit.specs.declared.kept.KeptGroup.{KeptGroup}
 use Rattle.pool_commit.specs.Backs.{HasMaps, KeptHasMaps, KeptLeadsTo, LeadsTo}
-use Rattle.pool_maps.proofs.Reaching.{maps_for_stay}
+use Rattle.dataset_snapshots.proofs.MapsReaching.{maps_for_stay}
 
 -- ---- other vdevs of the same shapes
 

@@ -16,7 +16,7 @@ use Rattle.dataset_snapshots.specs.Pools.{SpellsPool}
 use Rattle.dataset_snapshots.specs.Reach.{reach_of}
 use Rattle.dnode_tree.specs.Rewriting.{AreDistinct}
 use Rattle.metaslab.specs.State.{is_in_use}
-use Rattle.pool_maps.specs.Reached.{UseJust}
+use Rattle.dataset_snapshots.specs.Reached.{UseJust}
 use Rattle.pool_model.specs.Pools.{PlainPool}
 use Rattle.pool_model.specs.View.{View}
 use Rattle.pool_commit.specs.declared.kept.KeptGroup.{KeptGroup}
@@ -25,7 +25,7 @@ use Rattle.pool_commit.specs.Space.{is_held_for, AreInBlocks, AreInUse}
 use Rattle.pool_commit.specs.State.{State, group_at}
 use Rattle.pool_commit.proofs.Backing.{last_at}
 use Rattle.pool_commit.proofs.Holding.{weaker, by_marks, held_is_in_use, is_used}
-use Rattle.pool_maps.proofs.Reaching.{of_their_marks, for_their_blocks}
+use Rattle.dataset_snapshots.proofs.MapsReaching.{of_their_marks, for_their_blocks}
 use Rattle.pool_commit.proofs.Reaching.{kept_leads}
 
 -- ---- the committed group

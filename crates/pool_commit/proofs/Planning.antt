@@ -249,6 +249,7 @@ backs_begun s store group v out shapes begins next sync none backs =
       slots = backs.slots;
       out = λ disk. backs.out disk ∙ sym (ap (λ (list : List Bool). is_out list disk) out);
       committed = backs.committed;
+      stamped = backs.stamped;
       blocks = record {
         stored = backs.blocks.stored;
         planned = backs.blocks.stored;
@@ -286,6 +287,7 @@ backs_still s new v no_plan kept backs =
       slots = backs.slots;
       out = λ disk. backs.out disk ∙ sym (ap (λ (list : List Bool). is_out list disk) kept.out);
       committed = backs.committed;
+      stamped = backs.stamped;
       blocks = record {
         stored = backs.blocks.stored;
         planned = there.0;
@@ -390,9 +392,9 @@ pub plan_is_backed : (s : State) (made new : Store) (group : ℕ) (last : KeptGr
     → AreDueBehind plan.behind (filter (λ disk. not (is_out s.store.out disk)) (disks_of (vdevs_of s.store.spaces))) → (uberblock : IsUberblockOf s.stamp group plan)
     → OnlyReadsAndPlans s.store made [] → GivesBack made new gone group → HaveMarks s.store.spaces filled_marks s.store.spaces planned_marks
     → AnswersAreTrue s.store made → Plans s.store backs.blocks.stored backs.blocks.stored → IsAfter s.store made group last items plan.after uberblock.root gone
-    → made.stray ≡ false → AreGivenBack made new gone group
+    → made.stray ≡ false → AreGivenBack made new gone group → plan.after.config.value ≡ last.config.value
     → (calls : List DueCall) × IsPlan v calls × Backs (record s { store = new; planned = Some plan }) (record v { sync = Due calls })
-plan_is_backed s made new group last plan gone items v backs none next is_last are effects behind uberblock kept gives free honest begun after whole given =
+plan_is_backed s made new group last plan gone items v backs none next is_last are effects behind uberblock kept gives free honest begun after whole given configured =
     let before : group - 1 ≡ v.committed = omega arith in
     let pool : PlainPool = v.pools v.committed in
     let stored : Contents = backs.blocks.stored in
@@ -462,6 +464,7 @@ plan_is_backed s made new group last plan gone items v backs none next is_last a
         slots = backs.slots;
         out = λ disk. backs.out disk ∙ sym (ap (λ (list : List Bool). is_out list disk) (gives.out ∙ kept.out));
         committed = backs.committed;
+        stamped = backs.stamped;
         blocks = record {
           stored = stored;
           planned = later;
@@ -472,6 +475,7 @@ plan_is_backed s made new group last plan gone items v backs none next is_last a
             slot_counts = slot_counts_of new;
             sync = refl;
             spells = spells;
+            config = configured ∙ ap (λ (k : KeptGroup). k.config.value) is_last;
             uberblock = subst (λ n. IsUberblockOf s.stamp n plan) next uberblock;
             to_flush = λ disk in_use. inl (subst (λ (xs : List ℕ). Contains xs disk) (sym all.slot_flushes) in_use);
             shown = λ write in_use label. inl (subst (λ (xs : List SlotWrite). Contains xs write) (sym all.slots) (has_slot (disks_in_use v) write.disk write.label in_use label));
@@ -496,6 +500,7 @@ backs_dropped s made mid new gone group v no_plan kept gives out shapes filled p
       slots = backs.slots;
       out = λ disk. backs.out disk ∙ sym (ap (λ (list : List Bool). is_out list disk) (out ∙ gives.out ∙ kept.out));
       committed = backs.committed;
+      stamped = backs.stamped;
       blocks = record {
         stored = backs.blocks.stored;
         planned = backs.blocks.stored;

@@ -29,17 +29,19 @@ use Rattle.pool_commit.specs.declared.kept.Kept.{Kept}
 use Rattle.pool_commit.specs.declared.kept.Planned.{Planned}
 use Rattle.disk_set.specs.declared.behind.SlotWrite.{SlotWrite}
 use Rattle.pool_commit.specs.declared.stamp.Stamp.{Stamp}
-use Rattle.pool_commit.specs.Backs.{Backs, IsPlanOf, IsToFlush, PlansReach, SpellsKept, StoresReach, kept_pool, left_calls, pool_after, SpellsGroup}
+use Rattle.pool_commit.specs.Backs.{AreStamped, Backs, IsPlanOf, IsToFlush, PlansReach, SpellsKept, StoresReach, kept_pool, left_calls, pool_after, SpellsGroup}
 use Rattle.pool_commit.specs.Calls.{disk_call, made_between, faults_between, unread_between, called_between, IsFlushed}
 use Rattle.pool_commit.specs.Config.{shown, vdevs_of}
 use Rattle.pool_commit.specs.Making.{writes_left, behind_left, flushes_left, slots_left, IsSameStore, MadeCalls, FailedCall}
 use Rattle.pool_commit.specs.Progress.{AreMade, Progresses, CarriesOn, LeavesOut, LeftOut, DropsPlan, StoresPlan, IsShifted, calls_left, given_calls, with_plan}
-use Rattle.pool_commit.specs.Slots.{ShowsIn, uberblock_of}
+use Rattle.pool_commit.specs.Slots.{IsStampOf, ShowsIn, uberblock_of}
+use Rattle.vdev_label.specs.Plain.{config_view}
+use Rattle.vdev_label.specs.declared.label.Config.{Config}
 use Rattle.pool_commit.specs.State.{State, group_at}
 use Rattle.pool_commit.specs.Suspension.{lacks_disks}
 use Rattle.block_store.proofs.Fewer.{fewer_planned}
 use Rattle.block_store.specs.Blocks.{Contents}
-use Rattle.pool_commit.proofs.Keeping.{first_low, kept_next, last_kept}
+use Rattle.pool_commit.proofs.Keeping.{first_low, groups_next, kept_next, last_at, last_kept}
 use Rattle.pool_commit.proofs.SlotWrites.{cases_in, there_first, there_later}
 use Rattle.pool_commit.proofs.Reaching.{among, forgets, kept_blocks, no_plan, reached_next, reached_over, same_spaces, spells_next}
 use Rattle.pool_commit.proofs.Made.{slots_count, writes_count}
@@ -192,6 +194,7 @@ carried old mid plan later v out counts slot_counts backs same after uberblock o
       slots = backs.slots;
       out = outs;
       committed = backs.committed;
+      stamped = backs.stamped;
       blocks = record {
         stored = backs.blocks.stored;
         planned = backs.blocks.planned;
@@ -202,6 +205,7 @@ carried old mid plan later v out counts slot_counts backs same after uberblock o
           slot_counts = slot_counts;
           sync = refl;
           spells = subst (λ (g : KeptGroup). SpellsGroup backs.blocks.planned (suc v.committed) g (pool_after v)) (sym after) has.spells;
+          config = ap (λ (g : KeptGroup). g.config.value) after ∙ has.config;
           uberblock = record {
             root = has.uberblock.root;
             is_root = ap (λ (g : KeptGroup). g.root) after ∙ has.uberblock.is_root;
@@ -222,8 +226,8 @@ carried old mid plan later v out counts slot_counts backs same after uberblock o
 
 -- nothing is left, and the group is committed
 pub finishes : (s : State) (plan : Planned) (v : View) (new : State) → (backs : Backs (with_plan s plan) v) → v.committed < 2 ^ 62 → StoresPlan s.store new.store
-    → IsShifted s.kept plan.after new.kept → new.planned ≡ None → Backs new (committed_next v)
-finishes s plan v new backs low stores shifted none =
+    → IsShifted s.kept plan.after new.kept → new.planned ≡ None → new.stamp ≡ s.stamp → Backs new (committed_next v)
+finishes s plan v new backs low stores shifted none same_stamp =
     let has = backs.blocks.plan in
     let next_group = shifted.committed (subst (λ c. c < 2 ^ 62) (sym backs.committed) low) ∙ ap suc backs.committed in
     let reached : StoresReach s.store.spaces backs.blocks.stored s.kept (kept_pool v) = backs.blocks.reached in
@@ -236,6 +240,11 @@ finishes s plan v new backs low stores shifted none =
       slots = backs.slots;
       out = λ disk. backs.out disk ∙ ap (λ (out : List Bool). is_out out disk) (sym stores.out);
       committed = next_group;
+      stamped = subst (λ (stamp : Stamp). AreStamped stamp new.kept) (sym same_stamp)
+          (groups_next s.kept new.kept v.committed (λ k. IsStampOf (config_view k.config.value) s.stamp.claim s.stamp) backs.committed next_group shifted.before shifted.earliest
+          (subst (λ (c : Config). IsStampOf (config_view c) s.stamp.claim s.stamp) (sym (ap (λ (g : KeptGroup). g.config.value) shifted.last ∙ has.config))
+          (backs.stamped s.kept.committed s.kept.last (last_at s.kept)))
+          backs.stamped);
       blocks = record {
         stored = left_over;
         planned = left_over;
@@ -361,7 +370,7 @@ module _ (old : State) (mid : Store) (plan later : Planned) (v : View) (phase : 
               stays.uberblock on.blocks.plan.uberblock.is goes.4 is;
           shown = shown_at_end s later (record v { sync = Due rest }) new on goes.0 goes.1.disks goes.4;
         },
-        finishes s later (record v { sync = Due rest }) new on low goes.1 goes.2 goes.3,
+        finishes s later (record v { sync = Due rest }) new on low goes.1 goes.2 goes.3 goes.4,
       )
     where
       rest_none : left ≡ so.made
@@ -406,8 +415,8 @@ pub drops : (old : State) (mid : Store) (plan : Planned) (v : View) (phase : Pha
     → FailedCall old.store mid (left_calls backs.blocks.plan.counts backs.blocks.plan.slot_counts old.store.due plan.behind) phase disk
     → AreFrom phase (left_calls backs.blocks.plan.counts backs.blocks.plan.slot_counts old.store.due plan.behind)
     → (is_suspended (dropped v disk) ≡ false → is_late phase ≡ false)
-    → DropsPlan mid new.store → new.kept ≡ old.kept → new.planned ≡ None → Progresses (with_plan old plan) (Dropped disk) new v
-drops old mid plan v phase disk new backs failed from early drop kept none =
+    → DropsPlan mid new.store → new.kept ≡ old.kept → new.planned ≡ None → new.stamp ≡ old.stamp → Progresses (with_plan old plan) (Dropped disk) new v
+drops old mid plan v phase disk new backs failed from early drop kept none same_stamp =
     let has = backs.blocks.plan in
     let left : List DueCall = left_calls has.counts has.slot_counts old.store.due plan.behind in
     let count = ap length failed.last ∙ length-append failed.before (failed.call ∷ []) in
@@ -432,6 +441,7 @@ drops old mid plan v phase disk new backs failed from early drop kept none =
         slots = backs.slots;
         out = λ other. outs_are old mid v disk backs.out failed.out other ∙ ap (λ (out : List Bool). is_out out other) (sym drop.out);
         committed = ap (λ (k : Kept). k.committed) kept ∙ backs.committed;
+        stamped = subst (λ (stamp : Stamp). AreStamped stamp new.kept) (sym same_stamp) (subst (λ (k : Kept). AreStamped old.stamp k) (sym kept) backs.stamped);
         blocks = record {
           stored = backs.blocks.stored;
           planned = backs.blocks.stored;
@@ -624,7 +634,7 @@ module _ (old : State) (mid : Store) (plan later : Planned) (v : View) (phase : 
               on_others.blocks.plan.uberblock.timestamp stays.uberblock on_others.blocks.plan.uberblock.is goes.4 is;
           shown = shown_at_end s later w new on_others goes.0 goes.1.disks goes.4;
         },
-        finishes s later w new on_others low goes.1 goes.2 goes.3,
+        finishes s later w new on_others low goes.1 goes.2 goes.3 goes.4,
       )
   carries (Dropped other) low enough goes = absurd goes
 
@@ -646,7 +656,7 @@ leaves_out old mid plan popped v phase disk progress new backs low failed from l
     let vdevs : v.vdevs ≡ vdevs_of mid.spaces = backs.vdevs ∙ ap (λ (spaces : List VdevSpace). vdevs_of spaces) (sym failed.same.spaces) in
     subst (λ (p : Progress). Progresses (with_plan old plan) p new v) (sym is)
     (drops old mid plan v phase disk new backs failed from
-    (λ enough. absurd (true≢false (sym lacks ∙ sym (suspended_is mid v disk vdevs (outs_are old mid v disk backs.out failed.out)) ∙ enough))) drop kept none)
+    (λ enough. absurd (true≢false (sym lacks ∙ sym (suspended_is mid v disk vdevs (outs_are old mid v disk backs.out failed.out)) ∙ enough))) drop kept none stamp)
 leaves_out old mid plan popped v phase disk progress new backs low failed from late leaves (inr (enough, behind, left, goes)) =
     let there = leaves behind left in
     carries old mid plan (record popped { behind = behind }) v phase disk new there.counts there.slot_counts backs failed from late there.others there.stays progress low enough goes

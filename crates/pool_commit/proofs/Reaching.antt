@@ -31,6 +31,7 @@ use Rattle.pool_commit.specs.State.{group_at}
 use Rattle.pool_commit.specs.Space.{is_held_for, AreHeld, AreInUse, AreInBlocks, WereReleasedBy}
 use Rattle.pool_commit.proofs.Accounting.{in_blocks_by, released_by_marks}
 use Rattle.pool_commit.proofs.Directories.{spells_by_stands}
+use Rattle.vdev_label.specs.Plain.{config_view}
 use Rattle.pool_commit.proofs.Holding.{weaker, held_by_marks, in_use_is_held}
 use Rattle.pool_commit.proofs.Keeping.{gone_group, gone_pool, new_group, new_pool, old_group, old_pool}
 use Rattle.pool_commit.proofs.Mapping.{kept_maps_over, kept_maps_stand, kept_maps_stay}
@@ -74,7 +75,7 @@ pub kept_spells_stand : (old new : Contents) (group : ℕ) (kept : Option KeptGr
     → KeptLeadsTo old group kept pool blocks → SpellsKept old group kept pool → SpellsKept new group kept pool
 kept_spells_stand old new group (Some kept) (Some pool) blocks keeps leads spells = record {
   root = spells_stand old new group kept.root pool blocks (leads_stand old new group kept.root pool blocks keeps leads) spells.root;
-  directory = spells_by_stands old new group kept.root pool kept.directory.value blocks keeps leads spells.directory;
+  directory = spells_by_stands old new group kept.root pool kept.directory.value (config_view kept.config.value) blocks keeps leads spells.directory;
   names = spells.names;
 }
 kept_spells_stand old new group None None blocks keeps leads spells = tt

@@ -27,24 +27,30 @@ use Rattle.dataset_snapshots.proofs.Readings.{roots_spell_one_pool}
 use Rattle.dataset_snapshots.proofs.Standing.{roots_stand}
 use Rattle.dnode_tree.specs.Rewriting.{AreDistinct}
 use Rattle.metaslab.specs.State.{State as Mark, InUse, Released}
-use Rattle.pool_maps.specs.Beside.{LieBeforeMeta}
-use Rattle.pool_maps.specs.Loads.{AreApart, AreLoadedAs, NothingIsReleased, OnlyLoads}
-use Rattle.pool_maps.specs.Reached.{UseJust}
-use Rattle.pool_maps.specs.declared.reading.FreeMetaslab.{FreeMetaslab}
-use Rattle.pool_maps.proofs.Opened.{loaded_for_blocks}
-use Rattle.pool_maps.proofs.ReadSets.{read_are_sets}
-use Rattle.pool_maps.proofs.Reaching.{lie_before_meta}
+use Rattle.dataset_snapshots.specs.Beside.{LieBeforeMeta}
+use Rattle.dataset_snapshots.specs.Loads.{AreApart, AreLoadedAs, NothingIsReleased, OnlyLoads}
+use Rattle.dataset_snapshots.specs.Reached.{UseJust}
+use Rattle.dataset_snapshots.specs.FreeMetaslab.{FreeMetaslab}
+use Rattle.dataset_snapshots.proofs.MapsOpened.{loaded_for_blocks}
+use Rattle.dataset_snapshots.proofs.MapsReadSets.{read_are_sets}
+use Rattle.dataset_snapshots.proofs.MapsReaching.{lie_before_meta}
 use Rattle.pool_model.specs.Pools.{PlainPool, no_volumes}
 use Rattle.pool_model.specs.View.{Vdev, opened_as}
+use Rattle.pool_commit.specs.Configs.{HasConfigAs}
+use Rattle.pool_commit.proofs.Starting.{same_some}
+use Rattle.objset.specs.Objects.{Object}
+use Rattle.vdev_label.specs.Plain.{config_view}
+use Rattle.vdev_label.specs.declared.label.Config.{Config}
 use Rattle.volume_rules.specs.Index.{Knows}
 use Rattle.pool_commit.specs.declared.kept.Kept.{Kept}
 use Rattle.pool_commit.specs.declared.kept.KeptGroup.{KeptGroup}
 use Rattle.pool_commit.specs.declared.kept.Planned.{Planned}
 use Rattle.pool_commit.specs.declared.stamp.Stamp.{Stamp}
-use Rattle.pool_commit.specs.Backs.{Backs, HasMaps, IsPlanOf, KeptHasMaps, KeptLeadsTo, LeadsTo, SpellsGroup, SpellsKept, SpellsRoot, kept_pool}
+use Rattle.pool_commit.specs.Backs.{AreStamped, Backs, HasMaps, IsPlanOf, KeptHasMaps, KeptLeadsTo, LeadsTo, SpellsGroup, SpellsKept, SpellsRoot, kept_pool}
 use Rattle.pool_commit.specs.Config.{shown, vdevs_of}
 use Rattle.pool_commit.specs.Directories.{SpellsBy}
-use Rattle.pool_commit.specs.Reopened.{IsEmptyGroup, IsGroupOf, IsOfGroup}
+use Rattle.pool_commit.specs.Reopened.{IsConfiguredUnder, IsEmptyGroup, IsGroupOf, IsOfGroup}
+use Rattle.pool_commit.specs.Slots.{IsStampOf}
 use Rattle.pool_commit.specs.Space.{is_held_for, AreInBlocks, WereReleasedBy}
 use Rattle.pool_commit.specs.State.{State, group_at}
 use Rattle.pool_commit.proofs.Accounting.{none_in_use, none_released}
@@ -82,6 +88,13 @@ module _ (kept : Kept) (vdevs : List Vdev) (out : ℕ → Bool) (group : ℕ) (p
     | inr another ↦
         subst (λ (o : Option KeptGroup). SpellsKept stored other o (kept_pool (opened_as vdevs out group pool) other)) (sym (gone other another))
         (subst (λ (o : Option PlainPool). SpellsKept stored other None o) (sym (pool_gone other another)) tt)
+  ]
+
+  -- uberblocks name its configuration
+  pub stamped_only : (stamp : Stamp) → IsStampOf (config_view kept.last.config.value) stamp.claim stamp → AreStamped stamp kept
+  stamped_only stamp stamped other it at = elim (cases_eq other group) [
+    | inl here ↦ subst (λ (k : KeptGroup). IsStampOf (config_view k.config.value) stamp.claim stamp) (same_some kept.last it (sym (there other here) ∙ at)) stamped
+    | inr another ↦ absurd (let clash : None ≡ Some it = sym (gone other another) ∙ at in cc)
   ]
 
   -- what it leads to
@@ -127,6 +140,13 @@ module _ (kept : Kept) (vdevs : List Vdev) (out : ℕ → Bool) (group : ℕ) (p
         subst (λ (o : Option KeptGroup). KeptHasMaps spaces stored other o (kept_pool (opened_as vdevs out group pool) other)) (sym (gone other another)) tt
   ]
 
+-- the stamp of the group's configuration is that of this one
+stamped_by : (s : State) (stamp : Stamp) (last : KeptGroup) (config : Config) → last.config.value ≡ config → s.stamp ≡ stamp → IsStampOf (config_view config) stamp.claim stamp
+    → IsStampOf (config_view last.config.value) s.stamp.claim s.stamp
+stamped_by s stamp last config is same stamped =
+    subst (λ (it : Stamp). IsStampOf (config_view last.config.value) it.claim it) (sym same)
+    (subst (λ (c : Config). IsStampOf (config_view c) stamp.claim stamp) (sym is) stamped)
+
 -- ---- the blocks that were taken in
 
 -- what is in use is held for whichever group
@@ -148,17 +168,20 @@ pub record IsFound (stored : Contents) (group : ℕ) (kept : KeptGroup) (pool : 
   pub leads : LeadsTo stored group kept.root pool blocks
 
 found_by : (spaces : List VdevSpace) (stored : Contents) (group : ℕ) (root : Block) (pool : PlainPool) (contents : RootContents) (kept : KeptGroup)
-    → IsGroupOf root contents.directory contents.names kept → (are : AreContentsOf stored spaces group root pool contents)
-    → IsFound (among (reach_of are.is) stored) group kept pool (reach_of are.is)
-found_by spaces stored group root pool contents kept is are =
+    → (config : Config) → IsGroupOf root contents.directory contents.names config kept → (are : AreContentsOf stored spaces group root pool contents)
+    → HasConfigAs (are.is.objects 2) (config_view config) → IsFound (among (reach_of are.is) stored) group kept pool (reach_of are.is)
+found_by spaces stored group root pool contents kept config is are has =
     let blocks = reach_of are.is in
     let keeps : KeepsEach stored (among blocks stored) blocks = λ block bytes held known. among_keeps blocks stored block bytes held known in
     let still = roots_stand stored (among blocks stored) group group root pool (omega arith) are.is keeps in
+    let has_still : HasConfigAs (still.0.objects 2) (config_view kept.config.value) =
+    subst (λ (c : Config). HasConfigAs (still.0.objects 2) (config_view c)) (sym is.config_is)
+    (subst (λ (objects : ℕ → Option Object). HasConfigAs (objects 2) (config_view config)) (sym still.4) has) in
     record {
       spells = record {
         root = subst (λ (o : Option Block). SpellsRoot (among blocks stored) group o pool) (sym is.root_is) still.0;
-        directory = subst (λ (o : Option Block). SpellsBy (among blocks stored) group o pool kept.directory.value) (sym is.root_is)
-            (still.0, is.directory_is ∙ are.rows ∙ sym still.2);
+        directory = subst (λ (o : Option Block). SpellsBy (among blocks stored) group o pool kept.directory.value (config_view kept.config.value)) (sym is.root_is)
+            (still.0, is.directory_is ∙ are.rows ∙ sym still.2, has_still);
         names = subst (λ index. Knows index pool) (sym is.names_are) are.names;
       };
       leads = subst (λ (o : Option Block). LeadsTo (among blocks stored) group o pool blocks) (sym is.root_is) (still.0, still.1);
@@ -183,8 +206,8 @@ backs_only : (s : State) (spaces : List VdevSpace) (flags : List Bool) (group : 
     → ((block : Block) (bytes : List ℕ) → mine block ≡ Some bytes → Contains blocks block)
     → ((block : Block) → Contains blocks block → CopiesLieOn IsInUse s.store.spaces filled block)
     → AreInBlocks s.store.spaces filled blocks → WereReleasedBy s.store.spaces filled s.kept.committed → HasMaps s.store.spaces mine group last.root pool
-    → Backs s (opened_as (vdevs_of spaces) (is_out flags) group pool)
-backs_only s spaces flags group last pool mine blocks is shapes out plans found once known in_use accounted released mapped =
+    → IsStampOf (config_view last.config.value) s.stamp.claim s.stamp → Backs s (opened_as (vdevs_of spaces) (is_out flags) group pool)
+backs_only s spaces flags group last pool mine blocks is shapes out plans found once known in_use accounted released mapped stamped =
     let vdevs = vdevs_of spaces in
     let only : IsOnly s.kept group = record { committed = is.committed; before = is.before; earliest = is.earliest } in
     let spells : SpellsGroup mine group s.kept.last pool = subst (λ k. SpellsGroup mine group k pool) (sym is.last_is) found.spells in
@@ -194,6 +217,8 @@ backs_only s spaces flags group last pool mine blocks is shapes out plans found 
       slots = refl;
       out = λ disk. ap (λ them. is_out them disk) (sym out);
       committed = only.committed;
+      stamped = stamped_only s.kept vdevs (is_out flags) group pool only s.stamp
+          (subst (λ (k : KeptGroup). IsStampOf (config_view k.config.value) s.stamp.claim s.stamp) (sym is.last_is) stamped);
       blocks = record {
         stored = mine;
         planned = mine;
@@ -260,15 +285,20 @@ all_in_use old mid new stored group root pool contents taken empty holds are its
     record { filled_just = just.0; planned_just = just.1; holds = taken.keeps stored (taken.loads.keeps stored holds) }
 
 pub backs_opened : FoundInUseAreStored → (old mid new : Store) (stamp : Stamp) (group : ℕ) (root : Block) (contents : RootContents) (last : KeptGroup)
-    (s : State) → AreTaken old mid new contents.maps.items contents.blocks.items → IsGroupOf root contents.directory contents.names last → IsOfGroup new stamp group last s
+    (s : State) → AreTaken old mid new contents.maps.items contents.blocks.items → (config : Config) → IsGroupOf root contents.directory contents.names config last → IsOfGroup new stamp group last s
     → Plans old nothing_stored nothing_stored → AreEmpty old.spaces → (stored : Contents) (pool : PlainPool)
     → Holds old stored → AreContentsOf stored old.spaces group root pool contents → HasMaps old.spaces stored group (Some root) pool
+    → IsConfiguredUnder stamp stored group root pool → IsStampOf (config_view config) stamp.claim stamp
     → Backs s (opened_as (vdevs_of old.spaces) (is_out old.out) group pool)
-backs_opened in_use_stored old mid new stamp group root contents last s taken is_group is plans empty stored pool holds are has =
+backs_opened in_use_stored old mid new stamp group root contents last s taken config is_group is plans empty stored pool holds are has configured stamped =
     let reach = reach_of are.is in
     let mine = among reach stored in
     let at : s.store ≡ new = is.store_is in
     let its : HasItsMaps old.spaces are.is = (roots_spell_one_pool stored group group root pool pool has.0 are.is).3 old.spaces has.1 in
+    let (shown, under, table_is, named) = configured in
+    let table : HasConfigAs (are.is.objects 2) (config_view config) =
+    subst (λ (objects : ℕ → Option Object). HasConfigAs (objects 2) (config_view config)) (roots_spell_one_pool stored group group root pool pool shown are.is).4
+    (under, table_is, record { guids = sym named.guids ∙ stamped.guids; digest = sym named.digest ∙ stamped.digest }) in
     let all = all_in_use old mid new stored group root pool contents taken empty holds are its in
     let place : (block : Block) → Contains reach block → ArePlacesIn new.spaces block.property.sectors (dvas block.copies) =
     λ block held. let it = reach_known stored group root pool are.is block held in all.holds.places block it.0 it.1 in
@@ -279,7 +309,7 @@ backs_opened in_use_stored old mid new stamp group root contents last s taken is
     (ap (λ (store : Store). shapes_of store.spaces) at ∙ taken.shapes ∙ taken.loads.shapes)
     (ap (λ (store : Store). store.out) at ∙ taken.out ∙ ap (λ (store : Store). store.out) taken.loads.rest)
     (subst (λ store. Plans store mine mine) (sym at) plans_new)
-    (found_by old.spaces stored group root pool contents last is_group are) its.once
+    (found_by old.spaces stored group root pool contents last config is_group are table) its.once
     (λ block bytes known. (among_are reach stored block bytes known).0)
     (λ block held. subst (λ (store : Store). CopiesLieOn IsInUse store.spaces filled block) (sym at) (all.filled_just.in_use block held))
     (subst (λ (store : Store). AreInBlocks store.spaces filled reach) (sym at) all.filled_just.accounted)
@@ -291,29 +321,32 @@ backs_opened in_use_stored old mid new stamp group root contents last s taken is
     (subst (λ (o : Option Block). HasMaps old.spaces mine group o pool) (sym is_group.root_is)
     (maps_stand old.spaces stored mine group (Some root) pool reach
     (λ block bytes held known. among_keeps reach stored block bytes held known) (are.is, refl) has)))
+    (stamped_by s stamp last config is_group.config_is is.stamp_is stamped)
 
 -- ---- an empty pool
 
 -- nothing is found of it
-found_empty : (stored : Contents) (group : ℕ) (last : KeptGroup) → IsEmptyGroup last → IsFound stored group last no_volumes []
-found_empty stored group last is = record {
+found_empty : (stored : Contents) (group : ℕ) (last : KeptGroup) (config : Config) → IsEmptyGroup config last → IsFound stored group last no_volumes []
+found_empty stored group last config is = record {
   spells = record {
     root = subst (λ (o : Option Block). SpellsRoot stored group o no_volumes) (sym is.root_is) refl;
-    directory = subst (λ (o : Option Block). SpellsBy stored group o no_volumes last.directory.value) (sym is.root_is) is.directory;
+    directory = subst (λ (o : Option Block). SpellsBy stored group o no_volumes last.directory.value (config_view last.config.value)) (sym is.root_is) is.directory;
     names = is.names;
   };
   leads = subst (λ (o : Option Block). LeadsTo stored group o no_volumes []) (sym is.root_is) refl;
 }
 
-pub backs_empty : (store : Store) (stamp : Stamp) (group : ℕ) (last : KeptGroup) (s : State) → IsEmptyGroup last → IsOfGroup store stamp group last s
-    → Plans store nothing_stored nothing_stored → AreEmpty store.spaces → Backs s (opened_as (vdevs_of store.spaces) (is_out store.out) group no_volumes)
-backs_empty store stamp group last s empty_group is plans empty =
+pub backs_empty : (store : Store) (stamp : Stamp) (group : ℕ) (last : KeptGroup) (s : State) (config : Config) → IsEmptyGroup config last → IsOfGroup store stamp group last s
+    → Plans store nothing_stored nothing_stored → AreEmpty store.spaces → IsStampOf (config_view config) stamp.claim stamp
+    → Backs s (opened_as (vdevs_of store.spaces) (is_out store.out) group no_volumes)
+backs_empty store stamp group last s config empty_group is plans empty stamped =
     let at : s.store ≡ store = is.store_is in
     backs_only s store.spaces store.out group last no_volumes nothing_stored [] (over store stamp group last s is)
     (ap (λ (st : Store). shapes_of st.spaces) at) (ap (λ (st : Store). st.out) at) (subst (λ st. Plans st nothing_stored nothing_stored) (sym at) plans)
-    (found_empty nothing_stored group last empty_group) none_distinct
+    (found_empty nothing_stored group last config empty_group) none_distinct
     (λ block bytes known. absurd (let clash : None ≡ Some bytes = known in cc))
     (λ block held. absurd (nothing_in block held))
     (subst (λ (st : Store). AreInBlocks st.spaces filled []) (sym at) (none_in_use store.spaces [] empty))
     (subst (λ (st : Store). WereReleasedBy st.spaces filled s.kept.committed) (sym at) (none_released store.spaces s.kept.committed empty))
     (subst (λ (o : Option Block). HasMaps s.store.spaces nothing_stored group o no_volumes) (sym empty_group.root_is) tt)
+    (stamped_by s stamp last config empty_group.config_is is.stamp_is stamped)

@@ -1,5 +1,5 @@
 -- The empty pool, as it is made.
-use Rattle.std.proofs.Common.{◌≡◌, ◌≢◌, ℕ, ◌+◌, List, [], ◌∷◌, Option, Some, None, false, refl, sym, ap, subst, arith, inl, inr}
+use Rattle.std.proofs.Common.{◌≡◌, ◌≢◌, ℕ, ◌+◌, List, [], ◌∷◌, Option, Some, None, false, refl, sym, ap, ◌∙◌, subst, arith, inl, inr}
 use Rattle.std.specs.Prelude.{map}
 use Rattle.std.proofs.lemmas.Bool.{cases_eq}
 use Rattle.std.proofs.lemmas.Bool.Decides.{nat_tests}
@@ -18,10 +18,12 @@ use Rattle.pool_commit.specs.declared.kept.KeptGroup.{KeptGroup}
 use Rattle.pool_model.specs.Pools.{PlainPool, no_volumes}
 use Rattle.pool_model.specs.View.{Vdev, started}
 use Rattle.pool_commit.specs.declared.kept.Kept.{Kept}
-use Rattle.pool_commit.specs.Backs.{Backs, HasMaps, KeptHasMaps, KeptLeadsTo, LeadsTo, SpellsKept, kept_pool, SpellsGroup, SpellsRoot}
+use Rattle.pool_commit.specs.Backs.{AreStamped, Backs, HasMaps, KeptHasMaps, KeptLeadsTo, LeadsTo, SpellsKept, kept_pool, SpellsGroup, SpellsRoot}
 use Rattle.pool_commit.specs.Config.{shown, vdevs_from}
 use Rattle.pool_commit.specs.Directories.{SpellsBy}
+use Rattle.pool_commit.specs.Slots.{IsStampOf}
 use Rattle.pool_commit.specs.Started.{started_on_disks}
+use Rattle.vdev_label.specs.Plain.{config_view}
 use Rattle.pool_commit.specs.declared.stamp.Stamp.{Stamp}
 use Rattle.pool_commit.specs.State.{IsFirst, group_at}
 use Rattle.dataset_snapshots.proofs.ChangedRows.{nothing_in}
@@ -40,6 +42,9 @@ vdevs_made starts first [] (shape ∷ shapes) are = absurd are
 vdevs_made starts first (config ∷ configs) [] are = absurd are
 vdevs_made starts first (config ∷ configs) (shape ∷ shapes) are =
     (λ i. vdev_is first config.geometry shape.vdev are.0.first_is are.0.geometry i ∷ vdevs_made starts (first + config.geometry.children) configs shapes are.1 i)
+
+pub same_some : {X : Type 0} (x y : X) → Some x ≡ Some y → x ≡ y
+same_some x y is = cc
 
 -- group 3 is kept, and no other
 kept_first : (kept : Kept) (vdevs : List Vdev) → kept.committed ≡ 3 → kept.before ≡ None → kept.earliest ≡ None
@@ -70,7 +75,7 @@ kept_first kept vdevs c b e empty group = elim (cases_eq group 3) [
 no_volumes_first : (kept : Kept) → IsFirst kept → (stored : Contents) (birth : ℕ) → SpellsGroup stored birth kept.last no_volumes
 no_volumes_first kept is stored birth = record {
   root = subst (λ (root : Option Block). SpellsRoot stored birth root no_volumes) (sym is.root) refl;
-  directory = subst (λ (root : Option Block). SpellsBy stored birth root no_volumes kept.last.directory.value) (sym is.root) is.directory;
+  directory = subst (λ (root : Option Block). SpellsBy stored birth root no_volumes kept.last.directory.value (config_view kept.last.config.value)) (sym is.root) is.directory;
   names = is.names;
 }
 
@@ -118,14 +123,29 @@ mapped_first spaces kept vdevs is group = elim (cases_eq group 3) [
     gone : group ≢ 3 → group_at kept group ≡ None
     gone other = grind (arith, nat_tests, is.committed, is.before, is.earliest, other)
 
+-- its uberblocks name its configuration
+stamped_first : (kept : Kept) → IsFirst kept → (stamp : Stamp) → IsStampOf (config_view kept.last.config.value) stamp.claim stamp → AreStamped stamp kept
+stamped_first kept is stamp stamped group it at = elim (cases_eq group 3) [
+  | inl here ↦ subst (λ (k : KeptGroup). IsStampOf (config_view k.config.value) stamp.claim stamp) (same_some kept.last it (sym (there here) ∙ at)) stamped
+  | inr other ↦ absurd (let clash : None ≡ Some it = sym (gone other) ∙ at in cc)
+]
+  where
+    there : group ≡ 3 → group_at kept group ≡ Some kept.last
+    there at = grind (arith, nat_tests, is.committed, at)
+
+    gone : group ≢ 3 → group_at kept group ≡ None
+    gone other = grind (arith, nat_tests, is.committed, is.before, is.earliest, other)
+
 pub starts : (store : Store) (kept : Kept) (stamp : Stamp) (configs : List VdevConfig) → AreShapes store.disks.starts 0 configs (shapes_of store.spaces)
     → ((disk : ℕ) → is_out store.out disk ≡ false) → Plans store nothing_stored nothing_stored → AreEmpty store.spaces → IsFirst kept
+    → IsStampOf (config_view kept.last.config.value) stamp.claim stamp
     → Backs (record { store = store; kept = kept; planned = None; stamp = stamp }) (started_on_disks (vdevs_from 0 configs))
-starts store kept stamp configs shapes out plans empty first = record {
+starts store kept stamp configs shapes out plans empty first stamped = record {
   vdevs = vdevs_made store.disks.starts 0 configs (shapes_of store.spaces) shapes;
   slots = refl;
   out = λ disk. sym (out disk);
   committed = first.committed;
+  stamped = stamped_first kept first stamp stamped;
   blocks = record {
     stored = nothing_stored;
     planned = nothing_stored;

@@ -36,7 +36,7 @@ use Rattle.pool_commit.specs.Backs.{Backs}
 use Rattle.pool_commit.specs.Calls.{unread_between}
 use Rattle.pool_commit.specs.Causes.{of_store}
 use Rattle.pool_commit.specs.Config.{shown, vdevs_of}
-use Rattle.pool_commit.specs.Configs.{configs_from}
+use Rattle.vdev_label.specs.Plain.{PlainVdev, config_view}
 use Rattle.pool_commit.specs.Reading.{IsFaultIn, IsLost, IsLostForPlan, IsLostUnder, IsReadCause, IsUnreadForPlan, IsUnreadOf, LosesOn, is_lost}
 use Rattle.pool_commit.specs.Room.{IsNextRefused}
 use Rattle.pool_commit.specs.State.{State, group_at}
@@ -175,10 +175,10 @@ lost_under v old new group kept name offset len missing refusal backs is_kept re
       (λ lost. losses_by_rows.ranges old.store new missing group is.root kept.directory.value name offset len is.cause is.unread (only_lost is.cause (sym is.answered ∙ lost))) fault;
 }
 
-next_lost : (old new : Store) (last : Option Block) (rows : List DirectoryRow) (group : ℕ) (items : Entry) (refusal : StoreRefusal)
-    → IsNextRefused old new last rows group items refusal → refusal ≡ store.DiskFault → IsBlockLost old new []
-next_lost old new (Some root) rows group items refusal why is = losses_of_groups losses_of_destroys old new root rows group (destroyed_by items) (made_by items) refusal why is
-next_lost old new None rows group items refusal why is = losses_of_first_groups old new group (configs_from 100 (shapes_of old.spaces)) (made_by items) refusal why is
+next_lost : (old new : Store) (last : Option Block) (rows : List DirectoryRow) (vdevs : List PlainVdev) (group : ℕ) (items : Entry) (refusal : StoreRefusal)
+    → IsNextRefused old new last rows vdevs group items refusal → refusal ≡ store.DiskFault → IsBlockLost old new []
+next_lost old new (Some root) rows vdevs group items refusal why is = losses_of_groups losses_of_destroys old new root rows group (destroyed_by items) (made_by items) refusal why is
+next_lost old new None rows vdevs group items refusal why is = losses_of_first_groups old new group vdevs (made_by items) refusal why is
 
 pub lost_for_plan : (v : View) (old new : State) (items : Entry) (refusal : Refusal) (is : IsUnreadForPlan old new items refusal)
     → Backs (record old { store = is.refused.begun; planned = None }) v → OnlyReads is.refused.begun.disks new.store.disks
@@ -186,6 +186,6 @@ pub lost_for_plan : (v : View) (old new : State) (items : Entry) (refusal : Refu
 lost_for_plan v old new items refusal is backs reads fault = record {
   unread = is;
   lost = lost_in_states v [] old new is.refused.begun refusal is.refused.is_begun.disks (record { vdevs = backs.vdevs; out = backs.out; reads = reads })
-      (λ lost. next_lost is.refused.begun new.store old.kept.last.root old.kept.last.directory.value is.refused.group items is.cause is.refused.why
+      (λ lost. next_lost is.refused.begun new.store old.kept.last.root old.kept.last.directory.value (config_view old.kept.last.config.value) is.refused.group items is.cause is.refused.why
       (only_lost is.cause (sym is.answered ∙ lost))) fault;
 }

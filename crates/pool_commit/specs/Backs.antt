@@ -13,9 +13,10 @@ use Rattle.dataset_snapshots.specs.Mapped.{HasItsMaps, HasMapsBehind, HasMapsBy,
 use Rattle.dataset_snapshots.specs.Pools.{SpellsPool}
 use Rattle.dataset_snapshots.specs.Reach.{reach_of}
 use Rattle.dnode_tree.specs.Rewriting.{AreDistinct}
-use Rattle.pool_maps.specs.Reached.{UseNothing}
+use Rattle.dataset_snapshots.specs.Reached.{UseNothing}
 use Rattle.pool_model.specs.Pools.{PlainPool, applied, no_volumes}
 use Rattle.pool_model.specs.View.{View, DueCall, Due, is_planned, is_kept, disks_in_use}
+use Rattle.vdev_label.specs.Plain.{config_view}
 use Rattle.volume_rules.specs.Index.{Knows}
 use Rattle.pool_commit.specs.declared.kept.Kept.{Kept}
 use Rattle.pool_commit.specs.declared.kept.KeptGroup.{KeptGroup}
@@ -27,7 +28,7 @@ use Rattle.pool_commit.specs.Calls.{IsFlushed}
 use Rattle.pool_commit.specs.Config.{vdevs_of}
 use Rattle.pool_commit.specs.Directories.{SpellsBy}
 use Rattle.pool_commit.specs.Making.{writes_left, behind_left}
-use Rattle.pool_commit.specs.Slots.{uberblock_of, ShowsIn, all_slots}
+use Rattle.pool_commit.specs.Slots.{IsStampOf, uberblock_of, ShowsIn, all_slots}
 use Rattle.pool_commit.specs.Space.{AreHeld, AreInUse, AreInBlocks, WereReleasedBy}
 use Rattle.pool_commit.specs.State.{State, group_at}
 
@@ -36,11 +37,11 @@ abbrev pub SpellsRoot : Contents → ℕ → Option Block → PlainPool → Type
 SpellsRoot stored group (Some root) pool = SpellsPool stored group root pool
 SpellsRoot stored group None pool = pool ≡ no_volumes
 
--- a group's root spells its pool, by the directory that is kept, and its names are those of the pool
+-- a group's root spells its pool, by the directory that is kept, and has its configuration, and its names are those of the pool
 pub record SpellsGroup (stored : Contents) (group : ℕ) (kept : KeptGroup) (pool : PlainPool)
     : Type 0 where
   pub root : SpellsRoot stored group kept.root pool
-  pub directory : SpellsBy stored group kept.root pool kept.directory.value
+  pub directory : SpellsBy stored group kept.root pool kept.directory.value (config_view kept.config.value)
   pub names : Knows kept.names.value pool
 
 -- a kept group spells its pool; another isn't there
@@ -79,7 +80,7 @@ pub record IsUberblockOf (stamp : Stamp) (group : ℕ) (plan : Planned) : Type 0
   pub timestamp : ℕ
   pub is : plan.uberblock ≡ uberblock_of stamp group root timestamp
 
--- A plan has these device calls left, and its root spells what the group makes, once its blocks are stored. Each disk in use is flushed
+-- A plan has these device calls left, and its root spells what the group makes, once its blocks are stored, with the same configuration. Each disk in use is flushed
 -- behind its last write or has its flush left; its four slots show the uberblock, or are to be written. No call that is left is on a disk
 -- that is out.
 pub record HasPlan (s : State) (planned : Contents) (plan : Planned) (v : View) : Type 0 where
@@ -87,6 +88,7 @@ pub record HasPlan (s : State) (planned : Contents) (plan : Planned) (v : View) 
   pub slot_counts : ℕ → ℕ
   pub sync : v.sync ≡ Due (left_calls counts slot_counts s.store.due plan.behind)
   pub spells : SpellsGroup planned (suc v.committed) plan.after (pool_after v)
+  pub config : plan.after.config.value ≡ s.kept.last.config.value
   pub uberblock : IsUberblockOf s.stamp (suc v.committed) plan
   pub to_flush : (disk : ℕ) → Contains (disks_in_use v) disk → IsToFlush s.store plan.behind disk
   pub shown : (write : SlotWrite) → Contains (disks_in_use v) write.disk → write.label < 4
@@ -164,6 +166,10 @@ abbrev pub IsReachOfPlan : List VdevSpace → (ℕ → List Block) → Contents 
 IsReachOfPlan spaces before stored planned None v = Unit {0}
 IsReachOfPlan spaces before stored planned (Some plan) v = PlansReach spaces before stored planned (suc v.committed) plan.after (pool_after v)
 
+-- uberblocks of this stamp name the configuration of each kept group
+abbrev pub AreStamped : Stamp → Kept → Type 0
+AreStamped stamp kept = (group : ℕ) (it : KeptGroup) → group_at kept group ≡ Some it → IsStampOf (config_view it.config.value) stamp.claim stamp
+
 -- each block taken with the bytes that it was written with
 pub record HasBlocks (s : State) (v : View) : Type 0 where
   pub stored : Contents
@@ -180,4 +186,5 @@ pub record Backs (s : State) (v : View) : Type 0 where
   pub slots : v.slots ≡ true
   pub out : (disk : ℕ) → v.out disk ≡ is_out s.store.out disk
   pub committed : s.kept.committed ≡ v.committed
+  pub stamped : AreStamped s.stamp s.kept
   pub blocks : HasBlocks s v

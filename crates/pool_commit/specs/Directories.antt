@@ -1,12 +1,15 @@
--- Directories that are kept in memory beside a root.
+-- What is kept in memory beside a root: its directory, and the configuration.
 use Rattle.std.specs.Prelude.{ℕ, ◌≡◌, List, [], Option, Some, None}
 use Rattle.block_pointer.specs.declared.block.Block.{Block}
 use Rattle.block_store.specs.Blocks.{Contents}
 use Rattle.dataset_snapshots.specs.Pools.{SpellsPool}
 use Rattle.meta_objset.specs.declared.directory.DirectoryRow.{DirectoryRow}
 use Rattle.pool_model.specs.Pools.{PlainPool}
+use Rattle.vdev_label.specs.Plain.{PlainVdev}
+use Rattle.pool_commit.specs.Configs.{HasConfigAs}
 
--- the rows are those that the root spells the pool by; with no root there are none
-abbrev pub SpellsBy : Contents → ℕ → Option Block → PlainPool → List DirectoryRow → Type 0
-SpellsBy stored group (Some root) pool rows = (is : SpellsPool stored group root pool) × (rows ≡ is.rows)
-SpellsBy stored group None pool rows = rows ≡ []
+-- The rows are those that the root spells the pool by, and its table of the configuration has one that is named as this; with no root there
+-- are no rows.
+abbrev pub SpellsBy : Contents → ℕ → Option Block → PlainPool → List DirectoryRow → List PlainVdev → Type 0
+SpellsBy stored group (Some root) pool rows vdevs = (is : SpellsPool stored group root pool) × (rows ≡ is.rows) × HasConfigAs (is.objects 2) vdevs
+SpellsBy stored group None pool rows vdevs = rows ≡ []

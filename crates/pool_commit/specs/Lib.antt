@@ -19,3 +19,12 @@ pub mod Room
 pub mod Space
 pub mod Suspension
 pub mod Writing
+pub use Rattle.dataset_snapshots.specs.Contents
+pub use Rattle.dataset_snapshots.specs.Finding as SnapshotsFinding
+pub use Rattle.dataset_snapshots.specs.Mapped
+pub use Rattle.dataset_snapshots.specs.Pools
+pub use Rattle.dataset_snapshots.specs.Reach
+pub use Rattle.dataset_snapshots.specs.declared.contents.RootContents
+pub use Rattle.dataset_snapshots.specs.Loads
+pub use Rattle.dataset_snapshots.specs.Maps
+pub use Rattle.dataset_snapshots.specs.FreeMetaslab

@@ -7,22 +7,28 @@ use Rattle.block_store.specs.Releases.{copies_of_all}
 use Rattle.block_store.specs.Spaces.{VdevSpace}
 use Rattle.block_store.specs.Store.{Store}
 pub use Rattle.dataset_snapshots.specs.Contents.{AreContentsOf}
+use Rattle.dataset_snapshots.specs.Pools.{SpellsPool}
 use Rattle.dataset_snapshots.specs.declared.contents.RootContents.{RootContents}
-use Rattle.pool_maps.specs.Loads.{AreApart, AreLoadedAs, AreSetsOf}
-use Rattle.pool_model.specs.Pools.{no_volumes}
+use Rattle.meta_objset.specs.Reading.{HasConfig}
+use Rattle.dataset_snapshots.specs.Loads.{AreApart, AreLoadedAs, AreSetsOf}
+use Rattle.block_store.specs.Blocks.{Contents}
+use Rattle.pool_model.specs.Pools.{PlainPool, no_volumes}
+use Rattle.vdev_label.specs.Plain.{PlainVdev}
 use Rattle.meta_objset.specs.declared.directory.DirectoryRow.{DirectoryRow}
+use Rattle.vdev_label.specs.declared.label.Config.{Config}
 use Rattle.volume_rules.specs.Index.{Knows}
 use Rattle.volume_rules.specs.declared.index.NameIndex.{NameIndex}
 use Rattle.pool_commit.specs.declared.kept.KeptGroup.{KeptGroup}
 use Rattle.pool_commit.specs.declared.stamp.Stamp.{Stamp}
-use Rattle.pool_commit.specs.Slots.{LabelsLieAside}
+use Rattle.pool_commit.specs.Slots.{IsStampOf, LabelsLieAside}
 use Rattle.pool_commit.specs.State.{State}
 
--- a group with this root, its directory and the names of its pool
-pub record IsGroupOf (root : Block) (directory : List DirectoryRow) (names : NameIndex) (kept : KeptGroup) : Type 0 where
+-- a group with this root, its directory, the names of its pool and its configuration
+pub record IsGroupOf (root : Block) (directory : List DirectoryRow) (names : NameIndex) (config : Config) (kept : KeptGroup) : Type 0 where
   pub root_is : kept.root ≡ Some root
   pub names_are : kept.names.value ≡ names
   pub directory_is : kept.directory.value ≡ directory
+  pub config_is : kept.config.value ≡ config
 
 -- the maps were loaded, each of another metaslab, and then a block of the root could not be taken in
 pub record IsBlockMisplaced (spaces : List VdevSpace) (contents : RootContents) : Type 0 where
@@ -35,11 +41,17 @@ pub record IsBlockMisplaced (spaces : List VdevSpace) (contents : RootContents) 
 abbrev pub AreMisplaced : List VdevSpace → RootContents → Type 0
 AreMisplaced spaces contents = (¬ AreSetsOf spaces contents.maps.items) ⊎ IsBlockMisplaced spaces contents
 
--- a group with no root, no rows and no volumes
-pub record IsEmptyGroup (kept : KeptGroup) : Type 0 where
+-- the root's table of the configuration has one that uberblocks of this stamp name
+abbrev pub IsConfiguredUnder : Stamp → Contents → ℕ → Block → PlainPool → Type 0
+IsConfiguredUnder stamp stored group root pool =
+    (is : SpellsPool stored group root pool) × (its : List PlainVdev) × HasConfig (is.objects 2) its × IsStampOf its stamp.claim stamp
+
+-- a group with no root, no rows and no volumes, and this configuration
+pub record IsEmptyGroup (config : Config) (kept : KeptGroup) : Type 0 where
   pub root_is : kept.root ≡ None
   pub names : Knows kept.names.value no_volumes
   pub directory : kept.directory.value ≡ []
+  pub config_is : kept.config.value ≡ config
 
 -- this group is kept, and no other, and nothing is planned
 pub record IsOfGroup (store : Store) (stamp : Stamp) (group : ℕ) (last : KeptGroup) (s : State) : Type 0 where

@@ -10,8 +10,8 @@ use Rattle.dataset_snapshots.specs.Demands.{IsGroupRefused}
 use Rattle.dataset_snapshots.specs.FirstGroup.{IsFirstRefused}
 use Rattle.meta_objset.specs.declared.directory.DirectoryRow.{DirectoryRow}
 use Rattle.pool_model.specs.Pools.{Entry}
+use Rattle.vdev_label.specs.Plain.{PlainVdev, config_view}
 use Rattle.volume_rules.specs.Parting.{destroyed_by, made_by}
-use Rattle.pool_commit.specs.Configs.{configs_from}
 use Rattle.pool_commit.specs.State.{State}
 
 -- the store as a plan of that group begins: the same disks, of which nothing is in use but what is stored and what is not due yet
@@ -23,13 +23,13 @@ pub record IsBegun (group : ℕ) (old begun : Store) : Type 0 where
   pub free : HaveMarks begun.spaces filled begun.spaces planned
 
 -- why the root after a group, its actions parted, is not planned: behind the last one by the directory that is kept, or as the first of a
--- pool of these vdevs
+-- pool of this configuration
 abbrev pub IsNextRefused :
-    Store → Store → Option Block → List DirectoryRow → ℕ → Entry → StoreRefusal → Type 0
-IsNextRefused old new (Some root) rows group items refusal =
+    Store → Store → Option Block → List DirectoryRow → List PlainVdev → ℕ → Entry → StoreRefusal → Type 0
+IsNextRefused old new (Some root) rows vdevs group items refusal =
     IsGroupRefused old new root rows group (destroyed_by items) (made_by items) refusal
-IsNextRefused old new None rows group items refusal =
-    IsFirstRefused old new group (configs_from 100 (shapes_of old.spaces)) (made_by items) refusal
+IsNextRefused old new None rows vdevs group items refusal =
+    IsFirstRefused old new group vdevs (made_by items) refusal
 
 -- from where a plan was begun, the root after the items was refused
 pub record IsPlanRefused (old : State) (new : Store) (items : Entry) (refusal : StoreRefusal) : Type 0 where
@@ -37,8 +37,8 @@ pub record IsPlanRefused (old : State) (new : Store) (items : Entry) (refusal : 
   pub group : ℕ
   pub is_begun : IsBegun group old.store begun
   pub is_next : old.kept.committed < 2 ^ 62 → group ≡ suc old.kept.committed
-  pub why : IsNextRefused begun new old.kept.last.root old.kept.last.directory.value group items
-      refusal
+  pub why : IsNextRefused begun new old.kept.last.root old.kept.last.directory.value
+      (config_view old.kept.last.config.value) group items refusal
 
 -- There is no room for a block that the group makes of the committed root, behind what is stored and others of these blocks; or no
 -- two numbers are left for the objects of what it makes, or the clones of a snapshot can't be counted any more.

@@ -19,6 +19,10 @@ use Rattle.pool_commit.specs.Slots.{place_of}
 use Rattle.pool_commit.specs.Space.{IsFor}
 use Rattle.pool_commit.specs.State.{State}
 
+-- the plan, where there is one, has an uberblock with this timestamp
+abbrev pub IsTimed : ℕ → State → Type 0
+IsTimed timestamp s = (plan : Planned) → s.planned ≡ Some plan → plan.uberblock.timestamp ≡ timestamp
+
 -- one of these writes of columns
 pub record IsDueWrite (due : List ColumnWrite) (which at : ℕ) (bytes : List ℕ) : Type 0 where
   pub write : ColumnWrite

@@ -13,7 +13,8 @@ ghost use Rattle.pool_commit.specs.HasDisks.{AreBelow, AreDueOn, HasDisks};
 ghost use Rattle.pool_commit.specs.Slots.{LabelsLieAside, IsStampOf, slots_of_disk, all_slots};
 ghost use Rattle.block_store.specs.Places.{shapes_of};
 ghost use Rattle.pool_commit.specs.Config.{vdevs_of, vdevs_from};
-ghost use Rattle.pool_commit.specs.Configs.{configs_from};
+ghost use Rattle.pool_commit.specs.Configs.{IsConfigOf, configs_from};
+ghost use Rattle.vdev_label.specs.Plain.{config_view};
 ghost use Rattle.pool_commit.specs.Suspension.{lacks_disks};
 
 use crate::config::config_of;
@@ -31,6 +32,7 @@ use raidz_io::Vdev;
 use std::alloc::{AllocError, Global};
 use std::collections::VecDeque;
 use std::sync::Arc;
+use vdev_label::Config;
 use volume_rules::NameIndex;
 
 /// The group that `create` commits.
@@ -70,6 +72,13 @@ pub(crate) fn no_names(alloc: Global) -> Result<Arc<NameIndex, Global>, AllocErr
     Ok(Arc::new(alloc, NameIndex::new(alloc))?)
 }
 
+/// A configuration that each group after it shares.
+fn shared(alloc: Global, config: Config) -> Result<Arc<Config, Global>, AllocError>
+    ensures value { IfOk result (λ made. made.value ≡ config) }
+{
+    Ok(Arc::new(alloc, config)?)
+}
+
 /// The slots of these disks: one in each label of each disk, in order.
 fn slots_of(alloc: Global, disks: &VecDeque<usize>) -> Result<VecDeque<SlotWrite>, AllocError>
     ensures { IfOk result (λ slots. slots.items ≡ all_slots disks.now.items) }
@@ -99,8 +108,8 @@ impl<D: Disk + Drop> Commit<D> {
     ghost use Rattle.pool_commit.specs.State.{has_plan, HasNoPlan, NoneIsOut};
     ghost use Rattle.pool_commit.specs.StateOf.{state_of, disks_in};
 
-    /// The empty pool, committed as group 3 under claim 1. The vdevs take the disks in order, each as many as it has children. The
-    /// uberblocks of later groups have the claim and what tells the configuration.
+    /// The empty pool, committed as group 3 under claim 1, whose guids are 100, 101 and so on. The vdevs take the disks in order, each as
+    /// many as it has children. The uberblocks of later groups have the claim and what tells the configuration.
     pub fn new(alloc: Global, disks: Vec<D>, vdevs: &[VdevConfig]) -> Result<Self, Refusal>
         ensures starts { IfOk result (λ commit.
             (disks_in commit).starts ≡ map D.start disks.items) }
@@ -110,6 +119,9 @@ impl<D: Disk + Drop> Commit<D> {
             Backs (state_of commit) (started_on_disks (vdevs_from 0 vdevs.now))) }
         ensures stamp { IfOk result (λ commit. IsStampOf (configs_from 100
             (shapes_of (state_of commit).store.spaces)) 1 (state_of commit).stamp) }
+        ensures config { IfOk result (λ commit. IsConfigOf
+            (shapes_of (state_of commit).store.spaces)
+            (config_view (state_of commit).kept.last.config.value)) }
         ensures refused { IfErr result (λ refusal. (refusal ≡ Refusal.NoMemory)
             ⊎ ((refusal ≡ Refusal.BadConfig) × ((shapes : List ShapeOf) → ¬ (IsFewVdevs vdevs.now
             × AreShapes (map D.start disks.items) 0 vdevs.now shapes)))) }
@@ -125,6 +137,7 @@ impl<D: Disk + Drop> Commit<D> {
             root: None,
             names: no_names(alloc)?,
             directory: no_directory(alloc)?,
+            config: shared(alloc, config)?,
         };
         let suspended = lacks_disks(&store);
         Ok(Commit {

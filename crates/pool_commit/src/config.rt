@@ -4,7 +4,7 @@ ghost use Rattle.block_store.specs.Places.{shapes_of};
 ghost use Rattle.pool_model.specs.View.{counted};
 ghost use Rattle.vdev_label.specs.Config.{FitsConfig, config_bytes};
 ghost use Rattle.vdev_label.specs.Plain.{vdev_view, config_view};
-ghost use Rattle.pool_commit.specs.Configs.{vdev_with, IsConfigOf};
+ghost use Rattle.pool_commit.specs.Configs.{FitsTable, IsConfigOf, vdev_with};
 
 use block_store::{BlockStore, VdevShape};
 use model_disk::Disk;
@@ -50,6 +50,7 @@ pub fn config_of<D: Disk + Drop>(alloc: Global, store: &BlockStore<D>) -> Result
         IsConfigOf (shapes_of store.now.spaces) (config_view config)) }
     ensures fits { IfOk result (λ config. FitsConfig (config_view config)) }
     ensures few { IfOk result (λ config. length (config_bytes (config_view config)) < 2 ^ 46) }
+    ensures table { IfOk result (λ config. FitsTable (config_view config)) }
 {
     small_configs_fit();
     let mut vdevs = Vec::new(alloc);

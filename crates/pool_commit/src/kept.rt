@@ -1,6 +1,8 @@
 //! The groups that are kept, and the plan of the next one.
 ghost use Rattle.std.specs.Prelude.{◌≡◌, None};
 ghost use Rattle.std.specs.Option.{option_copied};
+ghost use Rattle.vdev_label.specs.Plain.{config_view};
+ghost use Rattle.pool_commit.specs.Configs.{FitsTable, FitsTable-prop};
 
 use block_pointer::Block;
 use dataset_snapshots::KeptDirectory;
@@ -10,16 +12,19 @@ use std::alloc::Global;
 use std::mem;
 use std::sync::Arc;
 use uberblock_ring::Uberblock;
+use vdev_label::Config;
 use volume_rules::NameIndex;
 
-/// A group: its root, through which all else of it is read, and in memory the names of its pool and the directory under the root. Groups
-/// share the names that make no volume, and the directory whose rows are the same. A pool has no root before its first group is
-/// planned, and no volumes and no rows then.
+/// A group: its root, through which all else of it is read, and in memory the names of its pool, the directory under the root, and the
+/// configuration. Groups share the names that make no volume, the directory whose rows are the same, and the configuration. A pool has no
+/// root before its first group is planned, and no volumes and no rows then; that group's root gets the configuration.
 #[derive(Drop)]
 pub struct KeptGroup {
     pub(crate) root: Option<Block>,
     pub(crate) names: Arc<NameIndex, Global>,
     pub(crate) directory: Arc<KeptDirectory, Global>,
+    pub(crate) config: Arc<Config, Global>,
+    ghost table: { root ≡ None → FitsTable (config_view config.value) } by { Prim.hlevel FitsTable-prop },
 }
 
 /// The last three committed groups.
@@ -52,6 +57,13 @@ impl KeptGroup {
         ensures { result.now ≡ self.now.directory.value }
     {
         self.directory.as_ref()
+    }
+
+    /// Its configuration.
+    pub(crate) fn config(&self) -> &Config
+        ensures { result.now ≡ self.now.config.value }
+    {
+        self.config.as_ref()
     }
 
     /// The directory under its root.

@@ -7,6 +7,7 @@ use crate::commit::Commit;
 use model_disk::Disk;
 use std::alloc::{AllocError, Global};
 use uberblock_ring::Uberblock;
+use vdev_label::Config;
 use words::LAST_COUNT;
 
 impl<D: Disk + Drop> Commit<D> {
@@ -38,6 +39,13 @@ impl<D: Disk + Drop> Commit<D> {
             claim: stamp.claim,
             config_digest,
         })
+    }
+
+    /// The configuration of the pool, which the object set of each of its groups has.
+    pub fn config(&self) -> &Config
+        ensures { result.now ≡ (state_of self.now).kept.last.config.value }
+    {
+        self.kept.last().config()
     }
 
     /// Of each disk, whether it is out.

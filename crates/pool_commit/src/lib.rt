@@ -18,7 +18,7 @@ mod suspension;
 
 pub use commit::Commit;
 pub use config::config_of;
-pub use dataset_snapshots::RootContents;
+pub use dataset_snapshots::{RootContents, contents_under};
 pub use device::Progress;
 pub use kept::{Kept, KeptGroup, Planned};
 pub use laws::{labels_of_opened_lie, no_room_is_lost};

@@ -9,7 +9,7 @@ ghost use Rattle.block_store.specs.Releases.{copies_of_all, AreReleased, AreAllI
 ghost use Rattle.block_store.specs.Steps.{OnlyReadsAndPlans, AnswersAreTrue};
 ghost use Rattle.dnode_tree.specs.Writes.{IsForRoom};
 ghost use Rattle.raidz_io.specs.Reads.{OnlyReads, AreUntouched};
-ghost use Rattle.pool_maps.specs.Reached.{UseNothing};
+ghost use Rattle.dataset_snapshots.specs.Reached.{UseNothing};
 ghost use Rattle.pool_model.specs.Pools.{PlainPool, applied, no_volumes};
 ghost use Rattle.pool_model.specs.View.{View, DueCall, Unplanned, Due, is_planned};
 ghost use Rattle.pool_model.specs.Machine.{IsPlan};
@@ -22,8 +22,8 @@ ghost use Rattle.block_store.specs.declared.refusal.Refusal.TheVariants as lost_
 ghost use Rattle.dataset_snapshots.specs.Groups.{IsReachExchanged};
 ghost use Rattle.dataset_snapshots.specs.Laws.{AreGoodChanges};
 ghost use Rattle.dataset_snapshots.specs.FirstGroup.{IsFirstRefused};
-ghost use Rattle.block_store.specs.Places.{shapes_of};
-ghost use Rattle.pool_commit.specs.Configs.{configs_from};
+ghost use Rattle.vdev_label.specs.Plain.{config_view};
+ghost use Rattle.pool_commit.specs.Configs.{FitsTable};
 ghost use Rattle.pool_commit.specs.Backs.{Backs, BeginsWithMaps, LeadsTo, LeavesMaps, SpellsGroup, SpellsRoot};
 ghost use Rattle.pool_commit.specs.Directories.{SpellsBy};
 ghost use Rattle.pool_commit.specs.Reading.{PoolAnswersTruly, IsReadFault};
@@ -32,10 +32,9 @@ ghost use Rattle.pool_commit.specs.Room.{LacksRoom, IsNextRefused};
 ghost use Rattle.pool_commit.specs.Space.{GivesBack};
 ghost use Rattle.pool_commit.specs.State.{HasNoPlan};
 ghost use Rattle.pool_commit.specs.StateOf.{state_of, disks_in, outs_in};
-ghost use Rattle.pool_commit.specs.Writing.{PlansFrom};
+ghost use Rattle.pool_commit.specs.Writing.{IsTimed, PlansFrom};
 
 use crate::commit::Commit;
-use crate::config::config_of;
 use crate::kept::{KeptGroup, Planned};
 use crate::refusal::Refusal;
 use block_pointer::Block as RootBlock;
@@ -45,17 +44,20 @@ use model_disk::Disk;
 use std::alloc::{AllocError, Global};
 use std::sync::Arc;
 use txg_pipeline::Pending;
+use vdev_label::{Config, small_configs_fit};
 use volume_rules::{NameIndex, PartedActions, makes_good_volumes, part};
 use words::LAST_COUNT;
 
-/// Plans the first root of a pool, of which nothing is in use so far, and of which nothing can be destroyed.
+/// Plans the first root of a pool of this configuration, of which nothing is in use so far, and of which nothing can be destroyed.
 fn first_root<D: Disk + Drop>(
     store: &mut BlockStore<D>,
     alloc: Global,
+    config: &Config,
     group: u64,
     parted: &PartedActions,
     items: &Pending,
 ) -> Result<FirstRoot, block_store::Refusal>
+    requires fits { FitsTable (config_view config.now) }
     requires born { 0 < group }
     ensures steps { OnlyReadsAndPlans store.old store.new [] }
     ensures root { IfOk result (λ first. IsRoot group first.root × FitsBlock first.root) }
@@ -70,6 +72,7 @@ fn first_root<D: Disk + Drop>(
         × IsReachExchanged group planned later [] reach []
         × SpellsBy later group (Some first.root)
         (applied group no_volumes (with_made items.now parted.now)) first.directory
+        (config_view config.now)
         × LeavesMaps store.new.spaces [] later group first.root
         (applied group no_volumes (with_made items.now parted.now))) }
     ensures known { IfErr result (λ refusal. (stored planned : Contents)
@@ -77,10 +80,10 @@ fn first_root<D: Disk + Drop>(
         → AnswersAreTrue store.old store.new → AreGoodChanges parted.now.made
         → IsForRoom refusal ⊎ (refusal ≡ lost_blocks.DiskFault)) }
     ensures refused { IfErr result (IsFirstRefused store.old store.new group
-        (configs_from 100 (shapes_of store.old.spaces)) (with_made items.now parted.now)) }
+        (config_view config.now) (with_made items.now parted.now)) }
 {
-    let config = config_of(alloc, store)?;
-    first_group(store, alloc, &config, group, parted, items)
+    small_configs_fit();
+    first_group(store, alloc, config, group, parted, items)
 }
 
 /// A root that is planned, the directory under it, and the blocks that the one before led to and this one doesn't.
@@ -115,7 +118,7 @@ fn root_after<D: Disk + Drop>(
         (applied group pool items.now) reach
         × IsReachExchanged group planned later before reach next.replaced.items
         × SpellsBy later group (Some next.root) (applied group pool items.now)
-        next.directory
+        next.directory (config_view last.now.config.value)
         × LeavesMaps store.new.spaces next.replaced.items later group next.root
         (applied group pool items.now)) }
     ensures known { IfErr result (λ refusal. (stored planned : Contents) (pool : PlainPool)
@@ -125,7 +128,7 @@ fn root_after<D: Disk + Drop>(
         → GroupTakesEffect group pool items.now
         → IsForRoom refusal ⊎ (refusal ≡ lost_blocks.DiskFault)) }
     ensures refused { IfErr result (IsNextRefused store.old store.new last.now.root
-        last.now.directory.value group items.now) }
+        last.now.directory.value (config_view last.now.config.value) group items.now) }
 {
     let parted = part(alloc, items.actions())?;
     match &last.root {
@@ -146,7 +149,7 @@ fn root_after<D: Disk + Drop>(
             })
         }
         None => {
-            let first = first_root(store, alloc, group, &parted, items)?;
+            let first = first_root(store, alloc, last.config(), group, &parted, items)?;
             Ok(PlannedRoot {
                 root: first.root,
                 directory: first.directory,
@@ -195,7 +198,8 @@ struct NextGroup {
     replaced: Vec<RootBlock>,
 }
 
-/// The group after the last one: its root, which is planned, its names and its directory; and the blocks that it replaced.
+/// The group after the last one: its root, which is planned, its names, its directory and the same configuration; and the blocks that it
+/// replaced.
 fn group_after<D: Disk + Drop>(
     last: &KeptGroup,
     store: &mut BlockStore<D>,
@@ -207,6 +211,7 @@ fn group_after<D: Disk + Drop>(
     ensures steps { OnlyReadsAndPlans store.old store.new [] }
     ensures root { IfOk result (λ next. IsRoot group next.root × FitsBlock next.root) }
     ensures is_root { IfOk result (λ next. next.after.root ≡ Some next.root) }
+    ensures config { IfOk result (λ next. next.after.config.value ≡ last.now.config.value) }
     ensures value { IfOk result (λ next. (stored planned : Contents) (pool : PlainPool)
         (before : List Block)
         → Plans store.old stored planned → SpellsGroup stored (group - 1) last.now pool
@@ -227,8 +232,9 @@ fn group_after<D: Disk + Drop>(
         → GroupTakesEffect group pool items.now
         → IsForRoom refusal ⊎ (refusal ≡ lost_blocks.DiskFault)) }
     ensures refused { IfErr result (IsNextRefused store.old store.new last.now.root
-        last.now.directory.value group items.now) }
+        last.now.directory.value (config_view last.now.config.value) group items.now) }
 {
+    let config = Arc::try_clone(&last.config)?;
     let names = names_after(&last.names, alloc, group, items)?;
     let next = root_after(last, store, alloc, group, items)?;
     let directory = directory_after(&last.directory, alloc, next.directory)?;
@@ -236,6 +242,7 @@ fn group_after<D: Disk + Drop>(
         root: Some(next.root),
         names,
         directory,
+        config,
     };
     Ok(NextGroup {
         after,
@@ -287,6 +294,7 @@ impl<D: Disk + Drop> Commit<D> {
         ensures untouched { AreUntouched (outs_in self.old) (disks_in self.old)
             (disks_in self.new) }
         ensures from { PlansFrom (state_of self.old) (state_of self.new) }
+        ensures timed { IsTimed timestamp (state_of self.new) }
         ensures unplanned { OnErr result ((v : View) → Backs (state_of self.old) v
             → is_planned v.sync ≡ false → Backs (state_of self.new) v) }
         ensures dropped { OnErr result ((v : View) → Backs (state_of self.old) v

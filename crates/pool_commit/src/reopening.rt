@@ -9,8 +9,10 @@ ghost use Rattle.pool_model.specs.Pools.{PlainPool, no_volumes};
 ghost use Rattle.pool_model.specs.View.{opened_as};
 ghost use Rattle.uberblock_ring.specs.Uberblock.{IsNumber};
 ghost use Rattle.pool_commit.specs.Config.{vdevs_of};
-ghost use Rattle.pool_commit.specs.Reopened.{AreMisplaced, IsEmptyGroup, IsGroupOf, IsOfGroup};
-ghost use Rattle.pool_commit.specs.Slots.{LabelsLieAside};
+ghost use Rattle.pool_commit.specs.Reopened.{AreMisplaced, IsConfiguredUnder, IsEmptyGroup, IsGroupOf, IsOfGroup};
+ghost use Rattle.pool_commit.specs.Configs.{FitsTable};
+ghost use Rattle.pool_commit.specs.Slots.{IsStampOf, LabelsLieAside};
+ghost use Rattle.vdev_label.specs.Plain.{config_view};
 
 use crate::commit::{Commit, no_directory, no_names};
 use crate::kept::{Kept, KeptGroup};
@@ -19,37 +21,41 @@ use crate::stamp::Stamp;
 use crate::suspension::lacks_disks;
 use block_pointer::Block;
 use block_store::{BlockStore, found_in_use_are_stored};
-use dataset_snapshots::{KeptDirectory, RootContents};
+use dataset_snapshots::{KeptDirectory, RootContents, load_maps};
 use model_disk::{Disk, DiskArray};
-use pool_maps::load_maps;
 use std::alloc::{AllocError, Global};
 use std::sync::Arc;
+use vdev_label::Config;
 use volume_rules::NameIndex;
 
-/// A group with this root, of whose pool these are the directory and the names.
+/// A group with this root, of whose pool these are the directory, the names and the configuration.
 fn group_of(
     alloc: Global,
     root: Block,
     directory: KeptDirectory,
     names: NameIndex,
+    config: Arc<Config, Global>,
 ) -> Result<KeptGroup, AllocError>
-    ensures { IfOk result (IsGroupOf root directory names) }
+    ensures { IfOk result (IsGroupOf root directory names config.value) }
 {
     Ok(KeptGroup {
         root: Some(root),
         names: Arc::new(alloc, names)?,
         directory: Arc::new(alloc, directory)?,
+        config,
     })
 }
 
-/// A group with no root, no volumes and no rows.
-fn empty_group(alloc: Global) -> Result<KeptGroup, AllocError>
-    ensures { IfOk result IsEmptyGroup }
+/// A group with no root, no volumes and no rows, and this configuration.
+fn empty_group(alloc: Global, config: Arc<Config, Global>) -> Result<KeptGroup, AllocError>
+    requires table { FitsTable (config_view config.value) }
+    ensures { IfOk result (IsEmptyGroup config.value) }
 {
     Ok(KeptGroup {
         root: None,
         names: no_names(alloc)?,
         directory: no_directory(alloc)?,
+        config,
     })
 }
 
@@ -73,29 +79,38 @@ impl<D: Disk + Drop> Commit<D> {
         }
     }
 
-    /// A pool with no volumes, over a store that holds nothing, committed as that group. It has no root: the next group writes the
-    /// first one. The uberblocks of later groups get this stamp.
+    /// A pool of this configuration with no volumes, over a store that holds nothing, committed as that group. It has no root: the next
+    /// group writes the first one, with the configuration. The uberblocks of later groups get this stamp. With no memory for it the
+    /// store's disks come back.
     pub fn empty(
         alloc: Global,
         store: BlockStore<D>,
         stamp: Stamp,
         group: u64,
-    ) -> Result<Self, AllocError>
+        config: Arc<Config, Global>,
+    ) -> Result<Self, DiskArray<D>>
         requires plans { Plans store nothing_stored nothing_stored }
         requires empty { AreEmpty store.spaces }
         requires labels { LabelsLieAside store.disks.starts store.spaces }
         requires claim { IsNumber stamp.claim }
+        requires table { FitsTable (config_view config.value) }
+        requires stamped { IsStampOf (config_view config.value) stamp.claim stamp }
         ensures disks { IfOk result (λ commit. disks_in commit ≡ store.disks) }
         ensures stamp { IfOk result (λ commit. (state_of commit).stamp ≡ stamp) }
+        ensures config { IfOk result (λ commit.
+            (state_of commit).kept.last.config.value ≡ config.value) }
         ensures backs { IfOk result (λ commit. Backs (state_of commit)
             (opened_as (vdevs_of store.spaces) (is_out store.out) group no_volumes)) }
+        ensures back { IfErr result (λ disks. disks ≡ store.disks) }
     {
-        let last = empty_group(alloc)?;
-        Ok(Commit::of_group(store, stamp, group, last))
+        match empty_group(alloc, config) {
+            Ok(last) => Ok(Commit::of_group(store, stamp, group, last)),
+            Err(_) => Err(store.into_array()),
+        }
     }
 
-    /// A pool that was committed before as that group, over a store that was opened and stores no block yet. The root is that of the
-    /// group, and the contents are what was read of it. No disk is called. The uberblocks of later groups get this stamp. No group
+    /// A pool of this configuration that was committed before as that group, over a store that was opened and stores no block yet. The root
+    /// is that of the group, and the contents are what was read of it. No disk is called. The uberblocks of later groups get this stamp. No group
     /// before it is kept. What the space maps leave free is loaded, and the blocks of the meta object set are taken in; of those of
     /// the volumes nothing is asked. `BadPointer` where a map is of no metaslab of the pool, a block lies in no place of it, or two
     /// copies share a sector. After an error the store's disks come back.
@@ -106,6 +121,7 @@ impl<D: Disk + Drop> Commit<D> {
         group: u64,
         root: Block,
         contents: RootContents,
+        config: Arc<Config, Global>,
     ) -> Result<Self, (Refusal, DiskArray<D>)>
         requires plans { Plans store nothing_stored nothing_stored }
         requires empty { AreEmpty store.spaces }
@@ -114,15 +130,19 @@ impl<D: Disk + Drop> Commit<D> {
         ensures disks { IfOk result (λ commit. disks_in commit ≡ store.disks) }
         ensures stamp { IfOk result (λ commit. (state_of commit).stamp ≡ stamp) }
         ensures root { IfOk result (λ commit. (state_of commit).kept.last.root ≡ Some root) }
+        ensures config { IfOk result (λ commit.
+            (state_of commit).kept.last.config.value ≡ config.value) }
         ensures out { IfOk result (λ commit. (state_of commit).store.out ≡ store.out) }
         ensures shapes { IfOk result (λ commit.
             shapes_of (state_of commit).store.spaces ≡ shapes_of store.spaces) }
 
-        // Where the store's disks have the blocks, and the root spells a pool and has its space maps, that pool is committed as the
-        // group.
+        // Where the store's disks have the blocks, the root spells a pool, has its space maps and a configuration, and the stamp names that
+        // and this one, that pool is committed as the group.
         ensures backs { IfOk result (λ commit. (stored : Contents) (pool : PlainPool)
             → Holds store stored → AreContentsOf stored store.spaces group root pool contents
             → HasMaps store.spaces stored group (Some root) pool
+            → IsConfiguredUnder stamp stored group root pool
+            → IsStampOf (config_view config.value) stamp.claim stamp
             → Backs (state_of commit)
             (opened_as (vdevs_of store.spaces) (is_out store.out) group pool)) }
         ensures refused { IfErr result (λ failed. (failed.0 ≡ Refusal.NoMemory)
@@ -145,7 +165,7 @@ impl<D: Disk + Drop> Commit<D> {
             Ok(()) => {}
             Err(refusal) => return Err((Refusal::from(refusal), store.into_array())),
         }
-        match group_of(alloc, root, directory, names) {
+        match group_of(alloc, root, directory, names, config) {
             Ok(last) => Ok(Commit::of_group(store, stamp, group, last)),
             Err(_) => Err((Refusal::NoMemory, store.into_array())),
         }

@@ -45,6 +45,7 @@ plan_kept s planned (Some plan) v w k is = record {
   sync = k.sync ∙ is.sync;
   spells = subst (λ (p : PlainPool). SpellsGroup planned (suc w.committed) plan.after p) (sym (made_kept v w k (ap is_syncing is.sync)))
       (subst (λ c. SpellsGroup planned (suc c) plan.after (pool_after v)) (sym k.committed) is.spells);
+  config = is.config;
   uberblock = subst (λ c. IsUberblockOf s.stamp (suc c) plan) (sym k.committed) is.uberblock;
   to_flush = λ disk in_use. is.to_flush disk (subst (λ (disks : List ℕ). Contains disks disk) (in_use_kept v w k) in_use);
   shown = λ write in_use label. is.shown write (subst (λ (disks : List ℕ). Contains disks write.disk) (in_use_kept v w k) in_use) label;
@@ -66,6 +67,7 @@ backs_kept s v w k backs = record {
   slots = k.slots ∙ backs.slots;
   out = λ disk. ap (λ (o : ℕ → Bool). o disk) k.out ∙ backs.out disk;
   committed = backs.committed ∙ sym k.committed;
+  stamped = backs.stamped;
   blocks = record {
     stored = backs.blocks.stored;
     planned = backs.blocks.planned;

@@ -385,6 +385,7 @@ backs_taken s v backs none = record {
   slots = backs.slots;
   out = backs.out;
   committed = backs.committed;
+  stamped = backs.stamped;
   blocks = record {
     stored = backs.blocks.stored;
     planned = backs.blocks.planned;

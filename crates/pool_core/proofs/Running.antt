@@ -1,39 +1,20 @@
 -- A run goes on by a step, and tells what the headline says.
-use Rattle.std.proofs.Common.{◌≡◌, true, ℕ, List, [], ◌∷◌, ◌++◌, length, refl, sym, ap, ◌∙◌, subst, arith, append_assoc}
+use Rattle.std.proofs.Common.{◌≡◌, true, List, [], ◌∷◌, ◌++◌, refl, sym, ap, ◌∙◌, subst, append_assoc}
 use Rattle.std.specs.List.{AllByRecursion}
 use Rattle.std.proofs.lemmas.List.{append-nil}
-use Rattle.model_disk.specs.Joint.{Disks, JointCall, AreHonestSince}
-use Rattle.model_disk.proofs.LawLemmas.{parts_are_honest}
-use Rattle.raidz_io.specs.Reads.{IsHonestSince}
 use Rattle.pool_model.specs.declared.step.Step.{Step}
 use Rattle.pool_model.specs.declared.step.Reply.{Reply}
 use Rattle.pool_model.specs.View.{View, Given}
 use Rattle.pool_model.specs.Machine.{Run}
 use Rattle.pool_model.proofs.Whole.{headline}
 use Rattle.pool_commit.specs.Calls.{GrewTo}
-use Rattle.pool_commit.proofs.Made.{GrewTo-none, GrewTo-length}
+use Rattle.pool_commit.proofs.Growing.{GrewTo-on, true_after, true_before}
+use Rattle.pool_commit.proofs.Made.{GrewTo-none}
 use Rattle.pool_commit.proofs.Accounted.{no_room_is_lost}
 use Rattle.pool_core.specs.Runs.{Chain, RunsTo, Ran}
 use Rattle.pool_core.specs.Moves.{Moves}
 use Rattle.pool_core.specs.State.{CoreState, disks_of}
 use Rattle.pool_core.specs.Steps.{IsPlanned, Link, TakesStep}
-
-pub GrewTo-on : (old mid new : Disks) → GrewTo old mid → GrewTo mid new → GrewTo old new
-GrewTo-on old mid new first rest = record {
-  starts = rest.starts ∙ first.starts;
-  newer = rest.newer ++ first.newer;
-  calls = rest.calls ∙ ap (λ calls. rest.newer ++ calls) first.calls ∙ sym (append_assoc rest.newer first.newer old.calls);
-}
-
--- each part of what is true is true
-pub true_before : (old mid new : Disks) → GrewTo mid new → IsHonestSince old new → IsHonestSince old mid
-true_before old mid new rest honest =
-    let P : List (List ℕ) → Type 0 = λ starts. AreHonestSince (length old.calls) starts new.calls in
-    let Q : List JointCall → Type 0 = AreHonestSince (length old.calls) mid.starts in
-    parts_are_honest mid.starts (length old.calls) (length old.calls) rest.newer mid.calls (omega arith) (subst Q rest.calls (subst P rest.starts honest))
-
-pub true_after : (old mid new : Disks) → GrewTo old mid → IsHonestSince old new → IsHonestSince mid new
-true_after old mid new first honest = parts_are_honest new.starts (length old.calls) (length mid.calls) [] new.calls (GrewTo-length old mid first) honest
 
 -- ---- chains
 

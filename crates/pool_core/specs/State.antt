@@ -2,6 +2,7 @@
 use Rattle.model_disk.specs.Joint.{Disks}
 use Rattle.pool_commit.specs.State.{State}
 use Rattle.pool_intake.specs.declared.intake.Intake.{Intake}
+use Rattle.vdev_label.specs.declared.label.Config.{Config}
 
 pub record CoreState : Type 0 where
   pub intake : Intake  -- what the pool accepts
@@ -9,3 +10,7 @@ pub record CoreState : Type 0 where
 
 abbrev pub disks_of : CoreState → Disks
 disks_of s = s.commit.store.disks
+
+-- the configuration that it keeps
+abbrev pub config_of : CoreState → Config
+config_of s = s.commit.kept.last.config.value

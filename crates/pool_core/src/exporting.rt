@@ -1,7 +1,8 @@
-//! What an export of a pool asks of its core.
+//! What is told of a pool at rest, and what an export asks of its core.
 ghost use Rattle.std.specs.Prelude.{◌≡◌, length, None, IfOk, IfSome};
 ghost use Rattle.pool_commit.specs.Last.{IsLastUberblock, LacksUberblock};
 ghost use Rattle.pool_core.specs.Exporting.{IsAgainstExport, IsExportable};
+ghost use Rattle.pool_core.specs.State.{config_of};
 ghost use Rattle.pool_core.specs.StateOf.{disks_in, state_of};
 ghost use Rattle.pool_slots.specs.Slots.{HaveLabels};
 
@@ -10,6 +11,7 @@ use model_disk::Disk;
 use pool_model::Refusal;
 use std::alloc::{AllocError, Global};
 use uberblock_ring::Uberblock;
+use vdev_label::Config;
 
 impl<D: Disk + Drop> Core<D> {
     /// Why the pool is not exported now, if it isn't: `Suspended`, or `NotNow` while a group is synced or waits, or the open one has
@@ -34,6 +36,13 @@ impl<D: Disk + Drop> Core<D> {
         ensures none { result ≡ None → LacksUberblock (state_of self.now).commit }
     {
         self.commit.last_uberblock()
+    }
+
+    /// The configuration of the pool, which the object set of each of its groups has.
+    pub fn config(&self) -> &Config
+        ensures { result.now ≡ config_of (state_of self.now) }
+    {
+        self.commit.config()
     }
 
     /// Of each disk, whether it is out.

@@ -8,8 +8,10 @@ mod pool;
 mod reading;
 mod reopening;
 mod runs;
+mod shared;
 mod syncing;
 
 pub use pool::Core;
+pub use pool_commit::{RootContents, Stamp, contents_under, labels_of_opened_lie};
 pub use pool_model::{Action, Bytes, Change, Name, Phase, Refusal, Reply, Step, Write};
 pub use runs::run;

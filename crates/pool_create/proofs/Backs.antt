@@ -8,7 +8,7 @@ use Rattle.block_store.specs.Elsewhere.{WritesElsewhereKeep}
 use Rattle.model_disk.specs.Joint.{Disks}
 use Rattle.model_disk.specs.Runs.{Makes, no_write}
 use Rattle.model_disk.proofs.RunLemmas.{Makes-none}
-use Rattle.pool_core.specs.State.{CoreState, disks_of}
+use Rattle.pool_open.specs.CoreState.{CoreState, config_of, disks_of}
 use Rattle.pool_model.specs.declared.volume.PlainVolume.{PlainVolume}
 use Rattle.pool_model.specs.Pools.{no_volumes, volume_at}
 use Rattle.pool_open.specs.Causes.{of_root, of_slots}
@@ -22,7 +22,10 @@ use Rattle.pool_open.proofs.Representing.{CoreRepresents, held_behind_reads}
 use Rattle.pool_open.proofs.Through.{block_reads_made, honest_within, surveyed_still}
 use Rattle.pool_slots.specs.Failures.{HasFailedOn}
 use Rattle.pool_slots.specs.Present.{GoOut, IsNoFault}
+use Rattle.pool_open.specs.Slots.{IsStampOf}
 use Rattle.pool_slots.specs.Slots.{InUse}
+use Rattle.vdev_label.specs.Plain.{config_view}
+use Rattle.vdev_label.specs.declared.label.Config.{Config}
 use Rattle.pool_slots.specs.Surveys.{SurveyRefuses}
 use Rattle.pool_slots.specs.declared.refusal.Refusal.{Refusal as SlotsRefusal}
 use Rattle.pool_slots.proofs.Phases.{both_made}
@@ -112,6 +115,7 @@ pub record IsCoreOf (read : Disks) (it : NewPool) (u : Uberblock) (contents : Ro
   pub root_is : core.commit.kept.last.root ≡ Some u.root
   pub outs : core.commit.store.out ≡ it.out.items
   pub vdevs : shapes_of core.commit.store.spaces ≡ it.shapes.items
+  pub config : config_of core ≡ it.config.value
   pub represents : CoreRepresents read it.shapes.items it.out.items u contents core
 
 both_read : (old surveyed read : Disks) (it : NewPool) (root : Block) (u : Uberblock) (contents : RootContents) → AreRead old surveyed read it root u contents → Makes no_write old read
@@ -135,19 +139,20 @@ back_of keep old surveyed read it root u contents core are made =
       root_is = made.root_is;
       outs = made.outs;
       vdevs = made.vdevs;
-      represents = λ stored hold spells honest.
+      config = made.config;
+      represents = λ stored hold spells configured named honest.
           let honest_read = subst (λ (d : Disks). IsHonestSince old d) made.disks honest in
           let within = honest_within no_write old surveyed read read are.only (Makes-none no_write read) honest_read in
           at stored no_volumes (held_behind_reads keep old read shapes out out stored are.laid both hold)
-          (are.contents_are.are stored no_volumes (held_behind_reads keep old surveyed shapes out out stored are.laid are.only hold) spells.0 within) spells (none_made_by 3);
+          (are.contents_are.are stored no_volumes (held_behind_reads keep old surveyed shapes out out stored are.laid are.only hold) spells.0 within) spells (none_made_by 3)
+          configured (subst (λ (kept : Config). IsStampOf (config_view kept) it.stamp.claim it.stamp) (sym made.config) named);
     }
 
 -- ---- there is none
 
 pub unread_root : (old surveyed new : Disks) (it : NewPool) (root : Block) (cause : RootRefusal) → Makes no_write old surveyed → IsFirstTaken old surveyed it root
-    → IsRootNotRead surveyed new it.shapes.items it.out.items 3 root (2 ^ 64 - 1) cause → IsUnread old it root (of_root cause)
+    → IsRootNotRead surveyed new it.shapes.items it.out.items 3 root (2 ^ 64 - 1) cause → IsUnread old it root new (of_root cause)
 unread_root old surveyed new it root cause only taken unread = (
-  new,
   both_made no_write old surveyed new only (block_reads_made surveyed new unread.only.only),
   elim unread.why [
     | inl memory ↦ inl (ap of_root memory)
@@ -156,9 +161,8 @@ unread_root old surveyed new it root cause only taken unread = (
 )
 
 pub unread_core : (old surveyed read : Disks) (it : NewPool) (root : Block) (u : Uberblock) (contents : RootContents) (refusal : Refusal) → AreRead old surveyed read it root u contents
-    → (refusal ≡ NoMemory) ⊎ ((refusal ≡ BadPointer) × AreMisplacedOver read it.shapes.items it.out.items contents) → IsUnread old it root refusal
+    → (refusal ≡ NoMemory) ⊎ ((refusal ≡ BadPointer) × AreMisplacedOver read it.shapes.items it.out.items contents) → IsUnread old it root read refusal
 unread_core old surveyed read it root u contents refusal are why = (
-  read,
   both_read old surveyed read it root u contents are,
   elim why [
     | inl memory ↦ inl memory

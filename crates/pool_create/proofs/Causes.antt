@@ -1,20 +1,14 @@
 -- Why a stage is refused.
-use Rattle.std.proofs.Common.{◌≡◌, ◌⊎◌, inl, inr, ℕ, refl, ap}
-use Rattle.block_store.specs.declared.refusal.Refusal.{Refusal as StoreRefusal}
+use Rattle.std.proofs.Common.{◌≡◌, ◌⊎◌, inl, inr, ℕ, refl}
 use Rattle.block_store.specs.declared.refusal.Refusal.TheVariants as store
 use Rattle.model_disk.specs.Joint.{Disks}
 use Rattle.pool_format.specs.Blank.{HasCause}
 use Rattle.pool_format.specs.Faults.{FailedOn, is_fault}
 use Rattle.pool_format.specs.declared.refusal.Refusal.{Refusal as FormatRefusal}
 use Rattle.pool_format.specs.declared.refusal.Refusal.TheVariants as format
-use Rattle.pool_open.specs.Causes.{of_format, of_store}
+use Rattle.pool_open.specs.Causes.{of_format}
 use Rattle.pool_open.specs.declared.refusal.Refusal.TheVariants.{NoMemory, DiskFault, BadConfig}
 use Rattle.pool_slots.specs.Failures.{HasFailedOn}
-
--- a store can't be opened
-pub of_store_fits : (cause : StoreRefusal) (P : Type 0) → (cause ≡ store.NoMemory) ⊎ ((cause ≡ store.BadConfig) × P) → (of_store cause ≡ NoMemory) ⊎ ((of_store cause ≡ BadConfig) × P)
-of_store_fits cause P (inl memory) = inl (ap of_store memory)
-of_store_fits cause P (inr it) = inr (ap of_store it.0, it.1)
 
 -- disks can't be read
 pub of_blank : (old new : Disks) (cause : FormatRefusal) (P : Type 0) → HasCause old new cause

@@ -1,6 +1,7 @@
 -- What a run of the first steps leaves.
 use Rattle.std.proofs.Common.{◌≡◌, ℕ, zero, suc, ◌+◌, ◌++◌, ◌==◌, Bool, true, false, List, [], ◌∷◌, length, Some, None, Option, refl, sym, ap, ◌∙◌, subst, arith, if◌then◌else◌}
-use Rattle.std.specs.Prelude.{replicate}
+use Rattle.std.specs.Prelude.{replicate, IsTrue}
+use Rattle.std.specs.List.{list_any}
 use Rattle.block_pointer.specs.declared.block.Block.{Block}
 use Rattle.block_store.specs.Blocks.{Contents}
 use Rattle.block_store.specs.Places.{shapes_of}
@@ -9,14 +10,19 @@ use Rattle.block_store.specs.Store.{is_out}
 use Rattle.block_store.specs.declared.shape.VdevShape.{VdevShape}
 use Rattle.model_disk.specs.Joint.{Disks}
 use Rattle.pool_open.specs.Opening.{SpellsWithMaps}
-use Rattle.pool_commit.proofs.Mapping.{its_maps_over}
-use Rattle.pool_commit.specs.Backs.{HasMaps, KeptHasMaps, SpellsKept, kept_pool}
-use Rattle.pool_commit.specs.Calls.{GrewTo}
-use Rattle.pool_commit.specs.State.{NoneIsOut, group_at}
-use Rattle.pool_commit.specs.declared.kept.Kept.{Kept}
-use Rattle.pool_commit.specs.declared.kept.KeptGroup.{KeptGroup}
-use Rattle.pool_core.specs.State.{CoreState, disks_of}
-use Rattle.pool_core.specs.Runs.{PlansAreTrusted}
+use Rattle.pool_open.proofs.CommitMapping.{its_maps_over}
+use Rattle.pool_open.specs.Backs.{HasMaps, KeptHasMaps, SpellsKept, kept_pool}
+use Rattle.pool_open.specs.Calls.{GrewTo}
+use Rattle.pool_open.specs.Directories.{SpellsBy}
+use Rattle.pool_open.specs.Reopened.{IsConfiguredUnder}
+use Rattle.pool_open.specs.Slots.{IsStampOf}
+use Rattle.pool_open.specs.Stamp.{Stamp}
+use Rattle.vdev_label.specs.Plain.{config_view}
+use Rattle.pool_open.specs.CommitState.{NoneIsOut, group_at}
+use Rattle.pool_open.specs.Kept.{Kept}
+use Rattle.pool_open.specs.KeptGroup.{KeptGroup}
+use Rattle.pool_open.specs.CoreState.{CoreState, disks_of}
+use Rattle.pool_open.specs.CoreRuns.{PlansAreTrusted}
 use Rattle.pool_model.specs.Accepted.{Accepted, accepted, ledger_with}
 use Rattle.pool_model.specs.Groups.{commits}
 use Rattle.pool_model.specs.Pools.{Entry, PlainPool, applied, no_items, no_volumes}
@@ -25,12 +31,16 @@ use Rattle.pool_model.specs.declared.step.Reply.{Reply}
 use Rattle.pool_model.specs.declared.step.Step.{Step}
 use Rattle.pool_model.specs.declared.step.Step.TheVariants.{Close, Quiesce, Plan, Device}
 use Rattle.pool_open.proofs.Holding.{held_whole}
+use Rattle.pool_open.specs.declared.refusal.Refusal.{Refusal}
+use Rattle.pool_open.specs.declared.refusal.Refusal.TheVariants.{NoMemory, DiskFault, NoSpace, BadConfig}
+use Rattle.pool_slots.specs.Failures.{HasFailedOn}
 use Rattle.pool_slots.specs.Opens.{AreKnown}
 use Rattle.raidz_io.specs.Reads.{IsHonestSince}
-use Rattle.pool_create.specs.FirstGroup.{AreFirstSteps, HasFirstGroup, IsCommitted, IsDone, IsInFront, KeepsKnown, SpellsNone, in_front}
+use Rattle.pool_create.specs.FirstGroup.{AreFirstSteps, AreStepsWith, HasFaultIfTrue, HasFirstGroup, IsCommitted, IsDone, IsInFront, IsUnfinished, KeepsKnown, LacksFirstGroup, SpellsNone, in_front, says_no_memory, says_no_space}
 use Rattle.pool_create.specs.Planning.{none_out}
 use Rattle.pool_create.specs.declared.planning.NewPool.{NewPool}
-use Rattle.pool_create.proofs.Known.{chain_known}
+use Rattle.pool_create.proofs.Known.{chain_fails, chain_known}
+use Rattle.pool_create.proofs.Stamped.{chain_stamp}
 
 -- ---- no item is accepted
 
@@ -47,7 +57,7 @@ none_by_first n (a ∷ b ∷ []) = refl
 none_by_first n (a ∷ b ∷ c ∷ replies) = none_by_device n replies
 
 none_accepted : (steps : List Step) (replies : List Reply) → AreFirstSteps steps → accepted steps replies ≡ []
-none_accepted steps replies are = ap (λ (them : List Step). accepted them replies) are.1 ∙ none_by_first are.0 replies
+none_accepted steps replies are = ap (λ (them : List Step). accepted them replies) are.2 ∙ none_by_first are.0 replies
 
 all_trusted : (replies : List Reply) → PlansAreTrusted true replies
 all_trusted [] = tt
@@ -58,11 +68,11 @@ devices_more zero = refl
 devices_more (suc n) = ap (λ (steps : List Step). Device ∷ steps) (devices_more n)
 
 -- one step more
-pub steps_more : (steps later : List Step) → AreFirstSteps steps → later ≡ steps ++ Device ∷ [] → AreFirstSteps later
-steps_more steps later are more = (
-  suc are.0,
-  more ∙ ap (λ (them : List Step). them ++ Device ∷ []) are.1 ∙ ap (λ (them : List Step). Close ∷ Quiesce ∷ Plan 0 ∷ them) (devices_more are.0),
-)
+pub steps_more : (count : ℕ) (steps later : List Step) → AreStepsWith count steps → later ≡ steps ++ Device ∷ [] → AreStepsWith (count + 1) later
+steps_more count steps later are more =
+    let next : suc count ≡ count + 1 = omega arith in
+    more ∙ ap (λ (them : List Step). them ++ Device ∷ []) are ∙ ap (λ (them : List Step). Close ∷ Quiesce ∷ Plan 0 ∷ them) (devices_more count)
+    ∙ ap (λ (n : ℕ). Close ∷ Quiesce ∷ Plan 0 ∷ replicate n Device) next
 
 -- ---- no disk is out
 
@@ -93,6 +103,18 @@ mapped_root spaces shapes stored group root b pool is none same maps =
     subst (λ (p : PlainPool). HasMaps spaces stored group (Some b) p) none (subst (λ (r : Option Block). HasMaps spaces stored group r pool) is maps) in
     (has.0, λ after shapes_are. its_maps_over spaces after stored group b no_volumes has.0 (shapes_are ∙ sym same) has.1)
 
+-- the configuration that uberblocks of this stamp name stands under it
+configured_if : (stored : Contents) (group : ℕ) (last : KeptGroup) (kept : Bool) (pool : PlainPool) (b : Block) (stamp : Stamp)
+    → SpellsKept stored group (Some last) (if kept then Some pool else None) → last.root ≡ Some b → pool ≡ no_volumes
+    → IsStampOf (config_view last.config.value) stamp.claim stamp → IsConfiguredUnder stamp stored group b no_volumes
+configured_if stored group last true pool b stamp it is none stamped =
+    let by : SpellsBy stored group (Some b) no_volumes last.directory.value (config_view last.config.value) =
+    subst (λ (p : PlainPool). SpellsBy stored group (Some b) p last.directory.value (config_view last.config.value)) none
+    (subst (λ (r : Option Block). SpellsBy stored group r pool last.directory.value (config_view last.config.value)) is it.directory) in
+    let (its, has, alike) = by.2 in
+    (by.0, its, has, record { claim_is = refl; guids = stamped.guids ∙ sym alike.guids; digest = stamped.digest ∙ sym alike.digest })
+configured_if stored group last false pool b stamp it is none stamped = absurd it
+
 pub spells_none : (old : Disks) (it : NewPool) (before after : CoreState) (root : Block) → it.out.items ≡ none_out (length old.starts) → IsInFront old it before → IsCommitted it before after root
     → SpellsNone old it (disks_of after) root
 spells_none old it before after root none in_front_of done honest =
@@ -112,6 +134,8 @@ spells_none old it before after root none in_front_of done honest =
     let blocks = backs.blocks in
     let kept = after.commit.kept in
     let at = last_at kept 3 (backs.committed ∙ committed) in
+    let stamp : after.commit.stamp ≡ it.stamp =
+    chain_stamp before (in_front it) ran.steps (all.0).givens replies after w (all.0).chain ∙ in_front_of.stamp_is in
     let spaces = after.commit.store.spaces in
     let maps = mapped_if spaces blocks.stored 3 kept.last (is_kept w 3) (w.pools 3)
     (subst (λ (g : Option KeptGroup). SpellsKept blocks.stored 3 g (kept_pool w 3)) at (blocks.kept 3))
@@ -120,6 +144,9 @@ spells_none old it before after root none in_front_of done honest =
       λ store over. held_whole after.commit.store store blocks.stored over.disks_are (over.shapes_are ∙ sym done.done.2) done.done.1
           (λ disk. none_marked_in store.out (length old.starts) disk (over.out_is ∙ none)) blocks.plans.held,
       mapped_root spaces it.shapes.items blocks.stored 3 kept.last.root root (w.pools 3) done.root_is pool done.done.2 maps,
+      subst (λ (stamp : Stamp). IsConfiguredUnder stamp blocks.stored 3 root no_volumes) stamp
+          (configured_if blocks.stored 3 kept.last (is_kept w 3) (w.pools 3) root after.commit.stamp
+          (subst (λ (g : Option KeptGroup). SpellsKept blocks.stored 3 g (kept_pool w 3)) at (blocks.kept 3)) done.root_is pool (backs.stamped 3 kept.last at)),
     )
 
 -- and no byte of the disks is lost
@@ -146,6 +173,69 @@ first_of old it before after root new none in_front_of done same =
       known = subst (λ (d : Disks). KeepsKnown old it d) (sym same) known;
       spells = subst (λ (d : Disks). SpellsNone old it d root) (sym same) spells;
     }
+
+-- ---- the group isn't committed
+
+-- what it is put down to
+abbrev cause_by : Bool → Bool → Bool → Refusal
+cause_by space memory whole = if space then NoSpace else (if memory then NoMemory else (if whole then NoMemory else DiskFault))
+
+disks_out : (space memory whole : Bool) → cause_by space memory whole ≡ DiskFault → whole ≡ false
+disks_out true memory whole is = absurd (let clash : NoSpace ≡ DiskFault = is in cc)
+disks_out false true whole is = absurd (let clash : NoMemory ≡ DiskFault = is in cc)
+disks_out false false true is = absurd (let clash : NoMemory ≡ DiskFault = is in cc)
+disks_out false false false is = refl
+
+no_config : (space memory whole : Bool) → ¬ (cause_by space memory whole ≡ BadConfig)
+no_config true memory whole is = absurd (let clash : NoSpace ≡ BadConfig = is in cc)
+no_config false true whole is = absurd (let clash : NoMemory ≡ BadConfig = is in cc)
+no_config false false true is = absurd (let clash : NoMemory ≡ BadConfig = is in cc)
+no_config false false false is = absurd (let clash : DiskFault ≡ BadConfig = is in cc)
+
+pub unfinished_otherwise : (it : NewPool) (before after : CoreState) (refusal : Refusal) → IsUnfinished it before after refusal → ¬ (refusal ≡ BadConfig)
+unfinished_otherwise it before after refusal why is =
+    no_config (list_any says_no_space why.replies) (list_any says_no_memory why.replies) why.whole (sym why.cause_is ∙ is)
+
+none_first : (out : List Bool) → ((disk : ℕ) → is_out out disk ≡ false) → (disk : ℕ) → is_out (false ∷ out) disk ≡ false
+none_first out none zero = refl
+none_first out none (suc disk) = none disk
+
+-- one of these disks is out
+some_out : (out : List Bool) → ¬ ((disk : ℕ) → is_out out disk ≡ false) → (disk : ℕ) × (is_out out disk ≡ true)
+some_out [] not = absurd (not (λ disk. refl))
+some_out (true ∷ out) not = (0, refl)
+some_out (false ∷ out) not =
+    let rest = some_out out (λ none. not (λ disk. none_first out none disk)) in
+    (suc rest.0, rest.1)
+
+not_whole : (whole : Bool) → whole ≡ false → ¬ IsTrue whole
+not_whole whole is holds = absurd (let clash : true ≡ false = sym holds ∙ is in cc)
+
+-- a call on it failed
+pub fails_first : (old : Disks) (it : NewPool) (before after : CoreState) (refusal : Refusal) → it.out.items ≡ none_out (length old.starts) → IsInFront old it before
+    → IsUnfinished it before after refusal → refusal ≡ DiskFault → HasFaultIfTrue old (disks_of after)
+fails_first old it before after refusal none in_front_of why is honest =
+    let ran = why.ran in
+    let here : IsHonestSince (disks_of before) (disks_of after) = subst (λ (d : Disks). IsHonestSince d (disks_of after)) (sym in_front_of.disks_are) honest in
+    let replies = ran.ran.0 in
+    let all = ran.ran.3 (in_front it) true in_front_of.represents (λ e. here) (all_trusted replies) in
+    let links = all.0 in
+    let lost : why.whole ≡ false = disks_out (list_any says_no_space why.replies) (list_any says_no_memory why.replies) why.whole (sym why.cause_is ∙ is) in
+    let out = some_out after.commit.store.out (λ whole. not_whole why.whole lost (why.is_whole.1 whole)) in
+    subst (λ (d : Disks). (which : ℕ) × HasFailedOn d (disks_of after) which) in_front_of.disks_are
+    (chain_fails before (in_front it) ran.steps links.givens replies after links.after (in_front it).out links.after.out links.chain all.2.outs
+    (λ disk. none_marked_in it.out.items (length old.starts) disk none) out.0 (links.represents.backs.out out.0 ∙ out.1))
+
+pub lacks_of : (old : Disks) (it : NewPool) (before after : CoreState) (new : Disks) (refusal : Refusal) → it.out.items ≡ none_out (length old.starts) → IsInFront old it before
+    → IsUnfinished it before after refusal → new ≡ disks_of after → LacksFirstGroup old it new refusal
+lacks_of old it before after new refusal none in_front_of why same = record {
+  before = before;
+  in_front_of = in_front_of;
+  after = after;
+  why = why;
+  disks_are = same;
+  failed = λ is. subst (λ (d : Disks). HasFaultIfTrue old d) (sym same) (fails_first old it before after refusal none in_front_of why is);
+}
 
 -- ---- what the code knows of it
 

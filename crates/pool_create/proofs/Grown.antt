@@ -4,7 +4,7 @@ use Rattle.std.proofs.lemmas.List.Elements.{All-nil, All-cons}
 use Rattle.model_disk.specs.Call.{Call, Read, FailedRead, Wrote, FailedWrite, Flushed, FailedFlush, is_failed}
 use Rattle.model_disk.specs.Joint.{Disks, JointCall, failed_since}
 use Rattle.model_disk.specs.Runs.{Makes, WritesOnly}
-use Rattle.pool_commit.specs.Calls.{GrewTo}
+use Rattle.pool_open.specs.Calls.{GrewTo}
 use Rattle.pool_slots.specs.Failures.{HasFailedOn}
 use Rattle.pool_slots.proofs.Among.{later_in}
 use Rattle.pool_slots.proofs.Failing.{fails_later}

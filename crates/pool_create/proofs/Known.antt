@@ -6,10 +6,10 @@ use Rattle.std.proofs.lemmas.List.{length-append}
 use Rattle.model_disk.specs.Call.{Call, Read, FailedRead, Wrote, FailedWrite, Flushed, FailedFlush, is_failed}
 use Rattle.model_disk.specs.Contents.{byte_at, covers}
 use Rattle.model_disk.specs.Joint.{Disks, JointCall, bytes_of, calls_on, failed_since}
-use Rattle.pool_commit.specs.Calls.{GrewTo, disk_call, DiskCall, fault_call, faults_between, told_since}
-use Rattle.pool_commit.specs.Progress.{fault_list}
-use Rattle.pool_core.specs.Runs.{Chain}
-use Rattle.pool_core.specs.State.{CoreState, disks_of}
+use Rattle.pool_open.specs.Calls.{GrewTo, disk_call, DiskCall, fault_call, faults_between, told_since}
+use Rattle.pool_open.specs.Progress.{fault_list}
+use Rattle.pool_open.specs.CoreRuns.{Chain}
+use Rattle.pool_open.specs.CoreState.{CoreState, disks_of}
 use Rattle.pool_model.specs.Headline.{OutsBy, OutsMove}
 use Rattle.pool_model.specs.Machine.{IsQuiet, MayCall, StepOf}
 use Rattle.pool_model.specs.View.{DueCall, Given, View, is_fault_on}
@@ -19,6 +19,9 @@ use Rattle.pool_model.specs.declared.step.Step.TheVariants.{Hold, Write, Act, Re
 use Rattle.pool_slots.specs.Failures.{HasFailedOn}
 use Rattle.pool_slots.specs.Opens.{AreKnown}
 use Rattle.pool_slots.proofs.Among.{first_in}
+use Rattle.pool_open.proofs.CommitGrowing.{GrewTo-on}
+use Rattle.pool_open.proofs.CommitMade.{GrewTo-none}
+use Rattle.pool_create.proofs.Grown.{fails_in}
 
 -- ---- one call
 
@@ -187,3 +190,62 @@ chain_known marked old v (step ∷ steps) (given ∷ givens) (reply ∷ replies)
     sym chain.3.is_given.fault ∙ ap (λ (fault : Option DueCall). map disk_call (fault_list fault)) here.1 in
     (here.0, λ known. rest.1 (known_by marked (disks_of old) (disks_of chain.0) chain.2 well known))
 chain_known marked old v steps givens replies new w out after chain outs none = absurd chain
+
+-- ---- runs of the machine in which a disk goes out
+
+some_failed : (newer old : List JointCall) (failed : List ℕ) → failed_since (length old) (newer ++ old) ≡ failed → ¬ (told_since fault_call (length old) (newer ++ old) ≡ [])
+    → (disk : ℕ) × Contains (failed_since (length old) (newer ++ old)) disk
+some_failed newer old [] is not =
+    absurd (not (none_told newer old (λ disk it. let none : Contains [] disk = subst (λ (them : List ℕ). Contains them disk) is it in absurd (omega (arith, none.1)))))
+some_failed newer old (disk ∷ failed) is not = (disk, subst (λ (them : List ℕ). Contains them disk) (sym is) (first_in disk failed))
+
+faults_fail : (old new : Disks) → GrewTo old new → ¬ (faults_between old new ≡ []) → (disk : ℕ) × HasFailedOn old new disk
+faults_fail old new grew not =
+    let F : List JointCall → Type 0 = λ calls. (disk : ℕ) × Contains (failed_since (length old.calls) calls) disk in
+    subst F (sym grew.calls) (some_failed grew.newer old.calls (failed_since (length old.calls) (grew.newer ++ old.calls)) refl
+    (λ none. not (ap (told_since fault_call (length old.calls)) grew.calls ∙ none)))
+
+-- where no call fails no disk goes out
+out_still : (given : Given) (step : Step) (out mid : ℕ → Bool) → given.fault ≡ None → OutsBy out step given mid → ((disk : ℕ) → out disk ≡ false) → (disk : ℕ) → mid disk ≡ false
+out_still given (Hold x) out mid well outs none disk = outs disk ∙ none disk
+out_still given (Write x) out mid well outs none disk = outs disk ∙ none disk
+out_still given (Act x) out mid well outs none disk = outs disk ∙ none disk
+out_still given (Release x) out mid well outs none disk = outs disk ∙ none disk
+out_still given Close out mid well outs none disk = outs disk ∙ none disk
+out_still given Quiesce out mid well outs none disk = outs disk ∙ none disk
+out_still given (Plan x) out mid well outs none disk = outs disk ∙ none disk
+out_still given Device out mid well outs none disk = outs disk ∙ ap (λ (fault : Option DueCall). is_fault_on fault disk || out disk) well ∙ none disk
+out_still given (ReadStep x y z) out mid well outs none disk = outs disk ∙ none disk
+out_still given (ReadUnder n x y z) out mid well outs none disk = outs disk ∙ none disk
+
+cons_not_nil : {X : Type 0} (x : X) (xs : List X) → x ∷ xs ≡ [] → ⊥
+cons_not_nil x xs is = cc
+
+fault_or_none : (fault : Option DueCall) → (fault ≡ None) ⊎ ((call : DueCall) × (fault ≡ Some call))
+fault_or_none None = inl refl
+fault_or_none (Some call) = inr (call, refl)
+
+chain_grew : (old : CoreState) (v : View) (steps : List Step) (givens : List Given) (replies : List Reply) (new : CoreState) (w : View) → Chain old v steps givens replies new w
+    → GrewTo (disks_of old) (disks_of new)
+chain_grew old v [] [] [] new w chain = subst (λ (s : CoreState). GrewTo (disks_of old) (disks_of s)) chain.0 (GrewTo-none (disks_of old))
+chain_grew old v (step ∷ steps) (given ∷ givens) (reply ∷ replies) new w chain =
+    GrewTo-on (disks_of old) (disks_of chain.0) (disks_of new) chain.2 (chain_grew chain.0 chain.1 steps givens replies new w chain.5)
+chain_grew old v steps givens replies new w chain = absurd chain
+
+-- so a call failed where one goes out
+pub chain_fails : (old : CoreState) (v : View) (steps : List Step) (givens : List Given) (replies : List Reply) (new : CoreState) (w : View) (out after : ℕ → Bool)
+    → Chain old v steps givens replies new w → OutsMove out steps givens after → ((disk : ℕ) → out disk ≡ false) → (which : ℕ) → after which ≡ true
+    → (disk : ℕ) × HasFailedOn (disks_of old) (disks_of new) disk
+chain_fails old v [] [] [] new w out after chain outs none which is = absurd (let clash : true ≡ false = sym is ∙ outs which ∙ none which in cc)
+chain_fails old v (step ∷ steps) (given ∷ givens) (reply ∷ replies) new w out after chain outs none which is =
+    elim (fault_or_none given.fault) [
+      | inl well ↦
+          let rest = chain_fails chain.0 chain.1 steps givens replies new w outs.0 after chain.5 outs.2 (out_still given step out outs.0 well outs.1 none) which is in
+          (rest.0, fails_in (disks_of old) (disks_of chain.0) (disks_of new) (disks_of new) rest.0 chain.2 (GrewTo-none (disks_of new)) rest.1)
+      | inr fails ↦
+          let told : disk_call fails.0 ∷ [] ≡ faults_between (disks_of old) (disks_of chain.0) =
+          ap (λ (fault : Option DueCall). map disk_call (fault_list fault)) (sym fails.1) ∙ chain.3.is_given.fault in
+          let here = faults_fail (disks_of old) (disks_of chain.0) chain.2 (λ none. cons_not_nil (disk_call fails.0) [] (told ∙ none)) in
+          (here.0, fails_in (disks_of old) (disks_of old) (disks_of chain.0) (disks_of new) here.0 (GrewTo-none (disks_of old)) (chain_grew chain.0 chain.1 steps givens replies new w chain.5) here.1)
+    ]
+chain_fails old v steps givens replies new w out after chain outs none which is = absurd chain

@@ -13,7 +13,7 @@ use Rattle.model_disk.specs.Joint.{Disks, bytes_of, content}
 use Rattle.model_disk.specs.Runs.{IsOff, Makes, no_write}
 use Rattle.model_disk.proofs.ContentsLemmas.{covers-outside}
 use Rattle.model_disk.proofs.RunLemmas.{off_content}
-use Rattle.pool_commit.specs.Slots.{LabelsLieAside}
+use Rattle.pool_open.specs.Slots.{LabelsLieAside}
 use Rattle.pool_format.specs.Labels.{AreLabeled, IsLabelWrite, children_of, label_of, labels_of}
 use Rattle.pool_format.specs.declared.labeling.PoolIdentity.{PoolIdentity}
 use Rattle.pool_open.specs.Held.{HoldOver, IsLaidOver}

@@ -7,11 +7,11 @@ use Rattle.block_store.specs.Opened.{MayBeOpened}
 use Rattle.block_store.specs.Store.{is_out}
 use Rattle.model_disk.specs.Joint.{Disks}
 use Rattle.model_disk.specs.Runs.{AreSettled, Makes, no_write}
-use Rattle.model_disk.proofs.RunLemmas.{AreSettled-kept}
-use Rattle.pool_commit.specs.Calls.{GrewTo}
-use Rattle.pool_core.specs.Represents.{Represents}
-use Rattle.pool_core.specs.State.{CoreState, disks_of}
-use Rattle.pool_core.proofs.Running.{GrewTo-on, true_after, true_before}
+use Rattle.model_disk.proofs.RunLemmas.{AreSettled-kept, Makes-none}
+use Rattle.pool_open.specs.Calls.{GrewTo}
+use Rattle.pool_open.specs.Represents.{Represents}
+use Rattle.pool_open.specs.CoreState.{CoreState, disks_of}
+use Rattle.pool_open.proofs.CommitGrowing.{GrewTo-on, true_after, true_before}
 use Rattle.pool_format.specs.Blank.{TellsBlank}
 use Rattle.pool_format.specs.Labels.{AreLabeled, IsLabelWrite, children_of, labels_of}
 use Rattle.pool_format.specs.declared.labeling.PoolIdentity.{PoolIdentity}
@@ -20,27 +20,30 @@ use Rattle.pool_model.specs.View.{opened_as}
 use Rattle.pool_open.specs.Held.{IsLaidOver}
 use Rattle.pool_open.specs.Words.{vdevs_in}
 use Rattle.pool_open.specs.declared.refusal.Refusal.{Refusal}
-use Rattle.pool_open.specs.declared.refusal.Refusal.TheVariants.{NoMemory, DiskFault, BadConfig}
+use Rattle.pool_open.specs.declared.refusal.Refusal.TheVariants.{NoMemory, DiskFault, NoSpace, BadLabel, NoUberblock, BadPointer, BadDigest, TooManyMissing, PoolMismatch, BadConfig, BadMap}
 use Rattle.pool_slots.specs.Failures.{HasFailedOn}
 use Rattle.pool_slots.specs.Opens.{AreKnown, IsHighestShown}
+use Rattle.pool_open.specs.Slots.{IsStampOf}
 use Rattle.pool_slots.specs.Slots.{HaveLabels}
+use Rattle.vdev_label.specs.Plain.{PlainVdev}
 use Rattle.pool_slots.proofs.Finding.{known_later}
 use Rattle.raidz_io.specs.Reads.{IsHonestSince}
 use Rattle.uberblock_ring.specs.declared.uberblock.Uberblock.{Uberblock}
 use Rattle.vdev_label.specs.Plain.{config_view}
 use Rattle.vdev_label.specs.declared.label.Config.{Config}
-use Rattle.pool_create.specs.Creating.{CreateRefuses, HasFault, IsCreated, IsFirst, IsShownAlone, IsShownAloneSince, IsShownSince}
+use Rattle.pool_create.specs.Creating.{CreateRefuses, IsCreated, IsFirst, IsShownAlone, IsShownAloneSince, IsShownSince}
 use Rattle.pool_create.specs.FirstGroup.{HasFirstGroup, LacksFirstGroup}
 use Rattle.pool_create.specs.Planning.{IsAllowedPool, IsNewPool, nobody, none_out}
-use Rattle.pool_create.specs.ReadingBack.{IsReadBack, IsUnread, first_uberblock}
+use Rattle.pool_create.specs.ReadingBack.{IsReadBack, IsUnread, first_uberblock, of_read}
 use Rattle.pool_create.specs.Stages.{IsFit, IsLaid, IsMade, IsUnfit, IsUnmade}
 use Rattle.pool_create.specs.declared.planning.NewPool.{NewPool}
 use Rattle.pool_create.proofs.Fitting.{may_be_made, may_not_be_made, some_children}
 use Rattle.pool_create.proofs.Grown.{fails_in, made_grew}
+use Rattle.pool_create.proofs.FirstGroup.{unfinished_otherwise}
 use Rattle.pool_create.proofs.Known.{known_unfailed}
 use Rattle.pool_create.proofs.Showing.{alone_fits, alone_shown, taken_shown}
 use Rattle.pool_create.proofs.Labels.{held_behind_labels, labeled_later, laid_later}
-use Rattle.pool_commit.proofs.Made.{GrewTo-none}
+use Rattle.pool_open.proofs.CommitMade.{GrewTo-none}
 
 -- ---- disks that the pool fits
 
@@ -64,14 +67,24 @@ fit_of old new it may labels laid only tells = record {
 
 -- the disks show a pool, or can't be read
 pub unfit_of : (old new : Disks) (it : NewPool) (refusal : Refusal) → Makes no_write old new
-    → (refusal ≡ NoMemory) ⊎ (((refusal ≡ BadConfig) × TellsBlank old new (Ok false)) ⊎ ((refusal ≡ DiskFault) × ((which : ℕ) × HasFailedOn old new which))) → IsUnfit old it refusal
-unfit_of old new it refusal only (inl memory) = inl memory
-unfit_of old new it refusal only (inr (inl used)) = inr (inl (used.0, inr (record { new = new; grew = made_grew no_write old new only; holds = used.1 })))
-unfit_of old new it refusal only (inr (inr fault)) = inr (inr (fault.0, record { new = new; grew = made_grew no_write old new only; holds = fault.1 }))
+    → (refusal ≡ NoMemory) ⊎ (((refusal ≡ BadConfig) × TellsBlank old new (Ok false)) ⊎ ((refusal ≡ DiskFault) × ((which : ℕ) × HasFailedOn old new which))) → IsUnfit old it new refusal
+unfit_of old new it refusal only why = record {
+  only = only;
+  why = elim why [
+    | inl memory ↦ inl memory
+    | inr (inl used) ↦ inr (inl (used.0, inr used.1))
+    | inr (inr fault) ↦ inr (inr fault)
+  ];
+}
 
-pub unfit_at_once : (old : Disks) (it : NewPool) (refusal : Refusal) → (refusal ≡ NoMemory) ⊎ ((refusal ≡ BadConfig) × ¬ MayBeOpened old.starts it.shapes.items it.out.items) → IsUnfit old it refusal
-unfit_at_once old it refusal (inl memory) = inl memory
-unfit_at_once old it refusal (inr bad) = inr (inl (bad.0, inl bad.1))
+pub unfit_at_once : (old : Disks) (it : NewPool) (refusal : Refusal) → (refusal ≡ NoMemory) ⊎ ((refusal ≡ BadConfig) × ¬ MayBeOpened old.starts it.shapes.items it.out.items) → IsUnfit old it old refusal
+unfit_at_once old it refusal why = record {
+  only = Makes-none no_write old;
+  why = elim why [
+    | inl memory ↦ inl memory
+    | inr bad ↦ inr (inl (bad.0, inl bad.1))
+  ];
+}
 
 -- ---- the pool is made
 
@@ -107,6 +120,12 @@ grew_first old first labeled pool config it root u core are =
     GrewTo-on first labeled (disks_of core) (made_grew (IsLabelWrite first.starts (labels_of pool config 1 3)) first labeled are.labels)
     (made_grew no_write labeled (disks_of core) are.back.only)
 
+-- its uberblocks name the configuration that it has
+pub named_of : (config : Config) (count : ℕ) (it : NewPool) → IsNewPool config count it → IsStampOf (config_view it.config.value) it.stamp.claim it.stamp
+named_of config count it new =
+    subst (λ (vdevs : List PlainVdev). IsStampOf vdevs it.stamp.claim it.stamp) (sym new.config_is)
+    (record { claim_is = refl; guids = new.stamp_is.guids; digest = new.stamp_is.digest })
+
 represents_none : WritesElsewhereKeep → (old first labeled : Disks) (pool : PoolIdentity) (config : Config) (it : NewPool) (root : Block) (u : Uberblock) (core : CoreState)
     → AreStages old first labeled pool config it root u core → IsHonestSince old (disks_of core)
     → Represents core (opened_as (vdevs_in it.shapes.items) (is_out it.out.items) 3 no_volumes)
@@ -115,7 +134,7 @@ represents_none keep old first labeled pool config it root u core are honest =
     let laid = laid_later old first it.shapes.items it.out.items are.group.grew.starts are.laid.laid in
     let count = are.count ∙ ap length (sym are.group.grew.starts) in
     let hold = held_behind_labels keep first labeled it.shapes.items it.out.items pool config spelled.0 laid count are.labels are.show spelled.1 in
-    are.back.represents spelled.0 hold spelled.2 (true_after old labeled (disks_of core) (grew_labels old first labeled pool config it root u core are) honest)
+    are.back.represents spelled.0 hold spelled.2 spelled.3 (named_of config (length old.starts) it are.new) (true_after old labeled (disks_of core) (grew_labels old first labeled pool config it root u core are) honest)
 
 -- what was known of the old disks is known of the labeled ones, and the reads of these were true
 since_labels : (old first labeled : Disks) (pool : PoolIdentity) (config : Config) (it : NewPool) (root : Block) (u : Uberblock) (core : CoreState)
@@ -159,6 +178,7 @@ made_of keep old first labeled pool config it root u core are = record {
   root = are.back.root_is;
   outs = are.back.outs;
   vdevs = are.back.vdevs;
+  configured = ap config_view are.back.config ∙ are.new.config_is;
   represents = represents_none keep old first labeled pool config it root u core are;
 }
 
@@ -189,6 +209,7 @@ created_of old blank pool config it u core allowed new fit made =
       root = made.root;
       outs = made.outs ∙ new.none_is_out;
       vdevs = made.vdevs;
+      configured = made.configured;
       represents = λ honest.
           subst (λ (out : List Bool). Represents core (opened_as (vdevs_in it.shapes.items) (is_out out) 3 no_volumes)) new.none_is_out
           (made.represents (true_after old blank (disks_of core) first honest));
@@ -196,56 +217,90 @@ created_of old blank pool config it u core allowed new fit made =
 
 -- ---- the pool isn't made
 
-pub unmade_group : (old : Disks) (pool : PoolIdentity) (config : Config) (it : NewPool) (refusal : Refusal) → (refusal ≡ NoMemory) ⊎ LacksFirstGroup old it refusal → IsUnmade old pool config it refusal
-unmade_group old pool config it refusal (inl memory) = inl memory
-unmade_group old pool config it refusal (inr lacks) = inr (inr (inl lacks))
+no_memory_of_config : (refusal : Refusal) → refusal ≡ NoMemory → ¬ (refusal ≡ BadConfig)
+no_memory_of_config refusal is same = absurd (let clash : NoMemory ≡ BadConfig = sym is ∙ same in cc)
+
+no_fault_of_config : (refusal : Refusal) → refusal ≡ DiskFault → ¬ (refusal ≡ BadConfig)
+no_fault_of_config refusal is same = absurd (let clash : DiskFault ≡ BadConfig = sym is ∙ same in cc)
+
+read_otherwise : (cause : Refusal) → ¬ (of_read cause ≡ BadConfig)
+read_otherwise NoMemory is = absurd (let clash : NoMemory ≡ BadConfig = is in cc)
+read_otherwise DiskFault is = absurd (let clash : DiskFault ≡ BadConfig = is in cc)
+read_otherwise NoSpace is = absurd (let clash : NoSpace ≡ BadConfig = is in cc)
+read_otherwise (BadLabel breach) is = absurd (let clash : BadLabel breach ≡ BadConfig = is in cc)
+read_otherwise NoUberblock is = absurd (let clash : NoUberblock ≡ BadConfig = is in cc)
+read_otherwise BadPointer is = absurd (let clash : BadPointer ≡ BadConfig = is in cc)
+read_otherwise BadDigest is = absurd (let clash : BadDigest ≡ BadConfig = is in cc)
+read_otherwise TooManyMissing is = absurd (let clash : TooManyMissing ≡ BadConfig = is in cc)
+read_otherwise PoolMismatch is = absurd (let clash : PoolMismatch ≡ BadConfig = is in cc)
+read_otherwise BadConfig is = absurd (let clash : NoUberblock ≡ BadConfig = is in cc)
+read_otherwise BadMap is = absurd (let clash : BadMap ≡ BadConfig = is in cc)
+
+pub unmade_group : (old new : Disks) (pool : PoolIdentity) (config : Config) (it : NewPool) (refusal : Refusal) → GrewTo old new → (refusal ≡ NoMemory) ⊎ LacksFirstGroup old it new refusal
+    → IsUnmade old pool config it new refusal
+unmade_group old new pool config it refusal grew (inl memory) = record { grew = grew; other = no_memory_of_config refusal memory; why = inl memory }
+unmade_group old new pool config it refusal grew (inr lacks) =
+    record { grew = grew; other = unfinished_otherwise it lacks.before lacks.after refusal lacks.why; why = inr (inr (inl lacks)) }
 
 pub unmade_labels : (old first labeled : Disks) (pool : PoolIdentity) (config : Config) (it : NewPool) (refusal : Refusal) → GrewTo old first
     → Makes (IsLabelWrite first.starts (labels_of pool config 1 3)) first labeled → (refusal ≡ NoMemory) ⊎ ((refusal ≡ DiskFault) × ((which : ℕ) × HasFailedOn first labeled which))
-    → IsUnmade old pool config it refusal
-unmade_labels old first labeled pool config it refusal grew makes (inl memory) = inl memory
-unmade_labels old first labeled pool config it refusal grew makes (inr fault) =
-    let later = made_grew (IsLabelWrite first.starts (labels_of pool config 1 3)) first labeled makes in
-    inr (inl (
-      fault.0,
-      record {
-        new = labeled;
-        grew = GrewTo-on old first labeled grew later;
-        holds = (fault.1.0, fails_in old first labeled labeled fault.1.0 grew (GrewTo-none labeled) fault.1.1);
-      },
-    ))
+    → IsUnmade old pool config it labeled refusal
+unmade_labels old first labeled pool config it refusal grew makes (inl memory) = record {
+  grew = GrewTo-on old first labeled grew (made_grew (IsLabelWrite first.starts (labels_of pool config 1 3)) first labeled makes);
+  other = no_memory_of_config refusal memory;
+  why = inl memory;
+}
+unmade_labels old first labeled pool config it refusal grew makes (inr fault) = record {
+  grew = GrewTo-on old first labeled grew (made_grew (IsLabelWrite first.starts (labels_of pool config 1 3)) first labeled makes);
+  other = no_fault_of_config refusal fault.0;
+  why = inr (inl (fault.0, (fault.1.0, fails_in old first labeled labeled fault.1.0 grew (GrewTo-none labeled) fault.1.1)));
+}
 
-pub unmade_back : (old first labeled : Disks) (pool : PoolIdentity) (config : Config) (it : NewPool) (root : Block) (refusal : Refusal) → HasFirstGroup old it first root
-    → Makes (IsLabelWrite first.starts (labels_of pool config 1 3)) first labeled → AreLabeled labeled (labels_of pool config 1 3) → IsUnread labeled it root refusal → IsUnmade old pool config it refusal
-unmade_back old first labeled pool config it root refusal group makes show unread =
-    inr (inr (inr (record { first = first; root = root; group = group; labeled = labeled; labels = makes; show = show; unread = unread })))
+pub unmade_back : (old first labeled new : Disks) (pool : PoolIdentity) (config : Config) (it : NewPool) (root : Block) (cause refusal : Refusal) → HasFirstGroup old it first root
+    → Makes (IsLabelWrite first.starts (labels_of pool config 1 3)) first labeled → AreLabeled labeled (labels_of pool config 1 3) → refusal ≡ of_read cause
+    → IsUnread labeled it root new cause → IsUnmade old pool config it new refusal
+unmade_back old first labeled new pool config it root cause refusal group makes show same unread = record {
+  grew = GrewTo-on old labeled new (GrewTo-on old first labeled group.grew (made_grew (IsLabelWrite first.starts (labels_of pool config 1 3)) first labeled makes))
+      (made_grew no_write labeled new unread.0);
+  other = λ is. read_otherwise cause (sym same ∙ is);
+  why = inr (inr (inr (record { first = first; root = root; group = group; labeled = labeled; labels = makes; show = show; cause = cause; same = same; unread = unread })));
+}
 
 -- ---- the pool is refused
 
 pub refused_plan : (old : Disks) (pool : PoolIdentity) (config : Config) (refusal : Refusal)
-    → (refusal ≡ NoMemory) ⊎ ((refusal ≡ BadConfig) × ¬ IsAllowedPool pool config) → CreateRefuses old pool config refusal
-refused_plan old pool config refusal (inl memory) = inl memory
-refused_plan old pool config refusal (inr bad) = inr (inl (bad.0, inl (λ may. bad.1 (may.name, may.allowed))))
-
-pub refused_fit : (old : Disks) (pool : PoolIdentity) (config : Config) (it : NewPool) (refusal : Refusal) → IsNewPool config (length old.starts) it → IsUnfit old it refusal
-    → CreateRefuses old pool config refusal
-refused_fit old pool config it refusal new (inl memory) = inl memory
-refused_fit old pool config it refusal new (inr (inl (bad, inl none))) = inr (inl (bad, inl (may_not_be_made old.starts pool config it new none)))
-refused_fit old pool config it refusal new (inr (inl (bad, inr used))) = inr (inl (bad, inr used))
-refused_fit old pool config it refusal new (inr (inr fault)) = inr (inr (inl fault))
-
-fault_on : (old blank : Disks) → GrewTo old blank → HasFault blank → HasFault old
-fault_on old blank grew it = record {
-  new = it.new;
-  grew = GrewTo-on old blank it.new grew it.grew;
-  holds = (it.holds.0, fails_in old blank it.new it.new it.holds.0 grew (GrewTo-none it.new) it.holds.1);
+    → (refusal ≡ NoMemory) ⊎ ((refusal ≡ BadConfig) × ¬ IsAllowedPool pool config) → CreateRefuses old pool config old refusal
+refused_plan old pool config refusal why = record {
+  grew = GrewTo-none old;
+  unwritten = λ is. Makes-none no_write old;
+  why = elim why [
+    | inl memory ↦ inl memory
+    | inr bad ↦ inr (inl (bad.0, Makes-none no_write old, inl (λ may. bad.1 (may.name, may.allowed))))
+  ];
 }
 
-pub refused_make : (old blank : Disks) (pool : PoolIdentity) (config : Config) (it : NewPool) (refusal : Refusal) → IsNewPool config (length old.starts) it → GrewTo old blank
-    → IsUnmade blank pool config it refusal → CreateRefuses old pool config refusal
-refused_make old blank pool config it refusal new grew (inl memory) = inl memory
-refused_make old blank pool config it refusal new grew (inr (inl fault)) = inr (inr (inl (fault.0, fault_on old blank grew fault.1)))
-refused_make old blank pool config it refusal new grew (inr (inr (inl lacks))) =
-    inr (inr (inr (inl (it, new, record { new = blank; grew = grew; holds = lacks }))))
-refused_make old blank pool config it refusal new grew (inr (inr (inr unread))) =
-    inr (inr (inr (inr (it, new, record { new = blank; grew = grew; holds = unread }))))
+pub refused_fit : (old new : Disks) (pool : PoolIdentity) (config : Config) (it : NewPool) (refusal : Refusal) → IsNewPool config (length old.starts) it → IsUnfit old it new refusal
+    → CreateRefuses old pool config new refusal
+refused_fit old new pool config it refusal is unfit = record {
+  grew = made_grew no_write old new unfit.only;
+  unwritten = λ same. unfit.only;
+  why = elim unfit.why [
+    | inl memory ↦ inl memory
+    | inr (inl (bad, inl none)) ↦ inr (inl (bad, unfit.only, inl (may_not_be_made old.starts pool config it is none)))
+    | inr (inl (bad, inr used)) ↦ inr (inl (bad, unfit.only, inr used))
+    | inr (inr fault) ↦ inr (inr (inl fault))
+  ];
+}
+
+pub refused_make : (old blank new : Disks) (pool : PoolIdentity) (config : Config) (it : NewPool) (refusal : Refusal) → IsNewPool config (length old.starts) it → GrewTo old blank
+    → IsUnmade blank pool config it new refusal → CreateRefuses old pool config new refusal
+refused_make old blank new pool config it refusal is grew unmade = record {
+  grew = GrewTo-on old blank new grew unmade.grew;
+  unwritten = λ same. absurd (unmade.other same);
+  why = elim unmade.why [
+    | inl memory ↦ inl memory
+    | inr (inl (fault, (which, failed))) ↦ inr (inr (inl (fault, (which, fails_in old blank new new which grew (GrewTo-none new) failed))))
+    | inr (inr (inl lacks)) ↦ inr (inr (inr (inl (it, is, record { new = blank; grew = grew; holds = lacks }))))
+    | inr (inr (inr unread)) ↦ inr (inr (inr (inr (it, is, record { new = blank; grew = grew; holds = unread }))))
+  ];
+}

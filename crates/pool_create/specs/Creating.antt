@@ -5,10 +5,10 @@ use Rattle.block_store.specs.Places.{shapes_of}
 use Rattle.block_store.specs.Store.{is_out}
 use Rattle.block_store.specs.declared.shape.VdevShape.{VdevShape}
 use Rattle.model_disk.specs.Joint.{Disks, bytes_of, content}
-use Rattle.model_disk.specs.Runs.{AreSettled, Makes}
-use Rattle.pool_commit.specs.Calls.{GrewTo}
-use Rattle.pool_core.specs.Represents.{Represents}
-use Rattle.pool_core.specs.State.{CoreState, disks_of}
+use Rattle.model_disk.specs.Runs.{AreSettled, Makes, no_write}
+use Rattle.pool_open.specs.Calls.{GrewTo}
+use Rattle.pool_open.specs.Represents.{Represents}
+use Rattle.pool_open.specs.CoreState.{CoreState, config_of, disks_of}
 use Rattle.pool_format.specs.Blank.{TellsBlank}
 use Rattle.pool_format.specs.Labels.{AreLabeled, IsLabelWrite, labels_of}
 use Rattle.pool_format.specs.declared.labeling.PoolIdentity.{PoolIdentity}
@@ -30,7 +30,7 @@ use Rattle.vdev_label.specs.Plain.{config_view}
 use Rattle.vdev_label.specs.declared.label.Config.{Config}
 use Rattle.pool_create.specs.FirstGroup.{HasFirstGroup, LacksFirstGroup}
 use Rattle.pool_create.specs.Planning.{MayBeMade, IsNewPool, nobody}
-use Rattle.pool_create.specs.ReadingBack.{IsUnread}
+use Rattle.pool_create.specs.ReadingBack.{IsUnread, of_read}
 use Rattle.pool_create.specs.declared.planning.NewPool.{NewPool}
 
 -- ---- a pool that was made
@@ -71,13 +71,14 @@ pub record IsCreated (old : Disks) (pool : PoolIdentity) (config : Config) (u : 
   pub alone : IsShownAloneSince old (disks_of core) u
   pub stamped : core.commit.stamp ≡ stamp_of u
   pub root : core.commit.kept.last.root ≡ Some u.root
-  -- the core has these vdevs, and no disk is out
+  -- the core has these vdevs and the configuration, and no disk is out
   pub outs : core.commit.store.out ≡ nobody old.starts
   pub vdevs : shapes_of core.commit.store.spaces ≡ shapes
+  pub configured : config_view (config_of core) ≡ config_view config
   pub represents : IsHonestSince old (disks_of core)
       → Represents core (opened_as (vdevs_in shapes) (is_out (nobody old.starts)) 3 no_volumes)
 
--- ---- a pool that was not
+-- ---- a pool that was not, and the disks as they are then
 
 -- the disks grew to these
 pub record GoesTo (old : Disks) (P : Disks → Type 0) : Type 0 where
@@ -86,35 +87,44 @@ pub record GoesTo (old : Disks) (P : Disks → Type 0) : Type 0 where
   pub holds : P new
 
 -- it may not be made on them, or one of them shows a pool
-abbrev pub IsNoPlace : Disks → PoolIdentity → Config → Type 0
-IsNoPlace old pool config = (¬ MayBeMade old.starts pool config) ⊎ GoesTo old (λ new. TellsBlank old new (Ok false))
+abbrev pub IsNoPlace : Disks → PoolIdentity → Config → Disks → Type 0
+IsNoPlace old pool config new = (¬ MayBeMade old.starts pool config) ⊎ TellsBlank old new (Ok false)
 
 -- a call on one of them failed
-abbrev pub HasFault : Disks → Type 0
-HasFault old = GoesTo old (λ new. (which : ℕ) × HasFailedOn old new which)
+abbrev pub HasFault : Disks → Disks → Type 0
+HasFault old new = (which : ℕ) × HasFailedOn old new which
 
 -- on blank disks the first group was not committed
-abbrev pub IsNotBegun : Disks → Config → Refusal → Type 0
-IsNotBegun old config refusal =
-    (it : NewPool) × IsNewPool config (length old.starts) it × GoesTo old (λ blank. LacksFirstGroup blank it refusal)
+abbrev pub IsNotBegun : Disks → Config → Disks → Refusal → Type 0
+IsNotBegun old config new refusal =
+    (it : NewPool) × IsNewPool config (length old.starts) it × GoesTo old (λ blank. LacksFirstGroup blank it new refusal)
 
 -- it was, the disks were labeled, and what was read of them was refused
-pub record IsBackRefused (old : Disks) (pool : PoolIdentity) (config : Config) (it : NewPool) (refusal : Refusal) : Type 0 where
+pub record IsBackRefused (old : Disks) (pool : PoolIdentity) (config : Config) (it : NewPool) (new : Disks) (refusal : Refusal) : Type 0 where
   pub first : Disks
   pub root : Block
   pub group : HasFirstGroup old it first root
   pub labeled : Disks
   pub labels : Makes (IsLabelWrite first.starts (labels_of pool config 1 3)) first labeled
   pub show : AreLabeled labeled (labels_of pool config 1 3)
-  pub unread : IsUnread labeled it root refusal
+  pub cause : Refusal
+  pub same : refusal ≡ of_read cause
+  pub unread : IsUnread labeled it root new cause
 
-abbrev pub IsNotReadBack : Disks → PoolIdentity → Config → Refusal → Type 0
-IsNotReadBack old pool config refusal =
-    (it : NewPool) × IsNewPool config (length old.starts) it × GoesTo old (λ blank. IsBackRefused blank pool config it refusal)
+abbrev pub IsNotReadBack : Disks → PoolIdentity → Config → Disks → Refusal → Type 0
+IsNotReadBack old pool config new refusal =
+    (it : NewPool) × IsNewPool config (length old.starts) it × GoesTo old (λ blank. IsBackRefused blank pool config it new refusal)
 
-abbrev pub CreateRefuses : Disks → PoolIdentity → Config → Refusal → Type 0
-CreateRefuses old pool config refusal =
+-- why it was not: of BadConfig nothing was written
+abbrev pub WhyNotCreated : Disks → PoolIdentity → Config → Disks → Refusal → Type 0
+WhyNotCreated old pool config new refusal =
     (refusal ≡ NoMemory)
-    ⊎ (((refusal ≡ BadConfig) × IsNoPlace old pool config)
-    ⊎ (((refusal ≡ DiskFault) × HasFault old)
-    ⊎ (IsNotBegun old config refusal ⊎ IsNotReadBack old pool config refusal)))
+    ⊎ (((refusal ≡ BadConfig) × Makes no_write old new × IsNoPlace old pool config new)
+    ⊎ (((refusal ≡ DiskFault) × HasFault old new)
+    ⊎ (IsNotBegun old config new refusal ⊎ IsNotReadBack old pool config new refusal)))
+
+-- It was not. Where it is put down to the configuration or to a pool that is there, nothing was written on any disk.
+pub record CreateRefuses (old : Disks) (pool : PoolIdentity) (config : Config) (new : Disks) (refusal : Refusal) : Type 0 where
+  pub grew : GrewTo old new
+  pub unwritten : refusal ≡ BadConfig → Makes no_write old new
+  pub why : WhyNotCreated old pool config new refusal

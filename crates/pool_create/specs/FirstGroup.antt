@@ -1,5 +1,5 @@
 -- The first group of a pool.
-use Rattle.std.specs.Prelude.{ℕ, ◌≡◌, ◌⊎◌, List, [], ◌∷◌, length, replicate, Bool, true, false, Some, None, if◌then◌else◌}
+use Rattle.std.specs.Prelude.{ℕ, ◌≡◌, ◌⊎◌, ◌≤◌, ◌↔◌, IsTrue, List, [], ◌∷◌, length, replicate, Bool, true, false, Some, None, if◌then◌else◌}
 use Rattle.std.specs.List.{list_any}
 use Rattle.block_pointer.specs.declared.block.Block.{Block}
 use Rattle.block_store.specs.Blocks.{Contents}
@@ -7,11 +7,12 @@ use Rattle.block_store.specs.Places.{shapes_of}
 use Rattle.block_store.specs.Store.{is_out}
 use Rattle.model_disk.specs.Joint.{Disks}
 use Rattle.pool_open.specs.Opening.{SpellsWithMaps}
-use Rattle.pool_commit.specs.Calls.{GrewTo}
-use Rattle.pool_commit.specs.State.{NoneIsOut}
-use Rattle.pool_core.specs.Represents.{Represents}
-use Rattle.pool_core.specs.Runs.{Ran}
-use Rattle.pool_core.specs.State.{CoreState, disks_of}
+use Rattle.pool_open.specs.Calls.{GrewTo}
+use Rattle.pool_open.specs.Reopened.{IsConfiguredUnder}
+use Rattle.pool_open.specs.CommitState.{NoneIsOut}
+use Rattle.pool_open.specs.Represents.{Represents}
+use Rattle.pool_open.specs.CoreRuns.{Ran}
+use Rattle.pool_open.specs.CoreState.{CoreState, disks_of}
 use Rattle.pool_model.specs.Groups.{commits}
 use Rattle.pool_model.specs.Pools.{no_volumes}
 use Rattle.pool_model.specs.View.{View, opened_as}
@@ -24,13 +25,18 @@ use Rattle.pool_open.specs.Held.{HoldOver}
 use Rattle.pool_open.specs.Words.{vdevs_in}
 use Rattle.pool_open.specs.declared.refusal.Refusal.{Refusal}
 use Rattle.pool_open.specs.declared.refusal.Refusal.TheVariants.{NoMemory, DiskFault, NoSpace}
+use Rattle.pool_slots.specs.Failures.{HasFailedOn}
 use Rattle.pool_slots.specs.Opens.{AreKnown}
 use Rattle.raidz_io.specs.Reads.{IsHonestSince}
 use Rattle.pool_create.specs.declared.planning.NewPool.{NewPool}
 
--- the open group is closed, quiesced, planned and written
+-- the open group is closed, quiesced, planned and written, by so many device steps
+abbrev pub AreStepsWith : ℕ → List Step → Type 0
+AreStepsWith count steps = steps ≡ Close ∷ Quiesce ∷ Plan 0 ∷ replicate count Device
+
+-- by 4,096 of them at least
 abbrev pub AreFirstSteps : List Step → Type 0
-AreFirstSteps steps = (count : ℕ) × (steps ≡ Close ∷ Quiesce ∷ Plan 0 ∷ replicate count Device)
+AreFirstSteps steps = (count : ℕ) × (4096 ≤ count) × AreStepsWith count steps
 
 -- the machine took them from there
 pub record RanFirst (old new : CoreState) (replies : List Reply) : Type 0 where
@@ -45,6 +51,7 @@ in_front it = opened_as (vdevs_in it.shapes.items) (is_out it.out.items) 2 no_vo
 -- the core that the first group is committed by
 pub record IsInFront (disks : Disks) (it : NewPool) (core : CoreState) : Type 0 where
   pub disks_are : disks_of core ≡ disks
+  pub stamp_is : core.commit.stamp ≡ it.stamp
   pub represents : Represents core (in_front it)
 
 -- one group was committed, no disk went out, and the vdevs are what they were
@@ -67,21 +74,29 @@ abbrev pub says_no_memory : Reply → Bool
 says_no_memory (Refused cause.NoMemory) = true
 says_no_memory reply = false
 
--- what it is put down to where the group isn't committed: no room or no memory, where a reply says so, and else that disks failed
-abbrev pub cause_in : List Reply → Refusal
-cause_in replies = if list_any says_no_space replies then NoSpace else (if list_any says_no_memory replies then NoMemory else DiskFault)
+-- what it is put down to where the group isn't committed: no room, where a reply says so; else disks, where one is out; else memory
+abbrev pub cause_in : List Reply → Bool → Refusal
+cause_in replies whole = if list_any says_no_space replies then NoSpace else (if list_any says_no_memory replies then NoMemory else (if whole then NoMemory else DiskFault))
 
--- the machine took the first steps, and the group isn't committed on all disks
+-- where all answers were true, a call on one of them failed
+abbrev pub HasFaultIfTrue : Disks → Disks → Type 0
+HasFaultIfTrue old new = IsHonestSince old new → (which : ℕ) × HasFailedOn old new which
+
+-- The machine took the first steps, and the group isn't committed on all disks. It is put down to disks only where a call on one failed.
 pub record IsUnfinished (it : NewPool) (old new : CoreState) (refusal : Refusal) : Type 0 where
   pub replies : List Reply
   pub ran : RanFirst old new replies
   pub uncommitted : (¬ IsDone it new replies) ⊎ (new.commit.kept.last.root ≡ None)
-  pub cause_is : refusal ≡ cause_in replies
+  pub whole : Bool
+  pub is_whole : IsTrue whole ↔ NoneIsOut new.commit
+  pub cause_is : refusal ≡ cause_in replies whole
 
--- where all answers were true, the disks have the blocks of a root that spells no volumes and has its space maps
+-- where all answers were true, the disks have the blocks of a root that spells no volumes, and has its space maps and the configuration that the
+-- pool's uberblocks name
 abbrev pub SpellsNone : Disks → NewPool → Disks → Block → Type 0
 SpellsNone old it new root =
     IsHonestSince old new → (stored : Contents) × HoldOver new it.shapes.items it.out.items stored × SpellsWithMaps stored it.shapes.items 3 root no_volumes
+    × IsConfiguredUnder it.stamp stored 3 root no_volumes
 
 -- bytes of disks that were known are so still, where all answers were true
 abbrev pub KeepsKnown : Disks → NewPool → Disks → Type 0
@@ -102,9 +117,11 @@ pub record HasFirstGroup (old : Disks) (it : NewPool) (new : Disks) (root : Bloc
   pub known : KeepsKnown old it new
   pub spells : SpellsNone old it new root
 
--- there is none, from disks that a core of a pool in front of it was made over
-pub record LacksFirstGroup (old : Disks) (it : NewPool) (refusal : Refusal) : Type 0 where
+-- There is none, from disks that a core of a pool in front of it was made over, and that are these now.
+pub record LacksFirstGroup (old : Disks) (it : NewPool) (new : Disks) (refusal : Refusal) : Type 0 where
   pub before : CoreState
   pub in_front_of : IsInFront old it before
   pub after : CoreState
   pub why : IsUnfinished it before after refusal
+  pub disks_are : new ≡ disks_of after
+  pub failed : refusal ≡ DiskFault → HasFaultIfTrue old new

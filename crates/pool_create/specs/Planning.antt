@@ -2,7 +2,8 @@
 use Rattle.std.specs.Prelude.{ℕ, ◌≡◌, false, Bool, List, length, replicate, IsTrue, string_bytes}
 use Rattle.block_store.specs.Opened.{MayBeOpened}
 use Rattle.block_store.specs.declared.shape.VdevShape.{VdevShape}
-use Rattle.pool_commit.specs.Slots.{IsStampOf}
+use Rattle.pool_open.specs.Configs.{FitsTable}
+use Rattle.pool_open.specs.Slots.{IsStampOf}
 use Rattle.pool_format.specs.Labels.{children_of}
 use Rattle.pool_format.specs.declared.labeling.PoolIdentity.{PoolIdentity}
 use Rattle.pool_open.specs.Shapes.{AreShapesOf}
@@ -36,3 +37,6 @@ pub record IsNewPool (config : Config) (count : ℕ) (it : NewPool) : Type 0 whe
   pub shapes_are : AreShapesOf (config_view config) 0 it.shapes.items
   pub none_is_out : it.out.items ≡ none_out count
   pub stamp_is : IsStampOf (config_view config) 1 it.stamp
+  -- it has the configuration itself, which has room in a table
+  pub config_is : config_view it.config.value ≡ config_view config
+  pub table : FitsTable (config_view it.config.value)

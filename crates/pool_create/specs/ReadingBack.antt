@@ -6,9 +6,10 @@ use Rattle.block_store.specs.Blocks.{Contents}
 use Rattle.block_store.specs.Store.{is_out}
 use Rattle.model_disk.specs.Joint.{Disks}
 use Rattle.model_disk.specs.Runs.{Makes, no_write}
-use Rattle.pool_commit.specs.Slots.{uberblock_of}
-use Rattle.pool_core.specs.Represents.{Represents}
-use Rattle.pool_core.specs.State.{CoreState, disks_of}
+use Rattle.pool_open.specs.Reopened.{IsConfiguredUnder}
+use Rattle.pool_open.specs.Slots.{IsStampOf, uberblock_of}
+use Rattle.pool_open.specs.Represents.{Represents}
+use Rattle.pool_open.specs.CoreState.{CoreState, config_of, disks_of}
 use Rattle.pool_model.specs.Pools.{no_volumes}
 use Rattle.pool_model.specs.View.{opened_as}
 use Rattle.pool_open.specs.Causes.{of_root, of_slots}
@@ -17,7 +18,7 @@ use Rattle.pool_open.specs.Opening.{AreMisplacedOver, RootContents, SpellsWithMa
 use Rattle.pool_open.specs.Roots.{IsReadOfRoot, RootRefuses}
 use Rattle.pool_open.specs.Words.{stamp_of, vdevs_in}
 use Rattle.pool_open.specs.declared.refusal.Refusal.{Refusal}
-use Rattle.pool_open.specs.declared.refusal.Refusal.TheVariants.{NoMemory, DiskFault, NoUberblock, BadPointer}
+use Rattle.pool_open.specs.declared.refusal.Refusal.TheVariants.{NoMemory, DiskFault, NoUberblock, BadPointer, BadConfig}
 use Rattle.pool_slots.specs.Failures.{HasFailedOn}
 use Rattle.pool_slots.specs.Present.{IsNoFault}
 use Rattle.pool_slots.specs.Surveys.{Surveyed, IsSurveyed, IsWholeOf, SurveyRefuses}
@@ -25,6 +26,7 @@ use Rattle.pool_slots.specs.declared.refusal.Refusal.{Refusal as SlotsRefusal}
 use Rattle.raidz_io.specs.Reads.{IsHonestSince}
 use Rattle.space_map_objects.specs.declared.refusal.Refusal.{Refusal as RootRefusal}
 use Rattle.uberblock_ring.specs.declared.uberblock.Uberblock.{Uberblock}
+use Rattle.vdev_label.specs.Plain.{config_view}
 use Rattle.pool_create.specs.Alone.{AreReadAlone, IsCrowded}
 use Rattle.pool_create.specs.declared.planning.NewPool.{NewPool}
 
@@ -49,7 +51,9 @@ pub record IsReadBack (old : Disks) (it : NewPool) (root : Block) (u : Uberblock
   pub root_is : core.commit.kept.last.root ≡ Some u.root
   pub outs : core.commit.store.out ≡ it.out.items
   pub vdevs : shapes_of core.commit.store.spaces ≡ it.shapes.items
+  pub config : config_of core ≡ it.config.value
   pub represents : (stored : Contents) → HoldOver old it.shapes.items it.out.items stored → SpellsWithMaps stored it.shapes.items 3 root no_volumes
+      → IsConfiguredUnder it.stamp stored 3 root no_volumes → IsStampOf (config_view it.config.value) it.stamp.claim it.stamp
       → IsHonestSince old (disks_of core) → Represents core (opened_as (vdevs_in it.shapes.items) (is_out it.out.items) 3 no_volumes)
 
 -- the slots or labels of the disks in use were refused
@@ -96,6 +100,11 @@ IsCauseOfReading old new it root refusal =
     ⊎ (((surveyed : Disks) × IsFirstTaken old surveyed it root × IsRootUnread surveyed new it root refusal)
     ⊎ ((refusal ≡ BadPointer) × ((surveyed : Disks) × IsFirstTaken old surveyed it root × IsMisplaced surveyed new it root))))))
 
--- the disks were only read by then
-abbrev pub IsUnread : Disks → NewPool → Block → Refusal → Type 0
-IsUnread old it root refusal = (new : Disks) × Makes no_write old new × IsCauseOfReading old new it root refusal
+-- the disks were only read, and are these now
+abbrev pub IsUnread : Disks → NewPool → Block → Disks → Refusal → Type 0
+IsUnread old it root new refusal = Makes no_write old new × IsCauseOfReading old new it root refusal
+
+-- What was just written isn't put down to its configuration: a pool that doesn't show that shows no uberblock of it.
+abbrev pub of_read : Refusal → Refusal
+of_read BadConfig = NoUberblock
+of_read refusal = refusal

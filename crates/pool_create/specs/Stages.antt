@@ -1,13 +1,13 @@
 -- Stages of making a pool.
-use Rattle.std.specs.Prelude.{◌≡◌, ◌⊎◌, true, false, Some, Ok}
+use Rattle.std.specs.Prelude.{◌≡◌, ◌≢◌, ◌⊎◌, true, false, Some, Ok}
 use Rattle.block_store.specs.Places.{shapes_of}
 use Rattle.block_store.specs.Opened.{MayBeOpened}
 use Rattle.block_store.specs.Store.{is_out}
 use Rattle.model_disk.specs.Joint.{Disks}
 use Rattle.model_disk.specs.Runs.{AreSettled, Makes, no_write}
-use Rattle.pool_commit.specs.Calls.{GrewTo}
-use Rattle.pool_core.specs.Represents.{Represents}
-use Rattle.pool_core.specs.State.{CoreState, disks_of}
+use Rattle.pool_open.specs.Calls.{GrewTo}
+use Rattle.pool_open.specs.Represents.{Represents}
+use Rattle.pool_open.specs.CoreState.{CoreState, config_of, disks_of}
 use Rattle.pool_format.specs.Blank.{TellsBlank}
 use Rattle.pool_format.specs.Labels.{AreLabeled, labels_of}
 use Rattle.pool_format.specs.declared.labeling.PoolIdentity.{PoolIdentity}
@@ -21,8 +21,9 @@ use Rattle.pool_slots.specs.Slots.{HaveLabels}
 use Rattle.raidz_io.specs.Reads.{IsHonestSince}
 use Rattle.uberblock_ring.specs.Uberblock.{Fits}
 use Rattle.uberblock_ring.specs.declared.uberblock.Uberblock.{Uberblock}
+use Rattle.vdev_label.specs.Plain.{config_view}
 use Rattle.vdev_label.specs.declared.label.Config.{Config}
-use Rattle.pool_create.specs.Creating.{GoesTo, IsBackRefused, HasFault, IsFirst, IsShownAloneSince, IsShownSince}
+use Rattle.pool_create.specs.Creating.{IsBackRefused, HasFault, IsFirst, IsShownAloneSince, IsShownSince}
 use Rattle.pool_create.specs.FirstGroup.{LacksFirstGroup}
 use Rattle.pool_create.specs.declared.planning.NewPool.{NewPool}
 
@@ -38,11 +39,12 @@ pub record IsFit (old : Disks) (it : NewPool) (new : Disks) : Type 0 where
   pub blank : TellsBlank old new (Ok true)
   pub is_laid : IsLaid new it
 
-abbrev pub IsUnfit : Disks → NewPool → Refusal → Type 0
-IsUnfit old it refusal =
-    (refusal ≡ NoMemory)
-    ⊎ (((refusal ≡ BadConfig) × ((¬ MayBeOpened old.starts it.shapes.items it.out.items) ⊎ GoesTo old (λ new. TellsBlank old new (Ok false))))
-    ⊎ ((refusal ≡ DiskFault) × HasFault old))
+-- It isn't, or they do. Nothing was written.
+pub record IsUnfit (old : Disks) (it : NewPool) (new : Disks) (refusal : Refusal) : Type 0 where
+  pub only : Makes no_write old new
+  pub why : (refusal ≡ NoMemory)
+      ⊎ (((refusal ≡ BadConfig) × ((¬ MayBeOpened old.starts it.shapes.items it.out.items) ⊎ TellsBlank old new (Ok false)))
+      ⊎ ((refusal ≡ DiskFault) × HasFault old new))
 
 -- the first group, the labels, and what was read of them
 pub record IsMade (old : Disks) (pool : PoolIdentity) (config : Config) (it : NewPool) (u : Uberblock) (core : CoreState) : Type 0 where
@@ -57,12 +59,15 @@ pub record IsMade (old : Disks) (pool : PoolIdentity) (config : Config) (it : Ne
   pub root : core.commit.kept.last.root ≡ Some u.root
   pub outs : core.commit.store.out ≡ it.out.items
   pub vdevs : shapes_of core.commit.store.spaces ≡ it.shapes.items
+  pub configured : config_view (config_of core) ≡ config_view config
   pub represents : IsHonestSince old (disks_of core)
       → Represents core (opened_as (vdevs_in it.shapes.items) (is_out it.out.items) 3 no_volumes)
 
-abbrev pub IsUnmade : Disks → PoolIdentity → Config → NewPool → Refusal → Type 0
-IsUnmade old pool config it refusal =
-    (refusal ≡ NoMemory)
-    ⊎ (((refusal ≡ DiskFault) × HasFault old)
-    ⊎ (LacksFirstGroup old it refusal
-    ⊎ IsBackRefused old pool config it refusal))
+-- There is none of them. It isn't put down to the configuration.
+pub record IsUnmade (old : Disks) (pool : PoolIdentity) (config : Config) (it : NewPool) (new : Disks) (refusal : Refusal) : Type 0 where
+  pub grew : GrewTo old new
+  pub other : refusal ≢ BadConfig
+  pub why : (refusal ≡ NoMemory)
+      ⊎ (((refusal ≡ DiskFault) × HasFault old new)
+      ⊎ (LacksFirstGroup old it new refusal
+      ⊎ IsBackRefused old pool config it new refusal))

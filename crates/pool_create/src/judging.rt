@@ -5,8 +5,7 @@ ghost use Rattle.pool_create.specs.FirstGroup.{cause_in, says_no_memory, says_no
 ghost use Rattle.pool_model.specs.Groups.{commits};
 
 use block_store::VdevShape;
-use pool_core::Reply;
-use pool_open::Refusal;
+use pool_open::{Refusal, Reply};
 
 /// How many groups were committed.
 pub(crate) fn count_commits(replies: &[Reply]) -> usize
@@ -25,14 +24,14 @@ pub(crate) fn count_commits(replies: &[Reply]) -> usize
 fn says_no_space(reply: &Reply) -> bool
     ensures { result ≡ says_no_space reply.now }
 {
-    matches!(reply, Reply::Refused(pool_core::Refusal::NoSpace))
+    matches!(reply, Reply::Refused(pool_model::Refusal::NoSpace))
 }
 
 /// Whether the reply says that memory ran out.
 fn says_no_memory(reply: &Reply) -> bool
     ensures { result ≡ says_no_memory reply.now }
 {
-    matches!(reply, Reply::Refused(pool_core::Refusal::NoMemory))
+    matches!(reply, Reply::Refused(pool_model::Refusal::NoMemory))
 }
 
 /// Whether one of the replies says that there is no room.
@@ -49,14 +48,15 @@ fn lacks_memory(replies: &[Reply]) -> bool
     replies.iter().any(|reply| says_no_memory(reply))
 }
 
-/// Why the first group isn't committed: for lack of room or memory, where a reply says so, or since disks failed.
-pub(crate) fn cause_of(replies: &[Reply]) -> Refusal
-    ensures { result ≡ cause_in replies.now }
+/// Why the first group isn't committed: for lack of room, where a reply says so; since disks failed, where one is out; and else for
+/// lack of memory.
+pub(crate) fn cause_of(replies: &[Reply], is_whole: bool) -> Refusal
+    ensures { result ≡ cause_in replies.now is_whole }
 {
     if lacks_space(replies) {
         return Refusal::NoSpace;
     }
-    if lacks_memory(replies) {
+    if is_whole || lacks_memory(replies) {
         return Refusal::NoMemory;
     }
     Refusal::DiskFault

@@ -13,32 +13,32 @@ ghost use Rattle.vdev_label.specs.Plain.{config_view};
 use crate::planning::NewPool;
 use block_store::BlockStore;
 use model_disk::{Disk, DiskArray};
-use pool_commit::labels_of_opened_lie;
 use pool_format::{PoolIdentity, are_blank, write_labels};
-use pool_open::Refusal;
+use pool_open::{Refusal, labels_of_opened_lie};
 use std::alloc::Global;
 use vdev_label::Config;
 
-/// The disks, where a store may be opened over them.
+/// The disks, where a store may be opened over them; else they come back in the error.
 pub(crate) fn fitting<D: Disk + Drop>(
     alloc: Global,
     disks: DiskArray<D>,
     pool: &NewPool,
-) -> Result<DiskArray<D>, Refusal>
+) -> Result<DiskArray<D>, (Refusal, DiskArray<D>)>
     ensures same { IfOk result (λ array. array ≡ disks) }
     ensures may { IfOk result (λ _.
         MayBeOpened disks.starts pool.now.shapes.items pool.now.out.items) }
     ensures labels { IfOk result (λ _. HaveLabels disks.starts) }
     ensures laid { IfOk result (λ _.
         IsLaidOver disks pool.now.shapes.items pool.now.out.items) }
-    ensures refused { IfErr result (λ refusal. (refusal ≡ Refusal.NoMemory)
-        ⊎ ((refusal ≡ Refusal.BadConfig)
+    ensures refused { IfErr result (λ failed. (failed.0 ≡ Refusal.NoMemory)
+        ⊎ ((failed.0 ≡ Refusal.BadConfig)
         × ¬ MayBeOpened disks.starts pool.now.shapes.items pool.now.out.items)) }
+    ensures back { IfErr result (λ failed. failed.1 ≡ disks) }
 {
     labels_of_opened_lie();
     match BlockStore::opened(alloc, disks, &pool.shapes, &pool.out) {
         Ok(store) => Ok(store.into_array()),
-        Err((refusal, _)) => Err(Refusal::from(refusal)),
+        Err((refusal, disks)) => Err((Refusal::from(refusal), disks)),
     }
 }
 

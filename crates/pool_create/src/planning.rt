@@ -1,16 +1,16 @@
 //! What follows from a configuration, before a disk is called.
 ghost use Rattle.std.specs.Prelude.{◌≡◌, ◌⊎◌, ◌↔◌, IsTrue, IfErr, IfOk};
-ghost use Rattle.pool_commit.specs.Slots.{IsStampOf};
+ghost use Rattle.pool_open.specs.Slots.{IsStampOf};
 ghost use Rattle.pool_create.specs.Planning.{IsAllowedPool, IsNewPool, none_out};
-ghost use Rattle.vdev_label.specs.Plain.{config_view};
+ghost use Rattle.vdev_label.specs.Plain.{config_view, vdev_view};
 
 use crate::guids::{guids_are_words, is_word};
 use block_store::VdevShape;
-use pool_commit::Stamp;
 use pool_format::PoolIdentity;
-use pool_open::{Refusal, shapes_of};
+use pool_open::{Refusal, Stamp, shapes_of};
 use std::alloc::{AllocError, Global};
-use vdev_label::{Config, allowed_has_room, config_of_label_fits};
+use std::sync::Arc;
+use vdev_label::{Config, Vdev, allowed_has_room, config_of_label_fits};
 
 /// What the first group, and the reading of it, need to know of the pool.
 #[derive(Drop)]
@@ -19,6 +19,7 @@ pub(crate) struct NewPool {
     /// That no disk is out.
     pub(crate) out: Vec<bool>,
     pub(crate) stamp: Stamp,
+    pub(crate) config: Arc<Config, Global>,
 }
 
 /// Marks of so many disks, none of which is out.
@@ -56,6 +57,32 @@ fn stamp_of(alloc: Global, pool: &PoolIdentity, config: &Config) -> Result<Stamp
     })
 }
 
+/// A copy of a vdev.
+fn copied_vdev(alloc: Global, vdev: &Vdev) -> Result<Vdev, AllocError>
+    ensures { IfOk result (λ copy. vdev_view copy ≡ vdev_view vdev.now) }
+{
+    let children = Vec::from_slice(alloc, &vdev.children)?;
+    Ok(Vdev {
+        guid: vdev.guid,
+        parity: vdev.parity,
+        child_sectors: vdev.child_sectors,
+        slab_shift: vdev.slab_shift,
+        meta_slabs: vdev.meta_slabs,
+        children,
+    })
+}
+
+/// A copy of a configuration.
+fn copied(alloc: Global, config: &Config) -> Result<Config, AllocError>
+    ensures { IfOk result (λ copy. config_view copy ≡ config_view config.now) }
+{
+    let mut vdevs = Vec::new(alloc);
+    for i in 0..config.vdevs.len() {
+        vdevs.push(copied_vdev(alloc, &config.vdevs[i])?)?;
+    }
+    Ok(Config { vdevs })
+}
+
 /// What follows from an allowed configuration, for so many disks.
 fn new_pool(
     alloc: Global,
@@ -66,10 +93,13 @@ fn new_pool(
     requires { IsAllowedPool pool.now config.now }
     ensures { IfOk result (IsNewPool config.now count) }
 {
+    guids_are_words(config);
+    let copied = copied(alloc, config)?;
     Ok(NewPool {
         shapes: shapes_of(alloc, config)?,
         out: none_out(alloc, count)?,
         stamp: stamp_of(alloc, pool, config)?,
+        config: Arc::new(alloc, copied)?,
     })
 }
 

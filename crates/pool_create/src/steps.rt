@@ -1,11 +1,11 @@
 //! The steps of the first group, and what their replies come to.
 ghost use Rattle.std.specs.Prelude.{◌≡◌, IfErr, IfOk};
 ghost use Rattle.pool_create.specs.FirstGroup.{AreFirstSteps, RanFirst};
-ghost use Rattle.pool_core.specs.StateOf.{state_of};
+ghost use Rattle.pool_open.specs.Calls.{GrewTo};
+ghost use Rattle.pool_open.specs.CoreStateOf.{disks_in, state_of};
 
 use model_disk::Disk;
-use pool_core::{Core, Reply, Step, run};
-use pool_open::Refusal;
+use pool_open::{Core, Refusal, Reply, Step, run};
 use std::alloc::{AllocError, Global};
 
 /// How many times device calls are made: four a step at most, more than the first group of any pool has.
@@ -29,6 +29,7 @@ pub(crate) fn run_first<D: Disk + Drop>(
 ) -> Result<Vec<Reply>, Refusal>
     ensures ran { IfOk result (λ replies.
         RanFirst (state_of core.old) (state_of core.new) replies.items) }
+    ensures grew { GrewTo (disks_in core.old) (disks_in core.new) }
     ensures refused { IfErr result (λ refusal. refusal ≡ Refusal.NoMemory) }
 {
     let steps = first_steps(alloc)?;

@@ -18,7 +18,7 @@ use Rattle.block_store.proofs.Taking.{found_too, map-set_same, slice_get-set_fou
 use Rattle.meta_objset.specs.declared.space_maps.MetaslabMap.{MetaslabMap}
 use Rattle.metaslab.specs.State.{InUse, Released}
 use Rattle.metaslab.specs.Space.{Space}
-use Rattle.metaslab_group.specs.Spaces.{ChangesIn}
+use Rattle.metaslab.specs.Spaces.{ChangesIn}
 use Rattle.objset.specs.declared.changes.ObjectChange.{ObjectChange}
 use Rattle.objset.specs.Changes.{changed}
 use Rattle.objset.specs.Objects.{Object}

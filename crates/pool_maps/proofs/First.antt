@@ -19,9 +19,9 @@ use Rattle.dnode.specs.declared.dnode.Dnode.{Dnode}
 use Rattle.dnode.specs.declared.dnode.Dnode.TheVariants.{Free}
 use Rattle.dnode.specs.declared.object_set.ObjectSet.{ObjectSet}
 use Rattle.dnode.specs.declared.object_set.ObjectSetKind.TheVariants.{Meta}
-use Rattle.dnode_slots.specs.declared.reading.FoundDnode.{FoundDnode}
-use Rattle.dnode_slots.specs.Found.{IsNodeFound, found_dnode}
-use Rattle.dnode_slots.specs.Nodes.{IsNodeIn}
+use Rattle.objset.specs.declared.node_reading.FoundDnode.{FoundDnode}
+use Rattle.objset.specs.NodesFound.{IsNodeFound, found_dnode}
+use Rattle.objset.specs.Nodes.{IsNodeIn}
 use Rattle.dnode_tree.specs.Births.{AreBirths, height_of}
 use Rattle.dnode_tree.specs.Tree.{property_of}
 use Rattle.dnode_tree.specs.Ways.{ComesTo, IsBlockFound, Reached, bytes_in, root_of}

@@ -10,7 +10,7 @@ use Rattle.block_store.proofs.Loading.{Loads, at_vdev, other_metaslab, other_vde
 use Rattle.block_store.proofs.Taking.{found_too, slice_get-set_found}
 use Rattle.meta_objset.specs.declared.space_maps.MetaslabPlace.{MetaslabPlace}
 use Rattle.metaslab.proofs.Unused.{unused_of_set}
-use Rattle.metaslab_group.specs.Spaces.{GroupSpaces}
+use Rattle.metaslab.specs.Spaces.{GroupSpaces}
 use Rattle.raidz_io.proofs.Written.{same_some}
 use Rattle.space_map.specs.FreeRuns.{FreeRuns}
 use Rattle.pool_maps.specs.declared.reading.FreeMetaslab.{FreeMetaslab}

@@ -25,7 +25,7 @@ use Rattle.meta_objset.specs.declared.space_maps.MetaslabMap.{MetaslabMap}
 use Rattle.meta_objset.specs.declared.space_maps.MetaslabPlace.{MetaslabPlace}
 use Rattle.metaslab.specs.Space.{Space, state, sectors_of}
 use Rattle.metaslab.specs.State.{State, Free, InUse, is_in_use}
-use Rattle.metaslab_group.specs.Spaces.{IsWhollyFree}
+use Rattle.metaslab.specs.Spaces.{IsWhollyFree}
 use Rattle.objset.specs.Objects.{Object}
 use Rattle.raidz_io.proofs.Written.{same_some}
 use Rattle.space_map.specs.FreeRuns.{FreeRuns}

@@ -10,7 +10,7 @@ use Rattle.block_store.proofs.Loading.{elsewhere_was, loads_filled}
 use Rattle.block_store.proofs.Taking.{slice_get-set_found}
 use Rattle.metaslab.specs.Space.{Space, state}
 use Rattle.metaslab.specs.State.{Free, InUse, Released}
-use Rattle.metaslab_group.specs.Spaces.{GroupSpaces}
+use Rattle.metaslab.specs.Spaces.{GroupSpaces}
 use Rattle.raidz_io.proofs.Written.{same_some}
 use Rattle.space_map.specs.FreeRuns.{FreeRuns}
 use Rattle.space_map.specs.Sectors.{contains}

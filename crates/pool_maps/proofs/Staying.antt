@@ -22,7 +22,7 @@ use Rattle.metaslab.specs.State.{State, Free, InUse, Released, is_due, is_in_use
 use Rattle.metaslab.specs.Unused.{IsUnusedOf}
 use Rattle.metaslab.proofs.Holding.{cases}
 use Rattle.metaslab.proofs.Unused.{set_of_unused}
-use Rattle.metaslab_group.specs.Spaces.{AreWhollyFree, IsWhollyFree}
+use Rattle.metaslab.specs.Spaces.{AreWhollyFree, IsWhollyFree}
 use Rattle.objset.specs.Objects.{Object}
 use Rattle.raidz_io.proofs.Written.{same_some}
 use Rattle.space_map.specs.FreeRuns.{FreeRuns, AreFree}

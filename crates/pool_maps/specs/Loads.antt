@@ -17,7 +17,7 @@ use Rattle.meta_objset.specs.SpaceMaps.{maps_kind}
 use Rattle.meta_objset.specs.declared.space_maps.MetaslabMap.{MetaslabMap}
 use Rattle.meta_objset.specs.declared.space_maps.MetaslabPlace.{MetaslabPlace}
 use Rattle.metaslab.specs.State.{State, Released}
-use Rattle.metaslab_group.specs.Maps.{AreWhollyFreeOf}
+use Rattle.metaslab.specs.Maps.{AreWhollyFreeOf}
 use Rattle.objset.specs.Objects.{Object}
 use Rattle.space_map_objects.specs.Maps.{HasMap, HasSomeMap, IsMapFound, IsMapRefused}
 use Rattle.space_map_objects.specs.declared.refusal.Refusal.{Refusal}

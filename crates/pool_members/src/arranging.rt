@@ -1,11 +1,14 @@
 //! The order of a pool's children.
-ghost use Rattle.std.specs.Prelude.{◌≡◌, [], Err, None, IfOk, IfErr, OnOk, length, map, replicate, is_none};
+ghost use Rattle.std.specs.Prelude.{◌≡◌, ◌≤◌, ◌<◌, ℕ, [], Err, None, Some, IfOk, IfErr, OnOk, length, map, replicate, is_none, slice_set, vec_capacity};
 ghost use Rattle.model_disk.specs.Member.{start_of, calls_of, disk_of};
+ghost use Rattle.model_disk.specs.declared.member.Member.{Member as MemberOf};
 ghost use Rattle.pool_members.specs.Arranged.{AreArranged, AreEachOnce, disk_for};
+ghost use Rattle.pool_members.specs.HandedIn.{AreHandedIn, place_of_disk};
 ghost use Rattle.pool_members.specs.Namers.{AreNamers};
 ghost use Rattle.pool_members.specs.declared.refusal.Refusal.TheVariants.{NotEachOnce};
 
-use crate::Refusal;
+use crate::handed_in::{HandedIn, Place, Rooms, room_for};
+use crate::refusal::Refusal;
 use model_disk::{Disk, Member};
 use std::alloc::{AllocError, Global};
 
@@ -23,6 +26,8 @@ pub struct Child {
 pub struct Arranged<D: Disk + Drop> {
     pub disks: Vec<Member<D>>,
     pub out: Vec<bool>,
+    /// Where each disk is that was handed in, so that all of them come back.
+    pub handed: HandedIn<D>,
 }
 
 /// What stands for each child's disk while it is absent, for all children.
@@ -86,6 +91,7 @@ struct Plan<D: Disk + Drop> {
     out: Vec<bool>,
     /// Of each place, the child that names it.
     namers: Vec<Option<usize>>,
+    rooms: Rooms<D>,
 }
 
 /// Makes the plan for so many disks.
@@ -103,6 +109,10 @@ fn prepare<D: Disk + Drop>(
     ensures out { IfOk result (λ plan. plan.out.items
         ≡ map (λ child. is_none child.disk) children.now) }
     ensures named { IfOk result (λ plan. AreNamers count children.now plan.namers.items) }
+    ensures no_places { IfOk result (λ plan. plan.rooms.places.items ≡ []) }
+    ensures no_disks { IfOk result (λ plan. plan.rooms.disks.items ≡ []) }
+    ensures enough_places { IfOk result (λ plan. count ≤ vec_capacity plan.rooms.places) }
+    ensures enough_disks { IfOk result (λ plan. count ≤ vec_capacity plan.rooms.disks) }
     ensures once { OnOk result (AreEachOnce count children.now) }
     ensures refused { result ≡ Err NotEachOnce → ¬ AreEachOnce count children.now }
 {
@@ -110,11 +120,31 @@ fn prepare<D: Disk + Drop>(
         members: stand_ins(alloc, children)?,
         out: marks(alloc, children)?,
         namers: find_namers(alloc, count, children)?,
+        rooms: room_for(alloc, count)?,
     })
 }
 
+/// Where a disk is. Where a child names it, it takes its place among the children's.
+fn put<D: Disk + Drop>(members: &mut Vec<Member<D>>, namer: Option<usize>, disk: D) -> Place<D>
+    requires { (child : ℕ) → namer ≡ Some child → child < length members.old.items }
+    ensures place { result ≡ place_of_disk namer disk }
+    ensures unnamed { namer ≡ None → members.new.items ≡ members.old.items }
+    ensures named { (child : ℕ) → namer ≡ Some child → (member : MemberOf D)
+        × (members.new.items ≡ slice_set members.old.items child member)
+        × (disk_of member ≡ Some disk)
+        × (start_of D.Disk member ≡ D.start disk) × (calls_of D.Disk member ≡ D.calls disk) }
+{
+    match namer {
+        Some(child) => {
+            members[child] = Member::present(disk);
+            Place::OfChild(child)
+        }
+        None => Place::Unnamed(disk),
+    }
+}
+
 /// Puts disks in the order of a pool's children: the disk that the child names, by the place at which it was handed in,
-/// and what stands for one that is absent. Disks that no child names are dropped. After an error the disks come back as they
+/// and what stands for one that is absent. A disk that no child names is kept as it is. After an error the disks come back as they
 /// were handed in, in that order.
 pub fn arrange<D: Disk + Drop>(
     alloc: Global,
@@ -127,6 +157,8 @@ pub fn arrange<D: Disk + Drop>(
         (map D.start disks.items) (map D.calls disks.items) children.now
         (map (start_of D.Disk) arranged.disks.items)
         (map (calls_of D.Disk) arranged.disks.items) arranged.out.items) }
+    ensures handed { IfOk result (λ arranged.
+        AreHandedIn disks.items children.now arranged.handed) }
     ensures once { OnOk result (AreEachOnce (length disks.items) children.now) }
     ensures refused { IfErr result (λ failed. failed.0 ≡ NotEachOnce
         → ¬ AreEachOnce (length disks.items) children.now) }
@@ -136,17 +168,22 @@ pub fn arrange<D: Disk + Drop>(
         mut members,
         out,
         namers,
+        rooms,
     } = match prepare(alloc, disks.len(), children) {
         Ok(plan) => plan,
         Err(refusal) => return Err((refusal, disks)),
     };
+    let Rooms {
+        mut places,
+        disks: room,
+    } = rooms;
     for (place, disk) in disks.into_iter().enumerate() {
-        if let Some(child) = namers[place] {
-            members[child] = Member::present(disk);
-        }
+        let here = put(&mut members, namers[place], disk);
+        places.push_reserved(here);
     }
     Ok(Arranged {
         disks: members,
         out,
+        handed: HandedIn::new(places, room),
     })
 }

@@ -2,7 +2,13 @@
 #![tactic(auto)]
 
 mod arranging;
+mod handed_in;
+mod laws;
+mod presence;
 mod refusal;
 
 pub use arranging::{Arranged, Child, arrange};
+pub use handed_in::{HandedIn, Place};
+pub use laws::called_disks_come_back;
+pub use presence::{AllPresent, all_present};
 pub use refusal::Refusal;

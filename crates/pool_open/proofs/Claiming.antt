@@ -7,7 +7,7 @@ use Rattle.model_disk.proofs.RunLemmas.{off_content}
 use Rattle.model_disk.proofs.ContentsLemmas.{covers-outside}
 use Rattle.block_store.specs.Elsewhere.{IsForBlocks}
 use Rattle.block_store.specs.Spaces.{VdevSpace}
-use Rattle.pool_commit.specs.Slots.{LabelsLieAside}
+use Rattle.pool_core.specs.Slots.{LabelsLieAside}
 use Rattle.pool_slots.specs.Labels.{IsClaimWrite, IsLabelWrite, area_place}
 use Rattle.pool_slots.specs.Slots.{InUse, IsSlot, slot_at}
 use Rattle.pool_slots.specs.Writes.{IsSlotWrite, in_use}

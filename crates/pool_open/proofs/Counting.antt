@@ -3,7 +3,7 @@ use Rattle.std.proofs.Common.{◌≡◌, ◌≤◌, ◌+◌, ◌*◌, ℕ, zero,
 use Rattle.std.proofs.lemmas.List.Elements.{All-nil, All-cons}
 use Rattle.block_store.specs.Opened.{LieOn}
 use Rattle.block_store.specs.declared.shape.VdevShape.{VdevShape}
-use Rattle.pool_commit.specs.Config.{shown}
+use Rattle.pool_core.specs.Config.{shown}
 use Rattle.pool_open.specs.Words.{LiesAmong, sectors_in, vdevs_in}
 
 -- the disks of each are there

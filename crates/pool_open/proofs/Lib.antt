@@ -17,3 +17,14 @@ pub mod Stages
 pub mod Retried
 pub mod ExportStops
 pub mod PutAway
+pub use Rattle.pool_core.proofs.SnapshotsLosses
+pub use Rattle.pool_core.proofs.SnapshotsReadings
+pub use Rattle.pool_core.proofs.SnapshotsStanding
+pub use Rattle.pool_core.proofs.CommitGrowing
+pub use Rattle.pool_core.proofs.CommitLabels
+pub use Rattle.pool_core.proofs.CommitMade
+pub use Rattle.pool_core.proofs.CommitMapping
+pub use Rattle.pool_core.proofs.CommitPlanning
+pub use Rattle.pool_core.proofs.CommitProgressing
+pub use Rattle.pool_core.proofs.Phases as CorePhases
+pub use Rattle.pool_core.proofs.Running as CoreRunning

@@ -13,13 +13,13 @@ use Rattle.block_store.specs.Store.{Store, Holds, outs, outs_from}
 use Rattle.block_store.specs.declared.refusal.Refusal.{Refusal as StoreRefusal}
 use Rattle.block_store.specs.declared.refusal.Refusal.TheVariants as store
 use Rattle.block_store.specs.declared.shape.VdevShape.{VdevShape}
-use Rattle.dataset_snapshots.specs.Contents.{AreContentsOf, AreContentsRefused}
-use Rattle.dataset_snapshots.specs.Mapped.{HasItsMaps}
-use Rattle.dataset_snapshots.specs.Pools.{SpellsPool}
-use Rattle.dataset_snapshots.specs.Reach.{meta_blocks_of, volume_blocks_of}
-use Rattle.dataset_snapshots.specs.declared.contents.RootContents.{RootContents}
+use Rattle.pool_core.specs.Contents.{AreContentsOf, AreContentsRefused}
+use Rattle.pool_core.specs.Mapped.{HasItsMaps}
+use Rattle.pool_core.specs.Pools.{SpellsPool}
+use Rattle.pool_core.specs.Reach.{meta_blocks_of, volume_blocks_of}
+use Rattle.pool_core.specs.RootContents.{RootContents}
 use Rattle.dnode_tree.specs.Rewriting.{AreDistinct}
-use Rattle.pool_maps.proofs.ReadSets.{read_stay}
+use Rattle.pool_core.proofs.MapsReadSets.{read_stay}
 use Rattle.pool_model.specs.Pools.{PlainPool}
 use Rattle.space_map_objects.specs.Maps.{IsForLossOf}
 use Rattle.space_map_objects.specs.Refused.{of_read}

@@ -7,9 +7,9 @@ use Rattle.block_store.specs.Blocks.{Contents}
 use Rattle.block_store.specs.Elsewhere.{WritesElsewhereKeep}
 use Rattle.block_store.specs.Store.{Store, is_out}
 use Rattle.block_store.specs.declared.shape.VdevShape.{VdevShape}
-use Rattle.dataset_snapshots.specs.Mapped.{SpellsWithMaps}
-use Rattle.dataset_snapshots.specs.declared.contents.RootContents.{RootContents}
-use Rattle.pool_commit.specs.Slots.{LabelsLieAside}
+use Rattle.pool_core.specs.Mapped.{SpellsWithMaps}
+use Rattle.pool_core.specs.RootContents.{RootContents}
+use Rattle.pool_core.specs.Slots.{LabelsLieAside}
 use Rattle.pool_core.specs.Represents.{Represents}
 use Rattle.pool_core.specs.State.{CoreState, disks_of}
 use Rattle.pool_model.specs.Pools.{PlainPool}
@@ -22,6 +22,7 @@ use Rattle.uberblock_ring.specs.declared.uberblock.Uberblock.{Uberblock}
 use Rattle.volume_rules.specs.NowMoves.{IsMadeBy}
 use Rattle.pool_open.specs.Held.{HoldOver, IsLaidOver, IsStoreOver}
 use Rattle.pool_open.specs.Opening.{RepresentsRoot}
+use Rattle.pool_open.specs.Trees.{IsConfiguredFor, NamesConfigOf}
 use Rattle.pool_open.specs.Words.{vdevs_in}
 use Rattle.pool_open.specs.Roots.{AreContentsOver, IsReadOfRoot}
 use Rattle.pool_open.proofs.Claiming.{claims_spare_blocks}
@@ -56,17 +57,17 @@ held_behind_claim keep old read new shapes out later u stored laid makes claims 
 abbrev pub CoreRepresents : Disks → List VdevShape → List Bool → Uberblock → RootContents → CoreState → Type 0
 CoreRepresents new shapes later claimed contents core =
     (stored : Contents) (pool : PlainPool) → HoldOver new shapes later stored → AreContentsOver shapes stored claimed.group claimed.root pool contents
-    → SpellsWithMaps stored shapes claimed.group claimed.root pool → IsMadeBy claimed.group pool → Represents core (opened_as (vdevs_in shapes) (is_out later) claimed.group pool)
+    → SpellsWithMaps stored shapes claimed.group claimed.root pool → IsMadeBy claimed.group pool → IsConfiguredFor claimed stored pool → NamesConfigOf claimed core → Represents core (opened_as (vdevs_in shapes) (is_out later) claimed.group pool)
 
 pub represents_root : WritesElsewhereKeep → (old surveyed read new : Disks) (shapes : List VdevShape) (out later : List Bool) (claimed : Uberblock) (contents : RootContents)
     (core : CoreState) → IsLaidOver old shapes out → length later ≡ length old.starts → Makes no_write old surveyed → Makes no_write surveyed read
     → MakesOn (InUse later) (IsClaimWrite read.starts later claimed) read new → Fits claimed → IsReadOfRoot surveyed read shapes later claimed.group claimed.root contents
     → disks_of core ≡ new → CoreRepresents new shapes later claimed contents core → RepresentsRoot old shapes later claimed core
-represents_root keep old surveyed read new shapes out later claimed contents core laid count surveys reads claims fits root disks represents stored pool hold spells honest made =
+represents_root keep old surveyed read new shapes out later claimed contents core laid count surveys reads claims fits root disks represents stored pool hold spells configured named honest made =
     let honest_now = subst (λ (d : Disks). IsHonestSince old d) disks honest in
     let before = both_made no_write old surveyed read surveys reads in
     represents stored pool
     (held_behind_claim keep old read new shapes out later claimed stored laid before claims count fits hold)
     (root.are stored pool (held_behind_reads keep old surveyed shapes out later stored laid surveys hold) spells.0
     (honest_within (IsClaimWrite read.starts later claimed) old surveyed read new surveys claims.makes honest_now))
-    spells made
+    spells made configured named

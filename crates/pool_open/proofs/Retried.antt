@@ -8,7 +8,7 @@ use Rattle.block_store.specs.Opened.{LieOn, MayBeOpened}
 use Rattle.block_store.specs.Store.{is_out}
 use Rattle.block_store.specs.declared.shape.VdevShape.{VdevShape}
 use Rattle.pool_core.specs.State.{CoreState}
-use Rattle.pool_commit.specs.Slots.{LabelsLieAside}
+use Rattle.pool_core.specs.Slots.{LabelsLieAside}
 use Rattle.pool_model.specs.View.{is_tolerable}
 use Rattle.pool_slots.specs.Failures.{HasFailedOn}
 use Rattle.pool_slots.specs.Slots.{HaveLabels, InUse}

@@ -7,14 +7,14 @@ use Rattle.block_store.specs.Opened.{MayBeOpened}
 use Rattle.block_store.specs.Places.{shapes_of}
 use Rattle.block_store.specs.Store.{Store, is_out}
 use Rattle.block_store.specs.declared.shape.VdevShape.{VdevShape}
-use Rattle.dataset_snapshots.specs.declared.contents.RootContents.{RootContents}
-use Rattle.pool_commit.specs.Reopened.{LabelsOfOpenedLie}
-use Rattle.pool_commit.specs.Slots.{LabelsLieAside}
+use Rattle.pool_core.specs.RootContents.{RootContents}
+use Rattle.pool_core.specs.Reopened.{LabelsOfOpenedLie}
+use Rattle.pool_core.specs.Slots.{LabelsLieAside}
 use Rattle.pool_core.specs.State.{CoreState, disks_of}
 use Rattle.pool_model.specs.View.{is_tolerable}
 use Rattle.pool_slots.specs.Configs.{OpenConfigures}
 use Rattle.pool_slots.specs.Failures.{HasFailedOn}
-use Rattle.pool_slots.specs.Labels.{AreClaimed, IsClaimWrite}
+use Rattle.pool_slots.specs.Labels.{AreClaimed, AreSlotted, IsClaimWrite}
 use Rattle.pool_slots.specs.Opens.{OpenGives, OpenKeeps, OpenMarks}
 use Rattle.pool_slots.specs.Present.{GoOut, is_out as is_away}
 use Rattle.pool_slots.specs.Relabels.{OpenRelabels, OpenRewrites}
@@ -127,6 +127,7 @@ pub record AreBegun (later : List Bool) (s : Surveyed) (read new : Disks) : Type
 
 pub record AreDone (later : List Bool) (s : Surveyed) (read new : Disks) : Type 0 where
   pub gives : OfSurveyed later s read (λ rewind first. OpenGives later rewind first s.claimed new)
+  pub slotted : AreSlotted later new s.claimed
   pub labeled : AreClaimed later new s.claimed
   pub relabels : OfSurveyed later s read (λ rewind first. OpenRelabels later first s.claimed new)
 
@@ -219,6 +220,7 @@ opened_over keep out later rewind old surveyed read new shapes s contents core f
       kept = kept_by_claim later rewind old read (disks_of core) s few is here;
       gives = ended.gives rewind old few is;
       takes = opened_from later rewind old read (disks_of core) s are.whole.found_on is here.makes.makes;
+      slotted = ended.slotted;
       labeled = ended.labeled;
       relabels = ended.relabels rewind old few is;
       tolerable = tolerable;

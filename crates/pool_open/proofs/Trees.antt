@@ -6,9 +6,11 @@ use Rattle.raidz_io.specs.Reads.{IsHonestSince}
 use Rattle.block_pointer.specs.declared.block.Block.{Block}
 use Rattle.block_store.specs.Store.{is_out}
 use Rattle.block_store.specs.declared.shape.VdevShape.{VdevShape}
-use Rattle.dataset_snapshots.specs.Mapped.{SpellsWithMaps}
+use Rattle.pool_core.specs.Mapped.{SpellsWithMaps}
 use Rattle.pool_core.specs.Represents.{Represents}
+use Rattle.block_store.specs.Blocks.{Contents}
 use Rattle.pool_core.specs.State.{CoreState, disks_of}
+use Rattle.pool_model.specs.Pools.{PlainPool}
 use Rattle.pool_model.specs.View.{opened_as}
 use Rattle.pool_slots.specs.Opens.{AreOn}
 use Rattle.pool_slots.specs.Possible.{TreeStands}
@@ -19,13 +21,18 @@ use Rattle.pool_slots.proofs.Phases.{MakesOn-none}
 use Rattle.uberblock_ring.specs.declared.uberblock.Uberblock.{Uberblock}
 use Rattle.volume_rules.specs.NowMoves.{IsMadeBy}
 use Rattle.pool_open.specs.Opening.{RepresentsRoot}
-use Rattle.pool_open.specs.Trees.{OpensPossible}
+use Rattle.pool_open.specs.Trees.{IsConfiguredFor, OpensPossible}
 use Rattle.pool_open.specs.Words.{vdevs_in}
+
+-- so it is under another claim
+pub configured_claim : (taken : Uberblock) (claim : ℕ) (stored : Contents) (pool : PlainPool) → IsConfiguredFor taken stored pool
+    → IsConfiguredFor (record taken { claim = claim }) stored pool
+configured_claim taken claim stored pool is = (is.0, is.1, is.2, record { claim_is = refl; guids = is.3.guids; digest = is.3.digest })
 
 pub opens_possible : (may : ℕ → ℕ → List ℕ → Type 0) (old read new : Disks) (shapes : List VdevShape) (later : List Bool) (rewind : ℕ) (s : Surveyed) (core : CoreState) → rewind < 3
     → AreOn later s.found → IsSurveyed later rewind old read s → Makes may read new → disks_of core ≡ new → RepresentsRoot old shapes later s.claimed core
     → OpensPossible old shapes later rewind s.claimed core
-opens_possible may old read new shapes later rewind s core few on surveyed makes disks represents trees p pools can are honest =
+opens_possible may old read new shapes later rewind s core few on surveyed makes disks represents trees p pools can are named honest =
     let honest_new = subst (λ (d : Disks). IsHonestSince old d) disks honest in
     let says = surveyed.says can.known (honest_before (length old.calls) may read new makes honest_new) in
     let it = chosen trees later rewind old old p s can few (MakesOn-none (λ (which : ℕ). ⊥) no_write old).makes on says in
@@ -34,9 +41,12 @@ opens_possible may old read new shapes later rewind s core few on surveyed makes
     let stands : TreeStands trees later (content old) taken.root = subst (λ (root : Block). TreeStands trees later (content old) root) (ap (λ (u : Uberblock). u.root) it.claim.is) it.may.tree in
     let spells : SpellsWithMaps tree.stored shapes s.claimed.group s.claimed.root (pools taken) =
     subst (λ (u : Uberblock). SpellsWithMaps tree.stored shapes u.group u.root (pools taken)) (sym it.claim.is) (tree.spells, tree.mapped) in
+    let configured : IsConfiguredFor s.claimed tree.stored (pools taken) =
+    subst (λ (u : Uberblock). IsConfiguredFor u tree.stored (pools taken)) (sym it.claim.is)
+    (configured_claim taken s.claimed.claim tree.stored (pools taken) tree.configured) in
     let made : IsMadeBy s.claimed.group (pools taken) = subst (λ (u : Uberblock). IsMadeBy u.group (pools taken)) (sym it.claim.is) tree.made in
     record {
       claim = it.claim;
       represents = subst (λ (u : Uberblock). Represents core (opened_as (vdevs_in shapes) (is_out later) u.group (pools taken))) it.claim.is
-          (represents tree.stored (pools taken) (tree.held old refl stands) spells honest made);
+          (represents tree.stored (pools taken) (tree.held old refl stands) spells configured named honest made);
     }

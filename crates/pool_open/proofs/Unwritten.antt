@@ -7,7 +7,7 @@ use Rattle.model_disk.specs.Joint.{Disks, JointCall, MayLeaveAll, bytes_of, call
 use Rattle.model_disk.specs.Runs.{EachSince, HeldSince, Holds, Makes, WritesOnly, last_done, no_write}
 use Rattle.model_disk.proofs.ContentsLemmas.{MayLeave-before_Flushed, MayLeave-FailedFlush}
 use Rattle.model_disk.proofs.RunLemmas.{each_after, each_of_run}
-use Rattle.pool_slots.specs.Configs.{LeavesConfigured, OpenConfigures}
+use Rattle.pool_slots.specs.Configs.{LeavesConfiguredOn, OpenConfigures, ShowsConfig}
 use Rattle.pool_slots.specs.Marks.{LeavesMarked}
 use Rattle.pool_slots.specs.Opens.{MarksAt, OpenKeeps, OpenMarks, also_begun}
 use Rattle.pool_slots.specs.Possible.{LeavesLeading, Possible, Trees}
@@ -114,8 +114,8 @@ leading_goes_on trees out starts p made calls none before images left untorn =
 marked_goes_on : (out : List Bool) (starts : List (List ℕ)) (claim : ℕ) → GoesOn (LeavesMarked out starts claim)
 marked_goes_on out starts claim made calls none before images left = before images (all_leave_less starts made calls images none left)
 
-configured_goes_on : (out : List Bool) (starts : List (List ℕ)) (digest : List ℕ) → GoesOn (LeavesConfigured out starts digest)
-configured_goes_on out starts digest made calls none before images left = before images (all_leave_less starts made calls images none left)
+configured_goes_on : (used : ℕ → Type 0) (starts : List (List ℕ)) (digest : List ℕ) → GoesOn (LeavesConfiguredOn used starts digest)
+configured_goes_on used starts digest made calls none before images left = before images (all_leave_less starts made calls images none left)
 
 marks_go_on : (trees : Trees) (out : List Bool) (rewind : ℕ) (old : Disks) (p : Possible) (claim : ℕ) → GoesOn (MarksAt trees out rewind old p claim)
 marks_go_on trees out rewind old p claim made calls none (inl it) =
@@ -160,7 +160,8 @@ module _ (out : List Bool) (rewind : ℕ) (old mid new : Disks) where
     | inr it ↦ inr (
       it.0,
       it.1,
-      each_goes_on (LeavesConfigured out old.starts it.0.config_digest) (length old.calls) mid new (configured_goes_on out old.starts it.0.config_digest) makes it.2,
+      each_goes_on (LeavesConfiguredOn (ShowsConfig out old it.0.config_digest) old.starts it.0.config_digest) (length old.calls) mid new
+          (configured_goes_on (ShowsConfig out old it.0.config_digest) old.starts it.0.config_digest) makes it.2,
     )
   ]
 

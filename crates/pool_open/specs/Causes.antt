@@ -1,5 +1,5 @@
 -- Why a pool is not opened, by what the layers below say.
-use Rattle.std.specs.Prelude.{ℕ, List, codes}
+use Rattle.std.specs.Prelude.{ℕ, List, [], codes}
 use Rattle.block_store.specs.declared.refusal.Refusal.{Refusal as StoreRefusal}
 use Rattle.block_store.specs.declared.refusal.Refusal.TheVariants as store
 use Rattle.pool_format.specs.declared.refusal.Refusal.{Refusal as FormatRefusal}
@@ -10,6 +10,7 @@ use Rattle.pool_slots.specs.declared.refusal.Refusal.{Refusal as SlotsRefusal}
 use Rattle.pool_slots.specs.declared.refusal.Refusal.TheVariants as slots
 use Rattle.space_map_objects.specs.declared.refusal.Refusal.{Refusal as RootRefusal}
 use Rattle.space_map_objects.specs.declared.refusal.Refusal.TheVariants as root
+use Rattle.vdev_label.specs.declared.refusal.Breach.TheVariants as breach
 use Rattle.pool_open.specs.declared.refusal.Refusal.{Refusal}
 use Rattle.pool_open.specs.declared.refusal.Refusal.TheVariants.{NoMemory, DiskFault, NoSpace, BadLabel, NoUberblock, BadPointer, BadDigest, TooManyMissing, PoolMismatch, BadConfig, BadMap}
 
@@ -38,6 +39,14 @@ name_of TooManyMissing = codes "TooManyMissing"
 name_of PoolMismatch = codes "PoolMismatch"
 name_of BadConfig = codes "BadConfig"
 name_of BadMap = codes "BadMap"
+
+-- of a bad label what is wrong with it; of the others nothing is said behind the name
+abbrev pub argument_of : Refusal → List ℕ
+argument_of (BadLabel breach.Tail) = codes "tail"
+argument_of (BadLabel breach.Digest) = codes "digest"
+argument_of (BadLabel breach.List) = codes "list"
+argument_of (BadLabel breach.Pairs) = codes "pairs"
+argument_of refusal = []
 
 -- the same as one of ours
 abbrev pub of_labels : LabelsRefusal → Refusal

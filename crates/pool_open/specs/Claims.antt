@@ -3,7 +3,7 @@ use Rattle.std.specs.Prelude.{ℕ, ◌≡◌, Bool, List, length}
 use Rattle.model_disk.specs.Joint.{Disks, content}
 use Rattle.block_store.specs.Elsewhere.{IsForBlocks}
 use Rattle.block_store.specs.Spaces.{VdevSpace}
-use Rattle.pool_commit.specs.Slots.{LabelsLieAside}
+use Rattle.pool_core.specs.Slots.{LabelsLieAside}
 use Rattle.pool_slots.specs.Labels.{IsClaimWrite}
 use Rattle.pool_slots.specs.Slots.{InUse, MakesOn}
 use Rattle.uberblock_ring.specs.Uberblock.{Fits}

@@ -2,7 +2,7 @@
 use Rattle.std.specs.Prelude.{◌≡◌, Bool, List}
 use Rattle.model_disk.specs.Joint.{Disks}
 use Rattle.model_disk.specs.declared.disk.Disk as disk
-use Rattle.pool_commit.specs.Last.{IsLastUberblock, LacksUberblock}
+use Rattle.pool_core.specs.Last.{IsLastUberblock, LacksUberblock}
 use Rattle.pool_core.specs.Exporting.{IsAgainstExport, IsExportable}
 use Rattle.pool_core.specs.State.{CoreState, disks_of}
 use Rattle.pool_core.specs.StateOf.{state_of}

@@ -5,7 +5,7 @@ use Rattle.block_store.specs.Blocks.{Contents}
 use Rattle.block_store.specs.Places.{shapes_of}
 use Rattle.block_store.specs.Store.{Store, Holds}
 use Rattle.block_store.specs.declared.shape.VdevShape.{VdevShape}
-use Rattle.pool_commit.specs.Slots.{LabelsLieAside}
+use Rattle.pool_core.specs.Slots.{LabelsLieAside}
 use Rattle.pool_slots.specs.Labels.{IsClaimWrite}
 use Rattle.pool_slots.specs.Slots.{InUse, MakesOn}
 use Rattle.uberblock_ring.specs.Uberblock.{Fits}

@@ -7,16 +7,16 @@ use Rattle.block_store.specs.Opened.{MayBeOpened}
 use Rattle.block_store.specs.Places.{AreEmpty, shapes_of}
 use Rattle.block_store.specs.Store.{Store, is_out}
 use Rattle.block_store.specs.declared.shape.VdevShape.{VdevShape}
-pub use Rattle.dataset_snapshots.specs.Mapped.{SpellsWithMaps}
-pub use Rattle.dataset_snapshots.specs.declared.contents.RootContents.{RootContents}
-use Rattle.pool_commit.specs.Reopened.{AreMisplaced}
+pub use Rattle.pool_core.specs.Mapped.{SpellsWithMaps}
+pub use Rattle.pool_core.specs.RootContents.{RootContents}
+use Rattle.pool_core.specs.Reopened.{AreMisplaced}
 use Rattle.pool_core.specs.Represents.{Represents}
 use Rattle.pool_core.specs.State.{CoreState, disks_of}
 use Rattle.pool_model.specs.Pools.{PlainPool}
 use Rattle.pool_model.specs.Refusals.{greatest}
 use Rattle.pool_model.specs.View.{is_tolerable, opened_as}
 use Rattle.pool_slots.specs.Configs.{OpenConfigures}
-use Rattle.pool_slots.specs.Labels.{AreClaimed, IsClaimWrite}
+use Rattle.pool_slots.specs.Labels.{AreClaimed, AreSlotted, IsClaimWrite}
 use Rattle.pool_slots.specs.Opens.{OpenGives, OpenKeeps, OpenMarks, OpenTakes}
 use Rattle.pool_slots.specs.Present.{GoOut, IsNoFault}
 use Rattle.pool_slots.specs.Relabels.{OpenRelabels, OpenRewrites}
@@ -29,7 +29,7 @@ use Rattle.volume_rules.specs.NowMoves.{IsMadeBy}
 use Rattle.pool_open.specs.Causes.{of_root, of_slots}
 use Rattle.pool_open.specs.Held.{HoldOver, IsStoreOver}
 use Rattle.pool_open.specs.Roots.{AreReadBeside, IsReadOfRoot, RootRefuses}
-use Rattle.pool_open.specs.Trees.{OpensPossible}
+use Rattle.pool_open.specs.Trees.{IsConfiguredFor, NamesConfigOf, OpensPossible}
 use Rattle.pool_open.specs.Words.{most_blocks, stamp_of, vdevs_in}
 use Rattle.pool_open.specs.declared.refusal.Refusal.{Refusal}
 use Rattle.pool_open.specs.declared.refusal.Refusal.TheVariants.{NoMemory, NoUberblock, BadPointer, TooManyMissing, BadConfig}
@@ -58,12 +58,12 @@ pub record IsKeptThrough (later : List Bool) (rewind : ℕ) (old new : Disks) : 
 
 -- ---- an open that is done, by one attempt
 
--- Where the disks still in use have the blocks of a root that spells a pool and has its space maps, and all answers were true, the core
--- represents that pool.
+-- Where the disks still in use have the blocks of a root that spells a pool and has its space maps and a configuration, the claimed uberblock names
+-- that and the one that the core keeps, and all answers were true, the core represents that pool.
 abbrev pub RepresentsRoot : Disks → List VdevShape → List Bool → Uberblock → CoreState → Type 0
 RepresentsRoot old shapes later claimed core =
     (stored : Contents) (pool : PlainPool) → HoldOver old shapes later stored → SpellsWithMaps stored shapes claimed.group claimed.root pool
-    → IsHonestSince old (disks_of core) → IsMadeBy claimed.group pool
+    → IsConfiguredFor claimed stored pool → NamesConfigOf claimed core → IsHonestSince old (disks_of core) → IsMadeBy claimed.group pool
     → Represents core (opened_as (vdevs_in shapes) (is_out later) claimed.group pool)
 
 -- An uberblock was claimed on the disks that are still in use, and the core goes on from its group.
@@ -73,6 +73,8 @@ pub record IsOpenedOver (old : Disks) (shapes : List VdevShape) (out : List Bool
   pub kept : IsKeptThrough later rewind old (disks_of core)
   pub gives : OpenGives later rewind old claimed (disks_of core)
   pub takes : OpenTakes later rewind old claimed (disks_of core)
+  -- it stands in its slot in all four labels of each, and each of their labels shows its claim
+  pub slotted : AreSlotted later (disks_of core) claimed
   pub labeled : AreClaimed later (disks_of core) claimed
   pub relabels : OpenRelabels later old claimed (disks_of core)
   pub tolerable : is_tolerable (vdevs_in shapes) (is_out later) ≡ true

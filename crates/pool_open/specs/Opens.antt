@@ -5,11 +5,14 @@ use Rattle.model_disk.specs.Member.{calls_of, start_of}
 use Rattle.model_disk.specs.declared.disk.Disk as disk
 use Rattle.model_disk.specs.declared.member.Member.{Member}
 use Rattle.block_store.specs.declared.shape.VdevShape.{VdevShape}
-use Rattle.pool_core.specs.State.{CoreState}
+use Rattle.pool_core.specs.State.{CoreState, config_of}
 use Rattle.pool_labels.specs.declared.refusal.Refusal.{Refusal as LabelsRefusal}
 use Rattle.uberblock_ring.specs.declared.uberblock.Uberblock.{Uberblock}
+use Rattle.vdev_label.specs.declared.label.Config.{Config}
 use Rattle.pool_open.specs.Causes.{of_labels}
-use Rattle.pool_open.specs.Finding.{FindRefuses, IsFoundPool}
+use Rattle.pool_members.specs.HandedIn.{AreHandedIn}
+use Rattle.pool_members.specs.declared.handed_in.Place.{Place}
+use Rattle.pool_open.specs.Finding.{AreBack, FindRefuses, IsFoundPool}
 use Rattle.pool_open.specs.Retried.{IsNotOpenedAtLast, IsOpenedAtLast}
 use Rattle.pool_open.specs.declared.handed_in.NotOpened.{NotOpened}
 use Rattle.pool_open.specs.declared.handed_in.NotOpened.TheVariants.{NotFound, Refused}
@@ -19,11 +22,15 @@ module _ {D : Type 0} where
   -- A pool was found on the disks, and its children's disks stand in an array in the order of its configuration.
   pub record AreInOrder (g : disk.Ghosts D) (disks : List D) (rewind : ℕ) (array : Disks) (shapes : List VdevShape) (out : List Bool) : Type 0 where
     pub members : List (Member D)
+    pub config : Config
     pub highest : Uberblock
     pub taken : Uberblock
-    pub found : IsFoundPool g disks rewind members out shapes highest taken
+    pub found : IsFoundPool g disks rewind members out shapes config highest taken
     pub starts : array.starts ≡ map (start_of g) members
     pub calls : (which : ℕ) → calls_on which array.calls ≡ log_of (map (calls_of g) members) which
+    -- where each disk is that was handed in
+    pub places : List (Place D)
+    pub handed : AreHandedIn found.after found.layout.children.items places
 
   -- and it was opened over them
   pub record IsOpened (g : disk.Ghosts D) (disks : List D) (rewind : ℕ) (claimed : Uberblock) (core : CoreState) : Type 0 where
@@ -32,17 +39,22 @@ module _ {D : Type 0} where
     pub out : List Bool
     pub ordered : AreInOrder g disks rewind array shapes out
     pub opened : IsOpenedAtLast array shapes out rewind claimed core
+    -- the core keeps the configuration that was found
+    pub configured : config_of core ≡ ordered.config
 
-  -- or it was not, and its children's disks are given back, as they are then
-  pub record IsUnopened (g : disk.Ghosts D) (disks : List D) (rewind : ℕ) (back : List (Member D)) (refusal : Refusal) : Type 0 where
+  -- with the disks in these places
+  abbrev pub IsOpenedOn : disk.Ghosts D → List D → ℕ → Uberblock → CoreState → List (Place D) → Type 0
+  IsOpenedOn g disks rewind claimed core places = (is : IsOpened g disks rewind claimed core) × (is.ordered.places ≡ places)
+
+  -- or it was not, and the disks are given back in the order handed in, as they are then
+  pub record IsUnopened (g : disk.Ghosts D) (disks : List D) (rewind : ℕ) (back : List D) (refusal : Refusal) : Type 0 where
     pub array : Disks
     pub shapes : List VdevShape
     pub out : List Bool
     pub ordered : AreInOrder g disks rewind array shapes out
     pub new : Disks
     pub refused : IsNotOpenedAtLast array shapes out rewind new refusal
-    pub starts : map (start_of g) back ≡ new.starts
-    pub calls : (which : ℕ) → log_of (map (calls_of g) back) which ≡ calls_on which new.calls
+    pub given : AreBack g new ordered.places back
 
   -- why it was not
   abbrev pub refusal_of : NotOpened D → Refusal

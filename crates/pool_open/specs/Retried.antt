@@ -4,8 +4,8 @@ use Rattle.model_disk.specs.Joint.{Disks}
 use Rattle.model_disk.specs.declared.disk.Disk as disk
 use Rattle.block_store.specs.Store.{is_out}
 use Rattle.block_store.specs.declared.shape.VdevShape.{VdevShape}
-use Rattle.dataset_snapshots.specs.declared.contents.RootContents.{RootContents}
-use Rattle.pool_core.specs.State.{CoreState}
+use Rattle.pool_core.specs.RootContents.{RootContents}
+use Rattle.pool_core.specs.State.{CoreState, config_of}
 use Rattle.pool_core.specs.StateOf.{state_of}
 use Rattle.pool_model.specs.Refusals.{greatest}
 use Rattle.pool_model.specs.View.{is_tolerable}
@@ -14,6 +14,7 @@ use Rattle.pool_slots.specs.Present.{GoOut}
 use Rattle.pool_slots.specs.Slots.{InUse}
 use Rattle.pool_slots.specs.Surveys.{Surveyed, IsSurveyed, IsWholeOf}
 use Rattle.uberblock_ring.specs.declared.uberblock.Uberblock.{Uberblock}
+use Rattle.vdev_label.specs.declared.label.Config.{Config}
 use Rattle.pool_open.specs.Opening.{AreClaimedThrough, IsKeptThrough, IsNotOpenedOver, IsOpenedOver}
 use Rattle.pool_open.specs.Roots.{AreReadBeside, IsReadOfRoot}
 use Rattle.pool_open.specs.Settling.{AreSettledWithout}
@@ -57,6 +58,11 @@ module _ {D : Type 0} where
   abbrev pub IsAttempt : (g : disk.Ghosts D) → Disks → List VdevShape → List Bool → ℕ → Attempt D g → Type 0
   IsAttempt g old shapes out rewind (Opened pool) = IsOpenedOver old shapes out rewind pool.uberblock (state_of pool.core)
   IsAttempt g old shapes out rewind (ClaimFailed disks left) = IsFailedClaim old shapes out rewind disks left.items
+
+  -- an attempt that opened the pool keeps this configuration
+  abbrev pub KeepsConfig : (g : disk.Ghosts D) → Config → Attempt D g → Type 0
+  KeepsConfig g config (Opened pool) = config_of (state_of pool.core) ≡ config
+  KeepsConfig g config (ClaimFailed disks left) = Unit {0}
 
 -- ---- all of them
 

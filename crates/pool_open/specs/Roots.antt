@@ -10,12 +10,12 @@ use Rattle.block_store.specs.Spaces.{VdevSpace}
 use Rattle.block_store.specs.Store.{Store, outs_from}
 use Rattle.block_store.specs.declared.refusal.Refusal.TheVariants.{BadConfig}
 use Rattle.block_store.specs.declared.shape.VdevShape.{VdevShape}
-use Rattle.dataset_snapshots.specs.Contents.{AreContentsOf, AreContentsRefused}
-use Rattle.dataset_snapshots.specs.Mapped.{HasItsMapsOver}
-use Rattle.dataset_snapshots.specs.Pools.{SpellsPool}
-use Rattle.dataset_snapshots.specs.Reach.{meta_blocks_of}
-use Rattle.dataset_snapshots.specs.declared.contents.RootContents.{RootContents}
-use Rattle.pool_maps.specs.Loads.{AreSetsOf}
+use Rattle.pool_core.specs.Contents.{AreContentsOf, AreContentsRefused}
+use Rattle.pool_core.specs.Mapped.{HasItsMapsOver}
+use Rattle.pool_core.specs.Pools.{SpellsPool}
+use Rattle.pool_core.specs.Reach.{meta_blocks_of}
+use Rattle.pool_core.specs.RootContents.{RootContents}
+use Rattle.pool_core.specs.Loads.{AreSetsOf}
 use Rattle.pool_model.specs.Pools.{PlainPool}
 use Rattle.space_map_objects.specs.Maps.{IsForLossOf}
 use Rattle.space_map_objects.specs.declared.refusal.Refusal.{Refusal}

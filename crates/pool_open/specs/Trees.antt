@@ -5,10 +5,12 @@ use Rattle.raidz_io.specs.Reads.{IsHonestSince}
 use Rattle.block_store.specs.Blocks.{Contents}
 use Rattle.block_store.specs.Store.{is_out}
 use Rattle.block_store.specs.declared.shape.VdevShape.{VdevShape}
-use Rattle.dataset_snapshots.specs.Mapped.{HasItsMapsOver}
-use Rattle.dataset_snapshots.specs.Pools.{SpellsPool}
+use Rattle.pool_core.specs.Mapped.{HasItsMapsOver}
+use Rattle.pool_core.specs.Pools.{SpellsPool}
 use Rattle.pool_core.specs.Represents.{Represents}
-use Rattle.pool_core.specs.State.{CoreState, disks_of}
+use Rattle.pool_core.specs.Reopened.{IsConfiguredUnder}
+use Rattle.pool_core.specs.Slots.{IsStampOf}
+use Rattle.pool_core.specs.State.{CoreState, config_of, disks_of}
 use Rattle.pool_model.specs.Pools.{PlainPool}
 use Rattle.pool_model.specs.View.{opened_as}
 use Rattle.pool_slots.specs.Opens.{CanOpen, IsClaimOf}
@@ -16,14 +18,24 @@ use Rattle.pool_slots.specs.Possible.{Possible, IsInReach, Trees, TreeStands}
 use Rattle.uberblock_ring.specs.declared.uberblock.Uberblock.{Uberblock}
 use Rattle.volume_rules.specs.NowMoves.{IsMadeBy}
 use Rattle.pool_open.specs.Held.{HoldOver}
-use Rattle.pool_open.specs.Words.{vdevs_in}
+use Rattle.pool_open.specs.Words.{stamp_of, vdevs_in}
+use Rattle.vdev_label.specs.Plain.{config_view}
 
--- The tree below the uberblock's root is that of the pool, and has its space maps: where it stands on disks of these sizes, the blocks that
--- spell the pool may be read.
+-- the root below the uberblock has the configuration that the uberblock names
+abbrev pub IsConfiguredFor : Uberblock → Contents → PlainPool → Type 0
+IsConfiguredFor u stored pool = IsConfiguredUnder (stamp_of u) stored u.group u.root pool
+
+-- the uberblock names the configuration that the core keeps
+abbrev pub NamesConfigOf : Uberblock → CoreState → Type 0
+NamesConfigOf u core = IsStampOf (config_view (config_of core)) u.claim (stamp_of u)
+
+-- The tree below the uberblock's root is that of the pool, and has its space maps and the configuration that the uberblock names: where it stands
+-- on disks of these sizes, the blocks that spell the pool may be read.
 pub record IsTreeOf (trees : Trees) (starts : List (List ℕ)) (shapes : List VdevShape) (out : List Bool) (u : Uberblock) (pool : PlainPool) : Type 0 where
   pub stored : Contents
   pub spells : SpellsPool stored u.group u.root pool
   pub mapped : HasItsMapsOver shapes spells
+  pub configured : IsConfiguredFor u stored pool
   pub made : IsMadeBy u.group pool
   pub held : (disks : Disks) → map length disks.starts ≡ map length starts → TreeStands trees out (content disks) u.root → HoldOver disks shapes out stored
 
@@ -32,10 +44,11 @@ pub record IsOpenedFor (p : Possible) (pools : Uberblock → PlainPool) (shapes 
   pub claim : IsClaimOf p rewind claimed
   pub represents : Represents core (opened_as (vdevs_in shapes) (is_out out) claim.taken.group (pools claim.taken))
 
--- Whatever the disks in use lead to, if each uberblock that an open may come to has the tree of its pool, and all answers were true: what is
--- claimed is one of the possible ones, or so many groups below one, and its pool is what the core represents.
+-- Whatever the disks in use lead to, if each uberblock that an open may come to has the tree of its pool, the claimed one names the configuration
+-- that the core keeps, and all answers were true: what is claimed is one of the possible ones, or so many groups below one, and its pool is what
+-- the core represents.
 abbrev pub OpensPossible : Disks → List VdevShape → List Bool → ℕ → Uberblock → CoreState → Type 0
 OpensPossible old shapes out rewind claimed core =
     (trees : Trees) (p : Possible) (pools : Uberblock → PlainPool) → CanOpen trees out old p
-    → ((u : Uberblock) → IsInReach p u → IsTreeOf trees old.starts shapes out u (pools u)) → IsHonestSince old (disks_of core)
+    → ((u : Uberblock) → IsInReach p u → IsTreeOf trees old.starts shapes out u (pools u)) → NamesConfigOf claimed core → IsHonestSince old (disks_of core)
     → IsOpenedFor p pools shapes out rewind claimed core

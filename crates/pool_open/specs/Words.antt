@@ -1,8 +1,8 @@
 -- Words of a pool that is opened.
 use Rattle.std.specs.Prelude.{ℕ, ◌≤◌, ◌+◌, ◌*◌, ◌-◌, ◌^◌, List, [], ◌∷◌, map, min}
 use Rattle.block_store.specs.declared.shape.VdevShape.{VdevShape}
-use Rattle.pool_commit.specs.Config.{shown}
-use Rattle.pool_commit.specs.declared.stamp.Stamp.{Stamp}
+use Rattle.pool_core.specs.Config.{shown}
+use Rattle.pool_core.specs.Stamp.{Stamp}
 use Rattle.pool_model.specs.View.{Vdev}
 use Rattle.uberblock_ring.specs.declared.uberblock.Uberblock.{Uberblock}
 

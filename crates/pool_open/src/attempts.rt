@@ -1,10 +1,11 @@
 //! Opening a pool whose disks are in order. Where its claim fails on a disk, it is opened over the disks that are left.
 ghost use Rattle.std.specs.Prelude.{◌≡◌, ◌<◌, length, IfErr, IfOk};
 ghost use Rattle.block_store.specs.Opened.{MayBeOpened};
+ghost use Rattle.pool_core.specs.State.{config_of};
 ghost use Rattle.pool_core.specs.StateOf.{state_of};
 ghost use Rattle.pool_open.specs.Held.{IsLaidOver};
 ghost use Rattle.pool_open.specs.Opening.{IsNotOpenedOver};
-ghost use Rattle.pool_open.specs.Retried.{IsAttempt, IsNotOpenedAtLast, IsOpenedAtLast, IsPoolRead};
+ghost use Rattle.pool_open.specs.Retried.{IsAttempt, IsNotOpenedAtLast, IsOpenedAtLast, IsPoolRead, KeepsConfig};
 ghost use Rattle.pool_slots.specs.Slots.{HaveLabels};
 
 use crate::opening::{OpenedPool, core_over, fitting, survey_disks};
@@ -13,10 +14,12 @@ use crate::roots::read_root;
 use crate::settling::settle_without;
 use crate::tolerance::{are_tolerable, count_sectors};
 use block_store::{VdevShape, writes_elsewhere_keep};
-use dataset_snapshots::RootContents;
 use model_disk::{Disk, DiskArray};
+use pool_core::RootContents;
 use pool_slots::{Survey, claim};
 use std::alloc::Global;
+use std::sync::Arc;
+use vdev_label::Config;
 
 /// What an attempt came to that was not refused.
 #[derive(Drop)]
@@ -76,16 +79,21 @@ fn open_once<D: Disk + Drop>(
     shapes: &[VdevShape],
     out: Vec<bool>,
     rewind: u64,
+    config: &Arc<Config, Global>,
 ) -> Result<Attempt<D>, (Refusal, DiskArray<D>)>
     requires rewind { rewind < 3 }
     requires may { MayBeOpened disks.starts shapes.now out.items }
     requires labels { HaveLabels disks.starts }
     requires laid { IsLaidOver disks shapes.now out.items }
     ensures attempted { IfOk result (IsAttempt D.Disk disks shapes.now out.items rewind) }
+    ensures config { IfOk result (KeepsConfig D.Disk config.now.value) }
     ensures refused { IfErr result (λ failed.
         IsNotOpenedOver disks shapes.now out.items rewind failed.1 failed.0) }
 {
     writes_elsewhere_keep();
+    let Ok(kept) = Arc::try_clone(config) else {
+        return Err((Refusal::NoMemory, disks));
+    };
     let read = read_pool(alloc, disks, shapes, out, rewind)?;
     let ReadPool {
         mut disks,
@@ -95,7 +103,7 @@ fn open_once<D: Disk + Drop>(
     } = read;
     match claim(&survey, &mut disks, &out) {
         Ok(claimed) => {
-            let core = core_over(alloc, disks, shapes, &out, &claimed, contents)?;
+            let core = core_over(alloc, disks, shapes, &out, &claimed, contents, kept)?;
             Ok(Attempt::Opened(OpenedPool {
                 core,
                 uberblock: claimed,
@@ -115,6 +123,7 @@ fn open_left<D: Disk + Drop>(
     shapes: &[VdevShape],
     out: Vec<bool>,
     rewind: u64,
+    config: &Arc<Config, Global>,
 ) -> Result<OpenedPool<D>, (Refusal, DiskArray<D>)>
     requires rewind { rewind < 3 }
     requires may { MayBeOpened disks.starts shapes.now out.items }
@@ -122,21 +131,22 @@ fn open_left<D: Disk + Drop>(
     requires laid { IsLaidOver disks shapes.now out.items }
     ensures opened { IfOk result (λ pool.
         IsOpenedAtLast disks shapes.now out.items rewind pool.uberblock (state_of pool.core)) }
+    ensures config { IfOk result (λ pool. config_of (state_of pool.core) ≡ config.now.value) }
     ensures refused { IfErr result (λ failed.
         IsNotOpenedAtLast disks shapes.now out.items rewind failed.1 failed.0) }
 {
-    match open_once(alloc, disks, shapes, out, rewind)? {
+    match open_once(alloc, disks, shapes, out, rewind, config)? {
         Attempt::Opened(pool) => Ok(pool),
         Attempt::ClaimFailed { disks, out } => {
             if !are_tolerable(shapes, &out) {
                 return Err((Refusal::TooManyMissing, disks));
             }
-            open_left(alloc, disks, shapes, out, rewind)
+            open_left(alloc, disks, shapes, out, rewind, config)
         }
     }
 }
 
-/// Opens a pool whose disks are in the order of its configuration: reads what they show and what its root holds, claims it, and goes
+/// Opens a pool of this configuration whose disks are in its order: reads what they show and what its root holds, claims it, and goes
 /// on from its group. Where it goes back (`rewind`, 1 or 2) it is the group that is so many less. A disk of which a label or slot can't
 /// be read is out from then on, and nothing is written to it.
 ///
@@ -154,14 +164,16 @@ pub fn open_over<D: Disk + Drop>(
     shapes: &[VdevShape],
     out: Vec<bool>,
     rewind: u64,
+    config: &Arc<Config, Global>,
 ) -> Result<OpenedPool<D>, (Refusal, DiskArray<D>)>
     requires rewind { rewind < 3 }
     requires out { length out.items ≡ length disks.starts }
     ensures opened { IfOk result (λ pool.
         IsOpenedAtLast disks shapes.now out.items rewind pool.uberblock (state_of pool.core)) }
+    ensures config { IfOk result (λ pool. config_of (state_of pool.core) ≡ config.now.value) }
     ensures refused { IfErr result (λ failed.
         IsNotOpenedAtLast disks shapes.now out.items rewind failed.1 failed.0) }
 {
     let disks = fitting(alloc, disks, shapes, &out)?;
-    open_left(alloc, disks, shapes, out, rewind)
+    open_left(alloc, disks, shapes, out, rewind, config)
 }

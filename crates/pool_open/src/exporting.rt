@@ -1,6 +1,6 @@
 //! Exporting a pool: its labels say that it is put away, and its disks are given back.
 ghost use Rattle.std.specs.Prelude.{◌≡◌, IfErr, IfOk};
-ghost use Rattle.pool_commit.specs.Last.{IsLastUberblock};
+ghost use Rattle.pool_core.specs.Last.{IsLastUberblock};
 ghost use Rattle.pool_core.specs.Exporting.{IsExportable};
 ghost use Rattle.pool_core.specs.StateOf.{state_of};
 ghost use Rattle.pool_open.specs.Exporting.{IsNotExported, IsPutAway, RefusesExport, of_export, outs_of};

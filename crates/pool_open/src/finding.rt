@@ -3,7 +3,7 @@ ghost use Rattle.std.specs.Prelude.{◌≡◌, ◌≤◌, length, All, IfErr, If
 ghost use Rattle.pool_labels.specs.Choices.{HasLabelAt, IsValidAt};
 ghost use Rattle.pool_labels.specs.Scans.{anywhere, has_allowed_size};
 ghost use Rattle.pool_labels.specs.declared.scanned.ScannedLabel.{ScannedLabel};
-ghost use Rattle.pool_open.specs.Finding.{FindRefuses, IsFoundPool, IsLaidOut, IsLayoutOf, LayoutRefuses};
+ghost use Rattle.pool_open.specs.Finding.{FindRefuses, IsFoundOn, IsLaidOut, IsLayoutOf, LayoutRefuses};
 ghost use Rattle.pool_slots.specs.Reads.{OnlyReads};
 ghost use Rattle.vdev_label.specs.Limits.{IsAllowedVdev};
 ghost use Rattle.vdev_label.specs.Plain.{config_view};
@@ -13,19 +13,24 @@ use crate::shapes::shapes_of;
 use block_store::VdevShape;
 use model_disk::{Disk, DiskArray, Member};
 use pool_labels::{Choice, Reading, Refusal, Scan, ScannedLabel, choose, scan};
-use pool_members::{Arranged, Child, arrange};
+use pool_members::{Arranged, Child, HandedIn, arrange};
 use std::alloc::{AllocError, Global};
+use std::sync::Arc;
 use uberblock_ring::Uberblock;
-use vdev_label::Label;
+use vdev_label::{Config, Label};
 
 /// A pool that was found on disks. Nothing was written yet.
 #[derive(Drop)]
 pub struct FoundPool<D: Disk + Drop> {
     /// The disks of its children, in order, and what stands for those that are absent.
     pub disks: Vec<Member<D>>,
+    /// Where each disk is that was handed in, so that all of them come back.
+    pub handed: HandedIn<D>,
     /// Which of them are absent.
     pub out: Vec<bool>,
     pub shapes: Vec<VdevShape>,
+    /// The configuration that the chosen label has.
+    pub config: Arc<Config, Global>,
     /// The greatest uberblock on the disks, and the one that is to be claimed.
     pub highest: Uberblock,
     pub taken: Uberblock,
@@ -36,31 +41,34 @@ pub struct FoundPool<D: Disk + Drop> {
 pub(crate) struct Layout {
     pub(crate) children: Vec<Child>,
     pub(crate) shapes: Vec<VdevShape>,
+    pub(crate) config: Arc<Config, Global>,
     pub(crate) highest: Uberblock,
     pub(crate) taken: Uberblock,
 }
 
-/// The label at that place, which is valid.
-fn label_at(labels: &[ScannedLabel], i: usize) -> &Label
-    requires valid { HasLabelAt labels.now i }
-    ensures { (s : ScannedLabel) × IsValidAt labels.now i s result.now }
+/// Takes the label at that place, which is valid.
+fn label_at(labels: Vec<ScannedLabel>, i: usize) -> Label
+    requires valid { HasLabelAt labels.items i }
+    ensures { (s : ScannedLabel) × IsValidAt labels.items i s result }
 {
-    match &labels[i].reading {
+    let mut labels = labels;
+    match labels.swap_remove(i).reading {
         Reading::Valid(label) => label,
         Reading::Bad(_) | Reading::Unreadable => unreachable!(),
     }
 }
 
-/// The layout of a pool with that label's configuration.
-fn layout_of(alloc: Global, label: &Label, choice: &Choice) -> Result<Layout, AllocError>
-    requires count { length choice.now.members.items ≡ length (config_view label.now.config) }
-    requires few { length (config_view label.now.config) ≤ 8 }
-    requires allowed { All IsAllowedVdev (config_view label.now.config) }
-    ensures { IfOk result (IsLaidOut (config_view label.now.config) choice.now) }
+/// The layout of a pool with this configuration.
+fn layout_of(alloc: Global, config: Config, choice: &Choice) -> Result<Layout, AllocError>
+    requires count { length choice.now.members.items ≡ length (config_view config) }
+    requires few { length (config_view config) ≤ 8 }
+    requires allowed { All IsAllowedVdev (config_view config) }
+    ensures { IfOk result (IsLaidOut (config_view config) choice.now) }
 {
     Ok(Layout {
-        children: children_of(alloc, &label.config, &choice.members)?,
-        shapes: shapes_of(alloc, &label.config)?,
+        children: children_of(alloc, &config, &choice.members)?,
+        shapes: shapes_of(alloc, &config)?,
+        config: Arc::new(alloc, config)?,
         highest: choice.highest,
         taken: choice.taken,
     })
@@ -78,14 +86,14 @@ fn lay_out<D: Disk + Drop>(
 {
     let found = scan(alloc, disks)?;
     let choice = choose(alloc, &found, rewind)?;
-    let label = label_at(&found.labels, choice.source);
-    let layout = layout_of(alloc, label, &choice)?;
+    let Label { config, .. } = label_at(found.labels, choice.source);
+    let layout = layout_of(alloc, config, &choice)?;
     Ok(layout)
 }
 
 /// Finds a pool on disks that are handed in, in any order: reads their labels and slots, takes the greatest uberblock that
 /// they show, or where it goes back (`rewind`, 1 or 2) the one that is so many groups less, and puts the disks in the order of
-/// its configuration. Nothing is written. Disks that are none of its children are dropped.
+/// its configuration. Nothing is written. Disks that are none of its children are kept as they are.
 ///
 /// The refusals are those of `pool_labels::choose`, in their order (this project's profile). Then the disks come back, as they were handed
 /// in.
@@ -94,8 +102,8 @@ pub fn find<D: Disk + Drop>(
     disks: Vec<D>,
     rewind: u64,
 ) -> Result<FoundPool<D>, (Refusal, Vec<D>)>
-    ensures found { IfOk result (λ pool. IsFoundPool D.Disk disks.items rewind
-        pool.disks.items pool.out.items pool.shapes.items pool.highest pool.taken) }
+    ensures found { IfOk result (λ pool. IsFoundOn D.Disk disks.items rewind pool.disks.items
+        pool.out.items pool.shapes.items pool.config.value pool.highest pool.taken pool.handed) }
     ensures refused { IfErr result (λ failed.
         FindRefuses D.Disk disks.items rewind failed.1.items failed.0) }
 {
@@ -107,14 +115,17 @@ pub fn find<D: Disk + Drop>(
     let Layout {
         children,
         shapes,
+        config,
         highest,
         taken,
     } = layout;
     match arrange(alloc, array.into_disks(), &children) {
-        Ok(Arranged { disks, out }) => Ok(FoundPool {
+        Ok(Arranged { disks, out, handed }) => Ok(FoundPool {
             disks,
+            handed,
             out,
             shapes,
+            config,
             highest,
             taken,
         }),

@@ -1,28 +1,24 @@
 //! Opening a pool on disks that are handed in.
 ghost use Rattle.std.specs.Prelude.{◌≡◌, ◌<◌, IfErr, IfOk};
-ghost use Rattle.pool_core.specs.StateOf.{state_of};
-ghost use Rattle.pool_open.specs.Opens.{IsOpened, OpenRefuses};
+ghost use Rattle.pool_core.specs.StateOf.{disks_in, state_of};
+ghost use Rattle.pool_open.specs.Finding.{AreBack};
+ghost use Rattle.pool_open.specs.Opens.{IsOpenedOn, OpenRefuses};
 
 use crate::attempts::open_over;
 use crate::finding::{FoundPool, find};
 use crate::opening::OpenedPool;
 use crate::refusal::Refusal;
 use model_disk::{Disk, DiskArray, Member};
+use pool_members::HandedIn;
 use std::alloc::Global;
 
-/// A pool that was not opened, and the disks.
+/// A pool that was not opened, and all disks as they are then, in the order handed in.
 #[derive(Drop)]
 pub enum NotOpened<D: Disk + Drop> {
-    /// No pool was found on them. They are as they were handed in, and nothing was written.
-    NotFound {
-        refusal: Refusal,
-        disks: Vec<D>,
-    },
-    /// A pool was found. These are the disks of its children in the order of its configuration, with what stands for those that are absent.
-    Refused {
-        refusal: Refusal,
-        disks: Vec<Member<D>>,
-    },
+    /// No pool was found on them, and nothing was written.
+    NotFound { refusal: Refusal, disks: Vec<D> },
+    /// A pool was found. On a disk that is none of its children nothing was written.
+    Refused { refusal: Refusal, disks: Vec<D> },
 }
 
 impl<D: Disk + Drop> NotOpened<D> {
@@ -50,8 +46,8 @@ impl<D: Disk + Drop> From<NotOpened<D>> for Refusal {
 }
 
 /// Opens a pool on disks that are handed in, in any order: finds it, reads its last group, or where it goes back (`rewind`, 1 or 2) the
-/// one that is so many groups less, and claims it before anything else is written. Where it is refused the disks come back. Disks that are
-/// none of the children of a pool that was found are dropped.
+/// one that is so many groups less, and claims it before anything else is written. Where it is refused the disks come back, in the order
+/// handed in. Disks that are none of its children are kept, and nothing is written on them; `HandedIn::restore` gives all disks back in that order.
 ///
 /// A disk on which a write or flush of the claim fails is out from then on, and the pool is opened over the others, as `open_over` says.
 ///
@@ -60,10 +56,10 @@ pub fn open<D: Disk + Drop>(
     alloc: Global,
     disks: Vec<D>,
     rewind: u64,
-) -> Result<OpenedPool<Member<D>>, NotOpened<D>>
+) -> Result<(OpenedPool<Member<D>>, HandedIn<D>), NotOpened<D>>
     requires rewind { rewind < 3 }
-    ensures opened { IfOk result (λ pool.
-        IsOpened D.Disk disks.items rewind pool.uberblock (state_of pool.core)) }
+    ensures opened { IfOk result (λ opened. IsOpenedOn D.Disk disks.items rewind
+        opened.0.uberblock (state_of opened.0.core) opened.1) }
     ensures refused { IfErr result (OpenRefuses D.Disk disks.items rewind) }
 {
     let found = match find(alloc, disks, rewind) {
@@ -75,15 +71,24 @@ pub fn open<D: Disk + Drop>(
     };
     let FoundPool {
         disks,
+        handed,
         out,
         shapes,
+        config,
         ..
     } = found;
-    match open_over(alloc, DiskArray::new(disks), &shapes, out, rewind) {
-        Ok(pool) => Ok(pool),
+    match open_over(alloc, DiskArray::new(disks), &shapes, out, rewind, &config) {
+        Ok(pool) => Ok((pool, handed)),
         Err((refusal, disks)) => Err(NotOpened::Refused {
             refusal,
-            disks: disks.into_disks(),
+            disks: handed.restore(disks.into_disks()),
         }),
     }
+}
+
+/// The disks of a pool, as they are now, in the order handed in. What was accepted and isn't committed is dropped.
+pub fn into_disks<D: Disk + Drop>(pool: OpenedPool<Member<D>>, handed: HandedIn<D>) -> Vec<D>
+    ensures { AreBack D.Disk (disks_in pool.core) handed result.items }
+{
+    handed.restore(pool.core.into_disks())
 }

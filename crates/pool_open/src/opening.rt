@@ -4,8 +4,9 @@ ghost use Rattle.block_store.specs.Blocks.{Contents};
 ghost use Rattle.block_store.specs.Opened.{MayBeOpened};
 ghost use Rattle.block_store.specs.Places.{shapes_of};
 ghost use Rattle.block_store.specs.Store.{is_out};
-ghost use Rattle.dataset_snapshots.specs.Mapped.{SpellsWithMaps};
+ghost use Rattle.pool_core.specs.Mapped.{SpellsWithMaps};
 ghost use Rattle.pool_core.specs.Represents.{Represents};
+ghost use Rattle.pool_core.specs.State.{config_of};
 ghost use Rattle.pool_core.specs.StateOf.{disks_in, state_of};
 ghost use Rattle.pool_model.specs.Pools.{PlainPool};
 ghost use Rattle.pool_model.specs.declared.refusal.Refusal.TheVariants as Causes;
@@ -14,6 +15,7 @@ ghost use Rattle.pool_model.specs.View.{is_tolerable, opened_as};
 ghost use Rattle.pool_open.specs.Held.{HoldOver, IsLaidOver};
 ghost use Rattle.pool_open.specs.Opening.{AreMisplacedOver, IsSurveyRefused};
 ghost use Rattle.pool_open.specs.Roots.{AreContentsOver};
+ghost use Rattle.pool_open.specs.Trees.{IsConfiguredFor, NamesConfigOf};
 ghost use Rattle.pool_open.specs.Words.{stamp_of, vdevs_in};
 ghost use Rattle.pool_slots.specs.Present.{GoOut};
 ghost use Rattle.pool_slots.specs.Slots.{HaveLabels};
@@ -24,13 +26,13 @@ ghost use Rattle.volume_rules.specs.NowMoves.{IsMadeBy};
 use crate::refusal::Refusal;
 use crate::tolerance::are_tolerable;
 use block_store::{BlockStore, VdevShape};
-use dataset_snapshots::RootContents;
 use model_disk::{Disk, DiskArray};
-use pool_commit::{Stamp, labels_of_opened_lie};
-use pool_core::Core;
+use pool_core::{Core, RootContents, Stamp, labels_of_opened_lie};
 use pool_slots::{Survey, survey_present};
 use std::alloc::Global;
+use std::sync::Arc;
 use uberblock_ring::Uberblock;
+use vdev_label::Config;
 use words::LAST_COUNT;
 
 /// A pool that was opened.
@@ -106,7 +108,8 @@ fn of_core(cause: pool_model::Refusal) -> Refusal
     }
 }
 
-/// The core of a pool whose disks show this uberblock, with what was read of its root; it goes on under that claim. No disk is called.
+/// The core of a pool of this configuration whose disks show this uberblock, with what was read of its root; it goes on under that claim.
+/// No disk is called.
 /// `BadPointer` where a block has no place of the pool, or two blocks share a sector. After an error the disks come back.
 pub fn core_over<D: Disk + Drop>(
     alloc: Global,
@@ -115,6 +118,7 @@ pub fn core_over<D: Disk + Drop>(
     out: &[bool],
     claimed: &Uberblock,
     contents: RootContents,
+    config: Arc<Config, Global>,
 ) -> Result<Core<D>, (Refusal, DiskArray<D>)>
     requires may { MayBeOpened disks.starts shapes.now out.now }
     requires claim { IsNumber claimed.now.claim }
@@ -126,11 +130,14 @@ pub fn core_over<D: Disk + Drop>(
     ensures out { IfOk result (λ core. (state_of core).commit.store.out ≡ out.now) }
     ensures shapes { IfOk result (λ core.
         shapes_of (state_of core).commit.store.spaces ≡ shapes.now) }
+    ensures config { IfOk result (λ core. config_of (state_of core) ≡ config.value) }
     ensures represents { IfOk result (λ core. (stored : Contents) (pool : PlainPool)
         → HoldOver disks shapes.now out.now stored
         → AreContentsOver shapes.now stored claimed.now.group claimed.now.root pool contents
         → SpellsWithMaps stored shapes.now claimed.now.group claimed.now.root pool
-        → IsMadeBy claimed.now.group pool → Represents (state_of core)
+        → IsMadeBy claimed.now.group pool
+        → IsConfiguredFor claimed.now stored pool → NamesConfigOf claimed.now (state_of core)
+        → Represents (state_of core)
         (opened_as (vdevs_in shapes.now) (is_out out.now) claimed.now.group pool)) }
     ensures refused { IfErr result (λ failed. (failed.0 ≡ Refusal.NoMemory)
         ⊎ ((failed.0 ≡ Refusal.BadPointer)
@@ -147,7 +154,15 @@ pub fn core_over<D: Disk + Drop>(
         claim: claimed.claim,
         config_digest: claimed.config_digest,
     };
-    match Core::opened(alloc, store, stamp, claimed.group, claimed.root, contents) {
+    match Core::opened(
+        alloc,
+        store,
+        stamp,
+        claimed.group,
+        claimed.root,
+        contents,
+        config,
+    ) {
         Ok(core) => Ok(core),
         Err((cause, disks)) => Err((of_core(cause), disks)),
     }

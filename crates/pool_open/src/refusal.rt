@@ -1,6 +1,6 @@
 //! Why a pool is not opened.
 ghost use Rattle.std.specs.Prelude.{◌≡◌};
-ghost use Rattle.pool_open.specs.Causes.{name_of, number_of};
+ghost use Rattle.pool_open.specs.Causes.{argument_of, name_of, number_of};
 ghost use Rattle.pool_open.specs.declared.refusal.Refusal.TheVariants.{NoMemory};
 
 use std::alloc::{AllocError, AllocFailed};
@@ -79,6 +79,19 @@ impl Refusal {
             Refusal::PoolMismatch => "PoolMismatch",
             Refusal::BadConfig => "BadConfig",
             Refusal::BadMap => "BadMap",
+        }
+    }
+
+    /// What stands after the name: of a bad label what is wrong with it. Empty where nothing does.
+    pub fn argument(&self) -> &'static str
+        ensures { result.now ≡ argument_of self.now }
+    {
+        match self {
+            Refusal::BadLabel(Breach::Tail) => "tail",
+            Refusal::BadLabel(Breach::Digest) => "digest",
+            Refusal::BadLabel(Breach::List) => "list",
+            Refusal::BadLabel(Breach::Pairs) => "pairs",
+            _ => "",
         }
     }
 }

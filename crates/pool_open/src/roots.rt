@@ -4,8 +4,8 @@ ghost use Rattle.pool_open.specs.Roots.{AreReadBeside, IsReadOfRoot, IsRootNotRe
 
 use block_pointer::Block;
 use block_store::{BlockStore, VdevShape};
-use dataset_snapshots::{RootContents, contents_under};
 use model_disk::{Disk, DiskArray};
+use pool_core::{RootContents, contents_under};
 use space_map_objects::Refusal;
 use std::alloc::Global;
 

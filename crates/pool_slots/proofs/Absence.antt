@@ -1,24 +1,23 @@
 -- Disks that go out as reads of them fail.
-use Rattle.std.proofs.Common.{◌≡◌, ◌⊎◌, inl, inr, ◌≤◌, ◌∙◌, ℕ, zero, suc, ◌+◌, Bool, true, false, List, [], ◌∷◌, length, slice_set, Option, Some, None, Contains, refl, sym, ap, subst, arith}
+use Rattle.std.proofs.Common.{◌≡◌, ◌⊎◌, inl, inr, ◌≤◌, ◌∙◌, ℕ, zero, suc, ◌+◌, Bool, true, false, List, [], ◌∷◌, length, slice_set, get_or, Option, Some, None, Contains, refl, sym, ap, subst, arith}
 use Rattle.std.proofs.lemmas.List.Elements.{All-weaker}
-use Rattle.model_disk.specs.Joint.{JointCall, Disks, bytes_of, content, failed_since}
+use Rattle.model_disk.specs.Joint.{JointCall, Disks, failed_since}
 use Rattle.model_disk.specs.Runs.{Makes, no_write}
 use Rattle.model_disk.proofs.FailureLemmas.{kept_through}
 use Rattle.uberblock_ring.specs.declared.uberblock.Uberblock.{Uberblock}
 use Rattle.pool_slots.specs.Failures.{HasFailedOn}
-use Rattle.pool_slots.specs.Opens.{IsBare, IsBareOn, IsFoundOn, IsHighestShown}
+use Rattle.pool_slots.specs.Opens.{IsFoundOn, IsHighestShown}
 use Rattle.pool_slots.specs.Present.{GoOut, IsNoFault, is_out}
 use Rattle.pool_slots.specs.Reads.{IsReadOf, OnlyReads, nowhere, is_fault}
-use Rattle.pool_slots.specs.Slots.{InUse, slot_at}
+use Rattle.pool_slots.specs.Slots.{InUse}
 use Rattle.pool_slots.specs.Surveys.{Surveyed, IsSurveyed, HasNone, SurveyRefuses}
 use Rattle.pool_slots.specs.declared.found.Found.{Found}
 use Rattle.pool_slots.specs.declared.refusal.Refusal.{Refusal}
 use Rattle.pool_slots.specs.declared.refusal.Refusal.TheVariants.{NoMemory, DiskFault, NoUberblock, NoLabel, UsedUp}
 use Rattle.pool_slots.proofs.BackReads.{read_earlier, shown_later}
 use Rattle.pool_slots.proofs.Failing.{fails_later}
-use Rattle.pool_slots.proofs.Finding.{highest_at_first, honest_since, known_later}
-use Rattle.pool_slots.proofs.OneDisk.{shows_same}
-use Rattle.pool_slots.proofs.Phases.{both_made, none_same}
+use Rattle.pool_slots.proofs.Finding.{bare_at_first, highest_at_first, honest_since, known_later}
+use Rattle.pool_slots.proofs.Phases.{both_made}
 use Rattle.pool_slots.proofs.ReadRuns.{reads_made, reads_more, reads_none, reads_wider}
 use Rattle.pool_slots.proofs.Reading.{longer}
 use Rattle.pool_slots.proofs.SurveySteps.{lacks_earlier, planned_earlier, used_up_earlier}
@@ -170,7 +169,7 @@ none_used_reads used faulty old new none only =
 -- ---- what is said of disks as they were earlier
 
 found_earlier : (out : List Bool) (old new : Disks) (which : ℕ) (found : Option Found) → Makes no_write old new → IsFoundOn out new which found → IsFoundOn out old which found
-found_earlier out old new which None makes it = it
+found_earlier out old new which None makes it = λ used. bare_at_first old new which makes (it used)
 found_earlier out old new which (Some found) makes it = (it.0, highest_at_first old new which found makes it.1)
 
 pub surveyed_earlier : (out : List Bool) (rewind : ℕ) (old mid new : Disks) (s : Surveyed) → Makes no_write old mid → IsSurveyed out rewind mid new s → IsSurveyed out rewind old new s
@@ -180,7 +179,7 @@ surveyed_earlier out rewind old mid new s makes it =
       says = λ known honest.
           let says = it.says (known_later out old mid makes known) (honest_since (length old.calls) (length mid.calls) new (longer old mid no_write makes) honest) in
           record {
-            found = λ which found at. found_earlier out old mid which found makes (says.found which found at);
+            found = λ which. found_earlier out old mid which (get_or s.found which None) makes (says.found which);
             highest = says.highest;
             taken = read_earlier out old mid s.taken makes says.taken;
             rewound = says.rewound;
@@ -192,23 +191,13 @@ surveyed_earlier out rewind old mid new s makes it =
 top_earlier : (out : List Bool) (old new : Disks) (u : Uberblock) → Makes no_write old new → IsHighestShown out new u → IsHighestShown out old u
 top_earlier out old new u makes top = record { shown = read_earlier out old new u makes top.shown; greatest = λ v shown. top.greatest v (shown_later out old new v makes shown) }
 
-bare_earlier : (out : List Bool) (old new : Disks) → Makes no_write old new → IsBare out new → IsBare out old
-bare_earlier out old new makes it =
-    let which = it.which in
-    let P : List (List ℕ) → Type 0 = λ starts. IsBareOn (length (bytes_of starts which)) (content old which) in
-    let size = length (bytes_of new.starts which) in
-    let here : IsBareOn size (content old which) = λ label slot is u shows.
-    it.none label slot is u (shows_same (content old which) (content new which) (slot_at size label slot) slot u (λ i below. none_same old new which (slot_at size label slot + i) makes) shows) in
-    record { which = which; used = it.used; none = subst P makes.starts here }
-
 none_earlier : (out : List Bool) (rewind : ℕ) (old new : Disks) → Makes no_write old new → HasNone out new rewind → HasNone out old rewind
-none_earlier out rewind old new makes (inl none) = inl none
-none_earlier out rewind old new makes (inr (inl bare)) = inr (inl (bare_earlier out old new makes bare))
-none_earlier out rewind old new makes (inr (inr it)) =
-    inr (inr (
+none_earlier out rewind old new makes (inl bare) = inl (λ u shown. bare u (shown_later out old new u makes shown))
+none_earlier out rewind old new makes (inr it) =
+    inr (
       it.0,
       record { highest = it.1.highest; top = top_earlier out old new it.1.highest makes it.1.top; none = λ v shown. it.1.none v (shown_later out old new v makes shown) },
-    ))
+    )
 
 pub refuses_earlier : (out : List Bool) (rewind : ℕ) (old mid new : Disks) (refusal : Refusal) → Makes no_write old mid → SurveyRefuses out rewind mid new refusal → SurveyRefuses out rewind old new refusal
 refuses_earlier out rewind old mid new NoMemory makes it = tt

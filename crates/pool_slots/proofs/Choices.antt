@@ -1,8 +1,8 @@
 -- The labels up to one of them.
-use Rattle.std.proofs.Common.{◌≡◌, ◌⊎◌, inl, inr, ◌<◌, ◌≤◌, ◌↔◌, ◌∙◌, ℕ, zero, suc, ◌+◌, Bool, true, false, IsTrue, List, length, get_or, Option, Some, None, IfNone, refl, sym, ap, subst, arith}
+use Rattle.std.proofs.Common.{◌≡◌, ◌⊎◌, inl, inr, ◌<◌, ◌≤◌, ◌↔◌, ◌∙◌, ℕ, zero, suc, ◌+◌, Bool, true, false, IsTrue, List, length, get_or, Option, Some, None, IfNone, IfSome, refl, sym, ap, subst, arith}
 use Rattle.std.proofs.lemmas.Bool.{cases_lt}
 use Rattle.std.proofs.lemmas.List.{get_or_past}
-use Rattle.pool_slots.specs.Shown.{At, HasBeside, IsBetter, IsBlank, IsClaimLabel, IsFirstLeast, IsGreatest, IsGreatestOf, IsLeast, IsLowest, IsSource, IsSpare, IsSummary, claim_of, has_claim, has_config}
+use Rattle.pool_slots.specs.Shown.{At, HasBeside, IsBetter, IsBlank, IsClaimLabel, IsFirstLeast, IsGreatest, IsGreatestOf, IsLeast, IsLabeledOf, IsLowest, IsSource, IsSpare, IsSummary, NoneHas, claim_of, has_claim, has_config}
 use Rattle.pool_slots.specs.declared.labeled.Labeled.{Labeled}
 use Rattle.pool_slots.specs.declared.labeled.Shown.{Shown}
 
@@ -125,6 +125,21 @@ no_source n shown digest all it k s at = it k s (omega (arith, within shown k s 
 pub whatever : (r : Option ℕ) (P : Type 0) → P → IfNone r P
 whatever None P p = p
 whatever (Some i) P p = tt
+
+pub none_at : (n : ℕ) (shown : List (Option Shown)) → length shown ≤ n → ((k : ℕ) (s : Shown) → k < n → ¬ At shown k s) → (k : ℕ) (s : Shown) → ¬ At shown k s
+none_at n shown all none k s at = none k s (omega (arith, within shown k s at)) at
+
+-- some label shows something, and so has a configuration
+pub some_config : (shown : List (Option Shown)) (s : Shown) → ((k : ℕ) × At shown k s) → NoneHas shown s.config_digest → ⊥
+some_config shown s there none = none there.0 s there.1 refl
+
+pub other_some : (shown : List (Option Shown)) (digest : List ℕ) (r : Option Labeled) → NoneHas shown digest → IfSome r (IsSummary shown) → IfSome r (IsLabeledOf shown digest)
+other_some shown digest None none it = tt
+other_some shown digest (Some labeled) none it = record { summary = it; config = inr none }
+
+pub other_none : (shown : List (Option Shown)) (s : Shown) (r : Option Labeled) → ((k : ℕ) × At shown k s) → IfNone r (NoneHas shown s.config_digest) → IfNone r ((k : ℕ) (t : Shown) → ¬ At shown k t)
+other_none shown s None there none = absurd (some_config shown s there none)
+other_none shown s (Some labeled) there none = tt
 
 pub none_spare : (n : ℕ) (shown : List (Option Shown)) (claim : ℕ) → length shown ≤ n → NoneUpTo n (IsSpare shown claim) → (k : ℕ) → ¬ IsSpare shown claim k
 none_spare n shown claim all none k it = none k (omega (arith, within shown k it.s it.at)) it
@@ -249,10 +264,10 @@ pub record HasTwo (shown : List (Option Shown)) : Type 0 where
   pub same : s.config_digest ≡ t.config_digest
 
 -- then beside the claim label another shows the configuration that is taken
-pub config_beside : (shown : List (Option Shown)) (digest : List ℕ) (it : Labeled) → IsSummary shown digest it → ((k : ℕ) × IsBlank shown k) ⊎ HasTwo shown → HasBeside shown it.first (has_config digest)
-config_beside shown digest it summary two =
+pub config_beside : (shown : List (Option Shown)) (it : Labeled) → IsSummary shown it → ((k : ℕ) × IsBlank shown k) ⊎ HasTwo shown → HasBeside shown it.first (has_config it.config_digest)
+config_beside shown it summary two =
     let source = summary.source in
-    let taken : ¬ (it.source ≡ it.first) → HasBeside shown it.first (has_config digest) = λ other. record { j = it.source; s = source.s; at = source.at; other = other; has = source.config } in
+    let taken : ¬ (it.source ≡ it.first) → HasBeside shown it.first (has_config it.config_digest) = λ other. record { j = it.source; s = source.s; at = source.at; other = other; has = source.config } in
     elim (same_or_not it.source it.first) [
       | inr other ↦ taken other
       | inl same ↦ elim summary.first [

@@ -63,11 +63,11 @@ claim_configures out old new s u seen count whole is also makes configures rewin
       s.claimed,
       opened_from out rewind first old new s whole.found_on surveyed makes' known honest,
       open_configures out first old new s.claimed s.areas seen there settled (λ which used. settled_later first old which surveyed.unwritten (settled which used)) four surveyed.unwritten
-          (made_from out rewind first old new s surveyed makes' known honest) whole.areas_on whole.fits makes' also configures,
+          (made_from out rewind first old new s surveyed makes' known honest) whole.fits makes' also configures,
     )
 
 -- the areas are made of labels of their disks
-rewrites_of : (out : List Bool) (first old new : Disks) (u : Uberblock) (areas : List (Option Area)) → Makes no_write first old → AreMadeOf first u areas
+rewrites_of : (out : List Bool) (first old new : Disks) (u : Uberblock) (areas : List (Option Area)) → Makes no_write first old → AreMadeOf out first u areas
     → Makes (of_areas old.starts out u areas) old new → Makes (IsRewrite out first u) first new
 rewrites_of out first old new u areas scan made makes =
     let M : List (List ℕ) → Type 0 = λ them. Makes (of_areas them out u areas) old new in
@@ -82,9 +82,10 @@ rewrites_of out first old new u areas scan made makes =
             number = it.number;
             is_label = it.is_label;
             place = it.place;
-            from = mine.it.source;
+            it = mine.it;
+            read = mine.read;
             label = mine.label;
-            shown = mine.source;
+            source = mine.source;
             spells = it.picked.same ∙ mine.spells;
           })
     ])

@@ -114,7 +114,7 @@ first_configs out old new blocks areas digest u there room placed long can makes
       off = λ i below. first_off_odd out old.starts blocks areas which it.number i placed long (room which (there which used)) it.odd it.shown.is_label below;
     } in
     inl (
-      configured_always out old new may digest there can.settled makes kept earlier moment images left,
+      configured_always (InUse out) old new may digest there can.settled makes kept earlier moment images left,
       first_unseen out old new blocks areas digest u there room placed long can makes earlier moment images left untorn,
     )
 
@@ -189,9 +189,9 @@ slots_configs out old now new blocks areas digest u there room fits placed count
     let there' : AreThere out now.starts = subst T (sym even.starts) there in
     let makes' : Makes may now new = subst M even.starts makes in
     let off = λ (which number : ℕ) (used : InUse out which) (is : number < 4). off_area_of_slots old.starts u (in_use out) which number fits (room which (there which used)) is in
-    let last = configured_always out now new may digest there' even.settled makes'
+    let last = configured_always (InUse out) now new may digest there' even.settled makes'
     (kept_odd out old now blocks areas digest u may there room placed (long_areas out u areas fresh 0) can first off) in
-    let next = configured_always out now new may u.config_digest there' even.settled makes'
+    let next = configured_always (InUse out) now new may u.config_digest there' even.settled makes'
     (kept_even out old now u areas may there count fresh even (λ which used. off which 0 used (omega arith))) in
     subst E even.starts (λ earlier moment images left untorn. inr (inl (last earlier moment images left, next earlier moment images left)))
 
@@ -250,7 +250,7 @@ last_configs out old now new areas digest u there room fits count fresh even sta
     let there' : AreThere out now.starts = subst T (sym even.starts) there in
     let room' : HaveLabels now.starts = subst R (sym even.starts) room in
     let stand' : S now.starts = subst S (sym even.starts) stand in
-    let next = configured_always out now new (IsAreaWrite old.starts picks) u.config_digest there' even.settled (subst M even.starts makes)
+    let next = configured_always (InUse out) now new (IsAreaWrite old.starts picks) u.config_digest there' even.settled (subst M even.starts makes)
     (kept_even out old now u areas (IsAreaWrite old.starts picks) there count fresh even
     (λ which used. off_area_writes old.starts picks which 0 long (room which (there which used)) (omega arith) (λ n b it same. other_half 0 n (inl refl) it.1 (sym same)))) in
     subst E even.starts (λ earlier moment images left untorn.

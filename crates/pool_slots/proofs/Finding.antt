@@ -5,12 +5,14 @@ use Rattle.std.specs.declared.alloc.Global.{Global}
 use Rattle.uberblock_ring.specs.Ranking.{Has, IsHighest as IsHighestSlot, RanksUpTo}
 use Rattle.uberblock_ring.specs.Uberblock.{Fits}
 use Rattle.uberblock_ring.specs.declared.uberblock.Uberblock.{Uberblock}
+use Rattle.std.proofs.lemmas.Bool.{cases_lt}
+use Rattle.std.proofs.lemmas.List.{get_or_past}
+use Rattle.std.proofs.lemmas.Option.{slice_get-get_or}
 use Rattle.model_disk.specs.Joint.{JointCall, Disks, bytes_of, content, AreHonestSince}
 use Rattle.model_disk.specs.Runs.{Makes, no_write}
 use Rattle.model_disk.proofs.LawLemmas.{parts_are_honest}
-use Rattle.pool_slots.specs.Opens.{IsKnown, AreKnown, IsHighest, IsFoundOn, AreFitting, IsBareOn, IsHighestOf, FindsIfUsed, FindsAll, uberblock_of}
+use Rattle.pool_slots.specs.Opens.{IsKnown, AreKnown, IsHighest, IsFoundOn, FoundAt, AreFitting, IsBareOn, IsHighestOf, FindsIfUsed, FindsAll, uberblock_of}
 use Rattle.pool_slots.specs.Slots.{AreThere, InUse, slot_at, Shows}
-use Rattle.pool_slots.specs.Writes.{HasFound}
 use Rattle.pool_slots.specs.declared.found.Found.{Found}
 use Rattle.pool_slots.proofs.Failing.{fails_later}
 use Rattle.pool_slots.specs.declared.refusal.Refusal.{Refusal}
@@ -58,7 +60,8 @@ highest_same size held held' found same it =
 
 -- what is known of a disk that was scanned
 abbrev pub IsScanned : List Bool → Disks → Disks → ℕ → Option Found → Type 0
-IsScanned out first now which None = ¬ InUse out which
+IsScanned out first now which None =
+    InUse out which → AreKnown out first → AreHonestSince (length first.calls) now.starts now.calls → IsBareOn (length (bytes_of first.starts which)) (content first which)
 IsScanned out first now which (Some found) =
     InUse out which × Fits found.uberblock
     × (AreKnown out first → AreHonestSince (length first.calls) now.starts now.calls → IsHighest (length (bytes_of first.starts which)) (content first which) found)
@@ -67,7 +70,7 @@ abbrev pub AreScanned : List Bool → Disks → Disks → List (Option Found) �
 AreScanned out first now all = (which : ℕ) (found : Option Found) → slice_get all which ≡ Some found → IsScanned out first now which found
 
 scanned_later : (out : List Bool) (first loop new : Disks) (which : ℕ) (found : Option Found) → Makes no_write loop new → IsScanned out first loop which found → IsScanned out first new which found
-scanned_later out first loop new which None makes it = it
+scanned_later out first loop new which None makes it = λ used known honest. it used known (honest_before (length first.calls) no_write loop new makes honest)
 scanned_later out first loop new which (Some found) makes it =
     (it.0, it.1, λ known honest. it.2 known (honest_before (length first.calls) no_write loop new makes honest))
 
@@ -77,8 +80,19 @@ highest_at_first first loop which found before it =
     let P : List (List ℕ) → Type 0 = λ starts. IsHighest (length (bytes_of starts which)) (content first which) found in
     subst P before.starts (highest_same (length (bytes_of loop.starts which)) (content loop which) (content first which) found (λ i. sym (none_same first loop which i before)) it)
 
+pub bare_at_first : (first loop : Disks) (which : ℕ) → Makes no_write first loop → IsBareOn (length (bytes_of loop.starts which)) (content loop which)
+    → IsBareOn (length (bytes_of first.starts which)) (content first which)
+bare_at_first first loop which before bare =
+    let P : List (List ℕ) → Type 0 = λ starts. IsBareOn (length (bytes_of starts which)) (content first which) in
+    let size = length (bytes_of loop.starts which) in
+    let here : IsBareOn size (content first which) = λ label slot is u shows.
+    bare label slot is u (shows_same (content first which) (content loop which) (slot_at size label slot) slot u (λ i below. none_same first loop which (slot_at size label slot + i) before) shows) in
+    subst P before.starts here
+
 scanned_here : (out : List Bool) (first loop new : Disks) (which : ℕ) (found : Option Found) → Makes no_write first loop → FindsIfUsed out loop new which (Ok found) → IsScanned out first new which found
-scanned_here out first loop new which None before it = it
+scanned_here out first loop new which None before it = λ used known honest.
+    bare_at_first first loop which before
+    (it used (known_on first loop which before (known which used)) (honest_since (length first.calls) (length loop.calls) new (longer first loop no_write before) honest))
 scanned_here out first loop new which (Some found) before it = (
   it.0,
   it.1.0,
@@ -108,52 +122,55 @@ pub scan_refused : (out : List Bool) (first loop new : Disks) (which : ℕ) (ref
     → FindsAll out first new (Err refusal)
 scan_refused out first loop new which NoMemory before it = tt
 scan_refused out first loop new which (DiskFault d) before it = fails_later no_write first loop new before d it.1
-scan_refused out first loop new which NoUberblock before it = λ known honest.
-    let bare = it.1 (known_on first loop which before (known which it.0)) (honest_since (length first.calls) (length loop.calls) new (longer first loop no_write before) honest) in
-    let P : List (List ℕ) → Type 0 = λ starts. IsBareOn (length (bytes_of starts which)) (content first which) in
-    let size = length (bytes_of loop.starts which) in
-    let here : IsBareOn size (content first which) = λ label slot is u shows.
-    bare label slot is u (shows_same (content first which) (content loop which) (slot_at size label slot) slot u (λ i below. none_same first loop which (slot_at size label slot + i) before) shows) in
-    record { which = which; used = it.0; none = subst P before.starts here }
+scan_refused out first loop new which NoUberblock before it = absurd it.1
 scan_refused out first loop new which NoLabel before it = absurd it.1
 scan_refused out first loop new which UsedUp before it = absurd it.1
 
-slice_get_some : {X : Type 0} (xs : List X) (i : ℕ) → i < length xs → (x : X) × (slice_get xs i ≡ Some x)
-slice_get_some [] i within = absurd (omega arith)
-slice_get_some (x ∷ xs) zero within = (x, refl)
-slice_get_some (x ∷ xs) (suc i) within = slice_get_some xs i (omega arith)
-
-on_case : (out : List Bool) (first now : Disks) (all : List (Option Found)) (which : ℕ) (found : Option Found) → InUse out which → slice_get all which ≡ Some found → IsScanned out first now which found
-    → HasFound all which
-on_case out first now all which None used at it = absurd (it used)
-on_case out first now all which (Some found) used at it = (found, at)
-
 found_case : (out : List Bool) (first now : Disks) (which : ℕ) (found : Option Found) → IsScanned out first now which found → AreKnown out first → AreHonestSince (length first.calls) now.starts now.calls
     → IsFoundOn out first which found
-found_case out first now which None it known honest = it
+found_case out first now which None it known honest = λ used. it used known honest
 found_case out first now which (Some found) it known honest = (it.0, it.2 known honest)
+
+found_within : (all : List (Option Found)) (k : ℕ) (found : Found) → FoundAt all k found → k < length all
+found_within all k found at =
+    elim (cases_lt k (length all)) [
+      | inl less ↦ less
+      | inr more ↦ let e : None ≡ Some found = sym (get_or_past all k None more) ∙ at in absurd cc
+    ]
+
+-- one that was found was scanned
+scanned_at : (out : List Bool) (first now : Disks) (all : List (Option Found)) (which : ℕ) (found : Found) → AreScanned out first now all → FoundAt all which found → IsScanned out first now which (Some found)
+scanned_at out first now all which found scanned at =
+    scanned which (Some found) (slice_get-get_or all which None (found_within all which found at) ∙ ap (λ (o : Option Found). Some o) at)
+
+found_there : (out : List Bool) (first now : Disks) (all : List (Option Found)) (which : ℕ) → AreThere out first.starts → length all ≡ length first.starts → AreScanned out first now all
+    → AreKnown out first → AreHonestSince (length first.calls) now.starts now.calls → IsFoundOn out first which (get_or all which None)
+found_there out first now all which there count scanned known honest =
+    elim (cases_lt which (length all)) [
+      | inl less ↦ found_case out first now which (get_or all which None) (scanned which (get_or all which None) (slice_get-get_or all which None less)) known honest
+      | inr more ↦
+          let P : Option Found → Type 0 = IsFoundOn out first which in
+          subst P (sym (get_or_past all which None more)) (λ used. absurd (omega (arith, there which used, count, more)))
+    ]
 
 pub scans_done : (out : List Bool) (first now : Disks) (all : Vec (Option Found) Global) → AreThere out first.starts → length all.items ≡ length first.starts → AreScanned out first now all.items
     → FindsAll out first now (Ok all)
 scans_done out first now all there count scanned = (
   count,
-  λ which. (
-    λ used. let it = slice_get_some all.items which (omega (arith, there which used, count)) in on_case out first now all.items which it.0 used it.1 (scanned which it.0 it.1),
-    λ found. (scanned which (Some found.0) found.1).0,
-  ),
-  λ which found at. (scanned which (Some found) at).1,
-  λ known honest which found at. found_case out first now which found (scanned which found at) known honest,
+  λ which found at. (scanned_at out first now all.items which found scanned at).0,
+  λ which found at. (scanned_at out first now all.items which found scanned at).1,
+  λ known honest which. found_there out first now all.items which there count scanned known honest,
 )
 
 -- ---- the highest of them
 
-index_map : (all : List (Option Found)) (i : ℕ) (u : Uberblock) → Has (map uberblock_of all) i u → (found : Found) × (slice_get all i ≡ Some (Some found)) × (u ≡ found.uberblock)
+index_map : (all : List (Option Found)) (i : ℕ) (u : Uberblock) → Has (map uberblock_of all) i u → (found : Found) × FoundAt all i found × (u ≡ found.uberblock)
 index_map [] i u has = absurd cc
 index_map (None ∷ all) zero u has = absurd cc
 index_map (Some found ∷ all) zero u has = let same : found.uberblock ≡ u = cc in (found, refl, sym same)
 index_map (found ∷ all) (suc i) u has = index_map all i u has
 
-map_index : (all : List (Option Found)) (i : ℕ) (found : Found) → slice_get all i ≡ Some (Some found) → Has (map uberblock_of all) i found.uberblock
+map_index : (all : List (Option Found)) (i : ℕ) (found : Found) → FoundAt all i found → Has (map uberblock_of all) i found.uberblock
 map_index [] i found at = absurd cc
 map_index (None ∷ all) zero found at = absurd cc
 map_index (Some it ∷ all) zero found at = let same : it ≡ found = cc in ap (λ (f : Found). Some f.uberblock) same
@@ -180,7 +197,7 @@ highest_found all uberblocks which u fits is highest here =
     )
 
 pub none_found : (all : List (Option Found)) (uberblocks : List (Option Uberblock)) → uberblocks ≡ map uberblock_of all → ((i : ℕ) (u : Uberblock) → ¬ Has uberblocks i u)
-    → (which : ℕ) (found : Found) → ¬ (slice_get all which ≡ Some (Some found))
+    → (which : ℕ) (found : Found) → ¬ FoundAt all which found
 none_found all uberblocks is none which found at =
     let H : List (Option Uberblock) → Type 0 = λ us. Has us which found.uberblock in
     none which found.uberblock (subst H (sym is) (map_index all which found at))

@@ -3,26 +3,28 @@ use Rattle.std.proofs.Common.{◌≡◌, inl, inr, ◌<◌, ◌≤◌, ◌∙◌
 use Rattle.std.proofs.lemmas.Option.{slice_get-get_or, slice_get_within}
 use Rattle.uberblock_ring.specs.declared.uberblock.Uberblock.{Uberblock}
 use Rattle.uberblock_ring.specs.Uberblock.{Fits}
-use Rattle.model_disk.specs.Joint.{JointCall, Disks, bytes_of, content}
-use Rattle.model_disk.specs.Runs.{EachSince, IsOff, Makes}
-use Rattle.model_disk.proofs.RunLemmas.{Makes-wider, each_after, off_content, off_is_left}
+use Rattle.uberblock_ring.specs.Slot.{slot_number}
+use Rattle.model_disk.specs.Joint.{JointCall, Disks, bytes_of, calls_on, content}
+use Rattle.model_disk.specs.Runs.{EachSince, IsOff, IsSettled, Makes}
+use Rattle.model_disk.proofs.RunLemmas.{Makes-wider, each_after, each_weaker, off_content, off_is_left}
 use Rattle.vdev_label.specs.Plain.{PlainLabel}
 use Rattle.pool_slots.specs.Commits.{AreOffLabels, AreAt, LeadAlways, only_last}
-use Rattle.pool_slots.specs.Labels.{AreClaimed, AreWhole, AreasFit, AreasOn, AreasStand, InAreaTurn, IsAreaWrite, IsClaimWrite, IsInscribed, IsLabelShown, area_place, inscribed}
-use Rattle.pool_slots.specs.Configs.{IsConfigured, IsOfConfig, LeavesConfigured, MayConfigure, of_config}
+use Rattle.pool_slots.specs.Labels.{AreClaimed, AreSlotted, AreWhole, AreasFit, AreasOn, AreasStand, InAreaTurn, IsAreaWrite, IsClaimWrite, IsInscribed, IsLabelShown, area_place, inscribed}
+use Rattle.pool_slots.specs.Configs.{IsConfigured, IsOfConfig, LeavesConfigured, LeavesConfiguredOn, MayConfigure, ShowsConfig, of_config}
 use Rattle.pool_slots.specs.Marks.{IsMarked, LeavesMarked, MarkedAlways}
 use Rattle.pool_slots.specs.Opens.{ClaimsAt, MayClaim, also_begun}
 use Rattle.pool_slots.specs.Possible.{Possible, IsTopped, Trees, TreeStands, IsPossible, Leads, LeavesLeading, AllAreBelow, AreBelow, held_by}
 use Rattle.pool_slots.specs.Relabels.{InAllLabels, of_areas}
 use Rattle.pool_slots.specs.Slots.{AreThere, AreSettled, HaveLabels, InUse, IsSlot, MakesOn, Shows, slot_at}
-use Rattle.pool_slots.specs.Writes.{IsSlotWrite, in_use}
+use Rattle.pool_slots.specs.Writes.{IsSlotWrite, SlotsStand, in_use}
 use Rattle.pool_slots.specs.declared.found.Found.{Found}
 use Rattle.pool_slots.specs.declared.labeled.Area.{Area}
 use Rattle.pool_slots.proofs.LabelAreas.{area_len}
 use Rattle.pool_slots.proofs.LabelWrites.{area_phase, is_turn, off_area_of_slots, off_area_writes, off_slot_of_areas, off_tree_of_areas}
-use Rattle.pool_slots.proofs.Places.{same_or_not}
+use Rattle.pool_slots.proofs.Places.{length-spelled, same_or_not}
 use Rattle.pool_slots.proofs.OneDisk.{kept_allowed, leads_kept_on, shows_same}
 use Rattle.pool_slots.proofs.Phases.{MakesOn-wider, phase_leaves}
+use Rattle.pool_slots.proofs.Writing.{slot_number_small}
 
 pub each_joined : (Q : List JointCall → Type 0) (may : ℕ → ℕ → List ℕ → Type 0) (old mid new : Disks) → Makes may mid new → EachSince (length old.calls) Q mid.calls
     → EachSince (length mid.calls) Q new.calls → EachSince (length old.calls) Q new.calls
@@ -70,10 +72,11 @@ pub record KeptConfig (may : ℕ → List ℕ → Type 0) (size : ℕ) (held : �
   pub config : of_config digest label
   pub off : (i : ℕ) → i < 114688 → IsOff may (area_place size number + i)
 
-pub configured_always : (out : List Bool) (old new : Disks) (may : ℕ → ℕ → List ℕ → Type 0) (digest : List ℕ) → AreThere out old.starts → AreSettled out old.calls → Makes may old new
-    → ((which : ℕ) → InUse out which → KeptConfig (may which) (length (bytes_of old.starts which)) (content old which) digest)
-    → EachSince (length old.calls) (LeavesConfigured out old.starts digest) new.calls
-configured_always out old new may digest there settled makes kept earlier moment images left which used =
+pub configured_always : (used : ℕ → Type 0) (old new : Disks) (may : ℕ → ℕ → List ℕ → Type 0) (digest : List ℕ) → ((which : ℕ) → used which → which < length old.starts)
+    → ((which : ℕ) → used which → IsSettled (calls_on which old.calls)) → Makes may old new
+    → ((which : ℕ) → used which → KeptConfig (may which) (length (bytes_of old.starts which)) (content old which) digest)
+    → EachSince (length old.calls) (LeavesConfiguredOn used old.starts digest) new.calls
+configured_always on old new may digest there settled makes kept earlier moment images left which used =
     let size = length (bytes_of old.starts which) in
     let same_size : length (bytes_of images which) ≡ size = (left.each which (there which used)).size in
     let P : ℕ → Type 0 = λ n. IsConfigured n (held_by images which) digest in
@@ -155,6 +158,15 @@ may_later trees out old new picks p u all there room whole makes settled may =
       spared = λ which used. may.spared which used;
     }
 
+-- the slots that stand stay so
+pub slotted_later : (out : List Bool) (old new : Disks) (picks : ℕ → ℕ → List ℕ → Type 0) (u : Uberblock) → Fits u → HaveLabels old.starts → AreWhole picks → Makes (IsAreaWrite old.starts picks) old new
+    → AreSlotted out old u → AreSlotted out new u
+slotted_later out old new picks u fits room whole makes slotted =
+    let P : List (List ℕ) → Type 0 = λ starts. SlotsStand (content new) starts u (in_use out) (length starts) in
+    subst P (sym makes.starts) (λ which label below is used i inside.
+    slots_same out old new picks which whole (room which below) makes label (slot_number u.group) (record { is_label = is; in_ring = slot_number_small u }) i (omega (arith, inside, length-spelled u fits))
+    ∙ slotted which label below is used i inside)
+
 -- what is opened stays so
 pub at_later : (trees : Trees) (out : List Bool) (old new : Disks) (picks : ℕ → ℕ → List ℕ → Type 0) (u : Uberblock) → HaveLabels old.starts → AreWhole picks
     → AreOffLabels trees out old.starts → Makes (IsAreaWrite old.starts picks) old new → AreSettled out new.calls → AreAt trees out old u [] → AreAt trees out new u []
@@ -224,21 +236,29 @@ first_mark out old now u areas may on fit first off which used =
 
 -- beside them another label keeps the configuration
 pub first_configured : (out : List Bool) (old new : Disks) (areas : List (Option Area)) (digest : List ℕ) → AreThere out old.starts → HaveLabels old.starts → AreWhole (InAreaTurn areas true) → AreasOn out areas
-    → MayConfigure out old areas digest → Makes (IsAreaWrite old.starts (InAreaTurn areas true)) old new → EachSince (length old.calls) (LeavesConfigured out old.starts digest) new.calls
+    → MayConfigure out old areas digest → Makes (IsAreaWrite old.starts (InAreaTurn areas true)) old new
+    → EachSince (length old.calls) (LeavesConfiguredOn (ShowsConfig out old digest) old.starts digest) new.calls
 first_configured out old new areas digest there room whole on may makes =
     let picks = InAreaTurn areas true in
-    configured_always out old new (IsAreaWrite old.starts picks) digest there may.settled makes
-    (λ which used.
-    let area = (on which).0 used in
-    let it = may.beside which area.0 used area.1 in
+    configured_always (ShowsConfig out old digest) old new (IsAreaWrite old.starts picks) digest (λ which shows. there which shows.0) (λ which shows. may.settled which shows.0) makes
+    (λ which shows.
+    let area = (on which).0 shows.0 in
+    let it = may.beside which area.0 shows area.1 in
     record {
       number = it.number;
       label = it.label;
       shown = it.shown;
       config = it.config;
-      off = off_area_writes old.starts picks which it.number whole (room which (there which used)) it.shown.is_label
+      off = off_area_writes old.starts picks which it.number whole (room which (there which shows.0)) it.shown.is_label
           (λ n b picked same. it.other (sym same ∙ is_turn areas true which area.0 area.1 n b picked));
     })
+
+-- so it is of fewer disks
+pub fewer_configured : (out : List Bool) (old : Disks) (digest : List ℕ) (n : ℕ) (calls : List JointCall) → EachSince n (LeavesConfigured out old.starts digest) calls
+    → EachSince n (LeavesConfiguredOn (ShowsConfig out old digest) old.starts digest) calls
+fewer_configured out old digest n calls each =
+    each_weaker (LeavesConfigured out old.starts digest) (LeavesConfiguredOn (ShowsConfig out old digest) old.starts digest) n calls
+    (λ earlier leaves images left which shows. leaves images left which shows.0) each
 
 -- behind them the claim label does, while the run doesn't write it
 later_configured : (out : List Bool) (old now new : Disks) (u : Uberblock) (areas : List (Option Area)) (digest : List ℕ) (may : ℕ → ℕ → List ℕ → Type 0) → AreThere out old.starts → AreasOn out areas
@@ -249,7 +269,7 @@ later_configured : (out : List Bool) (old now new : Disks) (u : Uberblock) (area
 later_configured out old now new u areas digest may there on fit of first off makes =
     let T : List (List ℕ) → Type 0 = AreThere out in
     let E : List (List ℕ) → Type 0 = λ starts. EachSince (length now.calls) (LeavesConfigured out starts digest) new.calls in
-    subst E first.starts (configured_always out now new may digest (subst T (sym first.starts) there) first.settled makes
+    subst E first.starts (configured_always (InUse out) now new may digest (subst T (sym first.starts) there) first.settled makes
     (λ which used.
     let area = (on which).0 used in
     let it = of which area.0 area.1 in

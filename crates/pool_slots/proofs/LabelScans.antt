@@ -2,23 +2,21 @@
 use Rattle.std.proofs.Common.{◌≡◌, ◌⊎◌, inl, inr, ◌<◌, ◌∙◌, ℕ, zero, suc, ◌+◌, Bool, List, [], ◌∷◌, ◌++◌, length, slice_get, get_or, Option, Some, None, Ok, Err, refl, sym, ap, subst, arith}
 use Rattle.std.specs.Prelude.{Vec}
 use Rattle.std.specs.declared.alloc.Global.{Global}
-use Rattle.sha2.specs.Sha256.{sha256}
 use Rattle.std.proofs.lemmas.List.{length-append}
 use Rattle.model_disk.specs.Joint.{Disks, bytes_of, content, AreHonestSince}
 use Rattle.model_disk.specs.Runs.{Makes, no_write}
-use Rattle.vdev_label.specs.Config.{config_bytes}
 use Rattle.vdev_label.specs.Plain.{PlainLabel}
 use Rattle.pool_slots.specs.LabelReads.{ReadsShown, ReadsFour, ReadsLabeled, ReadsIfUsed, ReadsAll, HasLabeled}
-use Rattle.pool_slots.specs.Labels.{IsLabelShown, IsShownAs, IsLabeledAs, IsWithout}
+use Rattle.pool_slots.specs.Labels.{IsLabelShown, IsShownAs, IsLabeledAs, IsUnlabeled}
 use Rattle.pool_slots.specs.Opens.{IsKnown, AreKnown}
-use Rattle.pool_slots.specs.Shown.{At, has_config}
+use Rattle.pool_slots.specs.Shown.{At, IsLabeledOf}
 use Rattle.pool_slots.specs.Slots.{AreThere, InUse}
 use Rattle.pool_slots.specs.declared.labeled.Labeled.{Labeled}
 use Rattle.pool_slots.specs.declared.labeled.Shown.{Shown}
 use Rattle.pool_slots.proofs.Failing.{fails_later}
 use Rattle.pool_slots.specs.declared.refusal.Refusal.{Refusal}
 use Rattle.pool_slots.specs.declared.refusal.Refusal.TheVariants.{NoMemory, DiskFault, NoUberblock, NoLabel, UsedUp}
-use Rattle.pool_slots.proofs.Choices.{within}
+use Rattle.pool_slots.proofs.Choices.{claim_label_within, within}
 use Rattle.pool_slots.proofs.Finding.{known_on, honest_before, honest_since}
 use Rattle.pool_slots.proofs.Phases.{none_same}
 use Rattle.pool_slots.proofs.Reading.{longer}
@@ -39,6 +37,7 @@ labeled_as_same size held held' digest it same is =
       shown = is.shown;
       are = record { four = is.are.four; each = λ number below. shown_as_same size number held held' (get_or is.shown number None) same (is.are.each number below) };
       summary = is.summary;
+      config = is.config;
     }
 
 pub label_later : (old new : Disks) (which number : ℕ) (l : PlainLabel) → Makes no_write old new → IsLabelShown (length (bytes_of old.starts which)) (content old which) number l
@@ -109,15 +108,23 @@ read_refused first loop new which number UsedUp before it = absurd it
 
 -- ---- what is taken from them
 
-without_case : (size : ℕ) (held : ℕ → Option ℕ) (digest : List ℕ) (number : ℕ) (l : PlainLabel) (o : Option Shown) → ((s : Shown) → o ≡ Some s → ¬ has_config digest s) → IsShownAs size held number o
-    → IsLabelShown size held number l → sha256 (config_bytes l.vdevs) ≡ digest → ⊥
-without_case size held digest number l None none is shown same = is l shown
-without_case size held digest number l (Some s) none is shown same = none s refl ((is.1 l shown).1 ∙ same)
+nothing_case : (size : ℕ) (held : ℕ → Option ℕ) (number : ℕ) (l : PlainLabel) (o : Option Shown) → ((s : Shown) → ¬ (o ≡ Some s)) → IsShownAs size held number o → IsLabelShown size held number l → ⊥
+nothing_case size held number l None none is shown = is l shown
+nothing_case size held number l (Some s) none is shown = none s refl
 
-pub four_without : (digest : List ℕ) (old new : Disks) (which : ℕ) (all : Vec (Option Shown) Global) → ReadsFour old new which (Ok all) → ((k : ℕ) (s : Shown) → At all.items k s → ¬ has_config digest s)
+pub four_without : (digest : List ℕ) (old new : Disks) (which : ℕ) (all : Vec (Option Shown) Global) → ReadsFour old new which (Ok all) → ((k : ℕ) (s : Shown) → ¬ At all.items k s)
     → ReadsLabeled digest old new which (Err NoLabel)
-four_without digest old new which all read none = λ known honest number l shown same.
-    without_case (length (bytes_of old.starts which)) (content old which) digest number l (get_or all.items number None) (none number) ((read.1 known honest).each number shown.is_label) shown same
+four_without digest old new which all read none = λ known honest number l shown.
+    nothing_case (length (bytes_of old.starts which)) (content old which) number l (get_or all.items number None) (none number) ((read.1 known honest).each number shown.is_label) shown
+
+-- what was made of the four
+pub four_labeled : (digest : List ℕ) (old new : Disks) (which : ℕ) (all : Vec (Option Shown) Global) (it : Labeled) → ReadsFour old new which (Ok all) → IsLabeledOf all.items digest it
+    → ReadsLabeled digest old new which (Ok it)
+four_labeled digest old new which all it read is = (
+  omega (arith, claim_label_within all.items it.claim it.first is.summary.first, read.0),
+  omega (arith, within all.items it.source is.summary.source.s is.summary.source.at, read.0),
+  λ known honest. record { shown = all.items; are = read.1 known honest; summary = is.summary; config = is.config },
+)
 
 -- ---- disk by disk
 
@@ -173,11 +180,11 @@ labels_refused out digest first loop new which (DiskFault d) before it = fails_l
 labels_refused out digest first loop new which NoUberblock before it = absurd it.1
 labels_refused out digest first loop new which NoLabel before it = λ known honest.
     let bare = it.1 (known_on first loop which before (known which it.0)) (honest_since (length first.calls) (length loop.calls) new (longer first loop no_write before) honest) in
-    let P : List (List ℕ) → Type 0 = λ starts. IsWithout (length (bytes_of starts which)) (content first which) digest in
+    let P : List (List ℕ) → Type 0 = λ starts. IsUnlabeled (length (bytes_of starts which)) (content first which) in
     let size = length (bytes_of loop.starts which) in
-    let here : IsWithout size (content first which) digest = λ number l shown.
+    let here : IsUnlabeled size (content first which) = λ number l shown.
     bare number l (label_same size number (content first which) (content loop which) l (λ i. none_same first loop which i before) shown) in
-    record { which = which; used = it.0; without = subst P before.starts here }
+    record { which = which; used = it.0; none = subst P before.starts here }
 labels_refused out digest first loop new which UsedUp before it = absurd it.1
 
 slice_get_some : {X : Type 0} (xs : List X) (i : ℕ) → i < length xs → (x : X) × (slice_get xs i ≡ Some x)

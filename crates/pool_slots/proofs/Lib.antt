@@ -27,6 +27,7 @@ mod Choices
 pub mod LabelAreas
 pub mod LabelScans
 mod LabelWrites
+mod Renumbered
 pub mod LabelPlans
 mod LabelPhases
 mod FourConfigs

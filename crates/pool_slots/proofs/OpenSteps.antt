@@ -1,16 +1,16 @@
 -- From what was read to what may be claimed.
-use Rattle.std.proofs.Common.{◌≡◌, ◌⊎◌, inl, inr, ◌<◌, ◌≤◌, ◌∙◌, ℕ, ◌+◌, ◌-◌, ◌%◌, Bool, List, length, slice_get, Option, Some, None, Contains, refl, sym, subst, arith}
+use Rattle.std.proofs.Common.{◌≡◌, ◌⊎◌, inl, inr, ◌<◌, ◌≤◌, ◌∙◌, ℕ, ◌+◌, ◌-◌, ◌%◌, Bool, List, length, get_or, Option, Some, None, Contains, refl, sym, subst, arith}
 use Rattle.uberblock_ring.specs.declared.uberblock.Uberblock.{Uberblock}
 use Rattle.uberblock_ring.specs.Ranking.{RanksUpTo, IsRewound}
 use Rattle.uberblock_ring.proofs.Ranks.{ranks_through}
 use Rattle.model_disk.specs.Joint.{Disks, bytes_of, content, AreHonestSince}
 use Rattle.model_disk.specs.Runs.{Makes, no_write}
 use Rattle.pool_slots.specs.OpenRefusals.{IsCause}
-use Rattle.pool_slots.specs.Opens.{IsShown, IsHighest, IsBare, IsFoundOn, AreFound, AreOn, IsHighestOf, IsRead, IsHighestShown, CanOpen, IsClaimOf, IsTakenFrom, also_begun, MayClaim}
+use Rattle.pool_slots.specs.Opens.{IsShown, IsShownOn, IsHighest, IsBare, IsBareOn, IsFoundOn, FoundAt, AreFound, AreOn, IsHighestOf, IsRead, IsHighestShown, CanOpen, IsClaimOf, IsTakenFrom, also_begun, MayClaim}
 use Rattle.pool_slots.specs.Commits.{AreOffLabels, LeadAlways}
 use Rattle.pool_slots.specs.Possible.{Possible, IsBefore, all_of, Trees, TreeStands, IsPossible, Leads}
-use Rattle.pool_slots.specs.Slots.{AreThere, InUse, AreSettled, IsOutOfReach}
-use Rattle.pool_slots.specs.Writes.{InHalf}
+use Rattle.pool_slots.specs.Slots.{AreThere, InUse, AreSettled, IsOutOfReach, slot_at}
+use Rattle.pool_slots.specs.Writes.{InHalf, first_half_of}
 use Rattle.pool_slots.specs.Surveys.{Surveyed, IsSurveyOf, SurveyRefuses}
 use Rattle.pool_slots.specs.declared.found.Found.{Found}
 use Rattle.pool_slots.specs.declared.refusal.Refusal.{Refusal}
@@ -18,7 +18,7 @@ use Rattle.pool_slots.specs.declared.refusal.Refusal.TheVariants.{NoMemory, Disk
 use Rattle.pool_slots.proofs.ClaimPhases.{also_leads}
 use Rattle.pool_slots.proofs.Finding.{known_later, highest_same}
 use Rattle.pool_slots.proofs.BackReads.{read_later}
-use Rattle.pool_slots.proofs.OneDisk.{leads_kept_on}
+use Rattle.pool_slots.proofs.OneDisk.{leads_kept_on, shows_same}
 use Rattle.pool_slots.proofs.Phases.{IsPhase, phase_leaves, phases_leave, none_same, settled_later}
 
 -- ---- calls that write nothing
@@ -42,14 +42,22 @@ can_open_later trees out old new p makes can =
       leads = leads_later trees out old new p makes can.leads;
     }
 
+bare_later : (old new : Disks) (which : ℕ) → Makes no_write old new → IsBareOn (length (bytes_of old.starts which)) (content old which) → IsBareOn (length (bytes_of new.starts which)) (content new which)
+bare_later old new which makes bare =
+    let P : List (List ℕ) → Type 0 = λ starts. IsBareOn (length (bytes_of starts which)) (content new which) in
+    let size = length (bytes_of old.starts which) in
+    let here : IsBareOn size (content new which) = λ label slot is u shows.
+    bare label slot is u (shows_same (content new which) (content old which) (slot_at size label slot) slot u (λ i below. sym (none_same old new which (slot_at size label slot + i) makes)) shows) in
+    subst P (sym makes.starts) here
+
 found_case : (out : List Bool) (old new : Disks) (which : ℕ) (found : Option Found) → Makes no_write old new → IsFoundOn out old which found → IsFoundOn out new which found
-found_case out old new which None makes it = it
+found_case out old new which None makes it = λ used. bare_later old new which makes (it used)
 found_case out old new which (Some found) makes it =
     let P : List (List ℕ) → Type 0 = λ starts. IsHighest (length (bytes_of starts which)) (content new which) found in
     (it.0, subst P (sym makes.starts) (highest_same (length (bytes_of old.starts which)) (content old which) (content new which) found (λ i. none_same old new which i makes) it.1))
 
 found_later : (out : List Bool) (old new : Disks) (all : List (Option Found)) → Makes no_write old new → AreFound out old all → AreFound out new all
-found_later out old new all makes are which found at = found_case out old new which found makes (are which found at)
+found_later out old new all makes are which = found_case out old new which (get_or all which None) makes (are which)
 
 -- ---- before the claim
 
@@ -86,38 +94,47 @@ claim_up_to : (a b : Uberblock) → RanksUpTo a b → a.claim ≤ b.claim
 claim_up_to a b (inl x) = omega arith
 claim_up_to a b (inr x) = omega (arith, x.0)
 
+-- on a disk in use that shows an uberblock something was found
+pub found_where_shown : (out : List Bool) (disks : Disks) (which : ℕ) (o : Option Found) (v : Uberblock) → InUse out which → IsShownOn (length (bytes_of disks.starts which)) (content disks which) v
+    → IsFoundOn out disks which o → (found : Found) × (o ≡ Some found) × IsHighest (length (bytes_of disks.starts which)) (content disks which) found
+found_where_shown out disks which None v used shown bare = absurd (bare used shown.label shown.slot shown.is_slot v shown.shows)
+found_where_shown out disks which (Some found) v used shown it = (found, refl, it.1)
+
 -- the highest of one disk
 record OnDisk (disks : Disks) (p : Possible) (all : List (Option Found)) (which : ℕ) : Type 0 where
   pub found : Found
-  pub at : slice_get all which ≡ Some (Some found)
+  pub at : FoundAt all which found
   pub highest : IsHighest (length (bytes_of disks.starts which)) (content disks which) found
   pub rank : RanksUpTo p.last found.uberblock
 
-on_disk : (trees : Trees) (out : List Bool) (disks : Disks) (p : Possible) (all : List (Option Found)) (which : ℕ) → CanOpen trees out disks p → AreFound out disks all → AreOn out all → InUse out which
+on_disk : (trees : Trees) (out : List Bool) (disks : Disks) (p : Possible) (all : List (Option Found)) (which : ℕ) → CanOpen trees out disks p → AreFound out disks all → InUse out which
     → OnDisk disks p all which
-on_disk trees out disks p all which can are on used =
-    let it = (on which).0 used in
-    let highest = (are which (Some it.0) it.1).1 in
+on_disk trees out disks p all which can are used =
     let top = (can.leads which used).top in
+    let shown : IsShownOn (length (bytes_of disks.starts which)) (content disks which) top.u = record { label = top.label; slot = top.slot; is_slot = top.is_slot; shows = top.shows } in
+    let it = found_where_shown out disks which (get_or all which None) top.u used shown (are which) in
     record {
       found = it.0;
       at = it.1;
-      highest = highest;
-      rank = ranks_through p.last top.u it.0.uberblock top.rank (highest.greatest top.label top.slot top.is_slot top.u top.shows);
+      highest = it.2;
+      rank = ranks_through p.last top.u it.0.uberblock top.rank (it.2.greatest top.label top.slot top.is_slot top.u top.shows);
     }
+
+-- what was found on one disk is of it
+pub found_on : (out : List Bool) (disks : Disks) (all : List (Option Found)) (which : ℕ) (found : Found) → AreFound out disks all → FoundAt all which found → IsFoundOn out disks which (Some found)
+found_on out disks all which found are at = let P : Option Found → Type 0 = IsFoundOn out disks which in subst P at (are which)
 
 -- the highest of all is shown, and all that is shown ranks up to it
 pub highest_shown : (out : List Bool) (disks : Disks) (all : List (Option Found)) (u : Uberblock) → AreFound out disks all → AreOn out all → IsHighestOf all u → IsHighestShown out disks u
 highest_shown out disks all u are on one =
-    let here = are one.which (Some one.found) one.at in
+    let here = found_on out disks all one.which one.found are one.at in
     let it = here.1 in
     let P : Uberblock → Type 0 = IsRead out disks in
     record {
       shown = subst P (sym one.is) (record { which = one.which; used = here.0; on = record { on = record { label = it.label; slot = it.slot; is_slot = it.is_slot; shows = it.shows }; alone = it.alone } });
       greatest = λ v shown.
-          let mine = (on shown.which).0 shown.used in
-          let highest = (are shown.which (Some mine.0) mine.1).1 in
-          ranks_through v mine.0.uberblock u (highest.greatest shown.on.label shown.on.slot shown.on.is_slot v shown.on.shows) (one.greatest shown.which mine.0 mine.1);
+          let mine = found_where_shown out disks shown.which (get_or all shown.which None) v shown.used shown.on (are shown.which) in
+          ranks_through v mine.0.uberblock u (mine.2.greatest shown.on.label shown.on.slot shown.on.is_slot v shown.on.shows) (one.greatest shown.which mine.0 mine.1);
     }
 
 -- what is shown is out of reach, or possible
@@ -138,7 +155,7 @@ pub record IsTop (out : List Bool) (disks : Disks) (p : Possible) (highest : Ube
 pub is_top : (trees : Trees) (out : List Bool) (disks : Disks) (p : Possible) (all : List (Option Found)) (highest : Uberblock) → CanOpen trees out disks p → AreFound out disks all → AreOn out all
     → IsHighestOf all highest → IsTop out disks p highest
 is_top trees out disks p all highest can are on one =
-    let mine = on_disk trees out disks p all one.which can are on (are one.which (Some one.found) one.at).0 in
+    let mine = on_disk trees out disks p all one.which can are (found_on out disks all one.which one.found are one.at).0 in
     let rank : RanksUpTo p.last highest = ranks_through p.last mine.found.uberblock highest mine.rank (one.greatest one.which mine.found mine.at) in
     let shown = highest_shown out disks all highest are on one in
     record {
@@ -168,9 +185,6 @@ other_label : (label first : ℕ) → first ≡ 1 - label % 2 → InHalf ((first
 other_label label first is (inl a) = omega arith
 other_label label first is (inr a) = omega arith
 
-same_found : (a b : Found) → Some (Some a) ≡ Some (Some b) → a ≡ b
-same_found a b e = cc
-
 claim_is : (trees : Trees) (out : List Bool) (disks : Disks) (p : Possible) (highest taken u : Uberblock) (rewind : ℕ) → IsTop out disks p highest → IsRewound highest rewind taken
     → IsPossible trees out (content disks) p taken → IsClaimed highest taken u → IsClaimOf p rewind u
 claim_is trees out disks p highest taken u rewind top rewound possible claimed =
@@ -188,7 +202,7 @@ claim_is trees out disks p highest taken u rewind top rewound possible claimed =
 may_claim : (trees : Trees) (out : List Bool) (disks : Disks) (p : Possible) (all : List (Option Found)) (highest taken u : Uberblock) → CanOpen trees out disks p → AreFound out disks all → AreOn out all
     → IsHighestOf all highest → IsTop out disks p highest → IsPossible trees out (content disks) p taken → IsClaimed highest taken u → MayClaim trees out disks p u all
 may_claim trees out disks p all highest taken u can are on one top possible claimed =
-    let here : (which : ℕ) → InUse out which → OnDisk disks p all which = λ which used. on_disk trees out disks p all which can are on used in
+    let here : (which : ℕ) → InUse out which → OnDisk disks p all which = λ which used. on_disk trees out disks p all which can are used in
     record {
       off_labels = can.off_labels;
       settled = can.settled;
@@ -205,9 +219,8 @@ may_claim trees out disks p all highest taken u can are on one top possible clai
           record { label = mine.highest.label; slot = mine.highest.slot; u = mine.found.uberblock; is_slot = mine.highest.is_slot; shows = mine.highest.shows; rank = mine.rank };
       spared = λ which used turn.
           let mine = here which used in
-          let P : Found → Type 0 = λ f. InHalf ((f.other_half % 2 + 0) % 2) mine.highest.label in
-          let half : InHalf ((mine.found.other_half % 2 + 0) % 2) mine.highest.label = subst P (same_found turn.found mine.found (sym turn.at ∙ mine.at)) turn.half in
-          other_label mine.highest.label mine.found.other_half mine.highest.half half;
+          let P : Option Found → Type 0 = λ o. InHalf ((first_half_of o + 0) % 2) mine.highest.label in
+          other_label mine.highest.label mine.found.other_half mine.highest.half (subst P mine.at turn.half);
     }
 
 -- an uberblock that is shown, and below none that is, is a possible one
@@ -255,11 +268,11 @@ chosen trees out rewind first disks p s can few makes on says =
 
 -- ---- refusals
 
--- a scan that found a disk bare wasn't of disks that lead somewhere
+-- disks that lead somewhere show an uberblock
 not_bare : (trees : Trees) (out : List Bool) (disks : Disks) (p : Possible) → CanOpen trees out disks p → IsBare out disks → ⊥
 not_bare trees out disks p can bare =
-    let top = (can.leads bare.which bare.used).top in
-    bare.none top.label top.slot top.is_slot top.u top.shows
+    let top = (can.leads can.some.0 can.some.1).top in
+    bare top.u (record { which = can.some.0; used = can.some.1; on = record { label = top.label; slot = top.slot; is_slot = top.is_slot; shows = top.shows } })
 
 -- why a survey refused, of disks that lead somewhere
 pub cause_of : (trees : Trees) (out : List Bool) (rewind : ℕ) (old new : Disks) (p : Possible) (refusal : Refusal) → CanOpen trees out old p → AreHonestSince (length old.calls) new.starts new.calls
@@ -267,10 +280,7 @@ pub cause_of : (trees : Trees) (out : List Bool) (rewind : ℕ) (old new : Disks
 cause_of trees out rewind old new p NoMemory can honest refuses = tt
 cause_of trees out rewind old new p (DiskFault d) can honest refuses = refuses.1
 cause_of trees out rewind old new p NoUberblock can honest refuses =
-    elim (refuses can.known honest) [
-      | inl none ↦ absurd (none can.some.0 can.some.1)
-      | inr some ↦ elim some [ inl bare ↦ absurd (not_bare trees out old p can bare) | inr it ↦ it ]
-    ]
+    elim (refuses can.known honest) [ inl bare ↦ absurd (not_bare trees out old p can bare) | inr it ↦ it ]
 cause_of trees out rewind old new p NoLabel can honest refuses = let it = refuses can.known honest in (it.0, it.1.shown, it.2)
 cause_of trees out rewind old new p UsedUp can honest refuses = let it = refuses can.known honest in (it.0, highest_among trees out old p it.0 can it.1, it.2)
 

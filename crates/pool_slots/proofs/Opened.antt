@@ -20,7 +20,7 @@ use Rattle.pool_slots.specs.declared.labeled.Area.{Area}
 use Rattle.pool_slots.proofs.ClaimPhases.{also}
 use Rattle.pool_slots.proofs.Finding.{honest_before}
 use Rattle.pool_slots.proofs.LabelPhases.{each_joined, marked_always}
-use Rattle.pool_slots.proofs.LabelPlans.{claim_label_small, relabeled_valid}
+use Rattle.pool_slots.proofs.LabelPlans.{claim_label_small, label_for_valid, relabeled_valid}
 use Rattle.pool_slots.proofs.LabelScans.{label_later}
 use Rattle.pool_slots.proofs.OpenSteps.{chosen, claim_always, leads_before, takes_of}
 use Rattle.pool_slots.proofs.Phases.{leads_more}
@@ -121,13 +121,13 @@ opened_from out rewind first disks new s on surveyed makes known honest =
 
 -- the areas that were planned are those of the disks' labels
 pub made_from : (out : List Bool) (rewind : ℕ) (first disks new : Disks) (s : Surveyed) → IsSurveyed out rewind first disks s → Makes (IsClaimWrite disks.starts out s.claimed) disks new → AreKnown out first
-    → AreHonestSince (length first.calls) new.starts new.calls → AreMadeOf first s.claimed s.areas
+    → AreHonestSince (length first.calls) new.starts new.calls → AreMadeOf out first s.claimed s.areas
 made_from out rewind first disks new s surveyed makes known honest =
     (surveyed.says known (honest_before (length first.calls) (IsClaimWrite disks.starts out s.claimed) disks new makes honest)).planned.made
 
 -- so each disk's labels are
-pub relabeled_by : (out : List Bool) (old new : Disks) (u : Uberblock) (areas : List (Option Area)) → AreMadeOf old u areas → AreasOn out areas → Fits u → new.starts ≡ old.starts
-    → AreasStand (content new) old.starts (InAllLabels areas) → (which : ℕ) → InUse out which → IsRelabeled old u new which
+pub relabeled_by : (out : List Bool) (old new : Disks) (u : Uberblock) (areas : List (Option Area)) → AreMadeOf out old u areas → AreasOn out areas → Fits u → new.starts ≡ old.starts
+    → AreasStand (content new) old.starts (InAllLabels areas) → (which : ℕ) → InUse out which → IsRelabeled out old u new which
 relabeled_by out old new u areas made on fits starts stand which used =
     let area = (on which).0 used in
     let mine = made which area.0 area.1 in
@@ -141,15 +141,15 @@ relabeled_by out old new u areas made on fits starts stand which used =
           let P : List (List ℕ) → Type 0 = λ them. IsLabelShown (length (bytes_of them which)) (content new which) number l in
           subst P (sym starts) (record {
             is_label = is;
-            valid = relabeled_valid mine.label u mine.source.valid fits;
+            valid = relabeled_valid mine.label u (label_for_valid out old u which mine.it mine.label mine.source) fits;
             bytes = λ i below. stand which number area.0.bytes.items is (record { area = area.0; has = area.1; same = refl }) i below ∙ ap (λ (them : List ℕ). slice_get them i) mine.spells;
           });
     }
 
 -- a claim label is written where its disk's labels say
-first_write : (starts : List (List ℕ)) (old : Disks) (u : Uberblock) (areas : List (Option Area)) → AreMadeOf old u areas → old.starts ≡ starts → (which at : ℕ) (bytes : List ℕ)
+first_write : (starts : List (List ℕ)) (out : List Bool) (old : Disks) (u : Uberblock) (areas : List (Option Area)) → AreMadeOf out old u areas → old.starts ≡ starts → (which at : ℕ) (bytes : List ℕ)
     → IsAreaWrite starts (InAreaTurn areas true) which at bytes → IsClaimLabelWrite old u which at bytes
-first_write starts old u areas made same which at bytes write =
+first_write starts out old u areas made same which at bytes write =
     let mine = made which write.picked.area write.picked.has in
     let number : write.number ≡ mine.it.first = write.picked.turn ∙ mine.first in
     let P : List (List ℕ) → Type 0 = λ them. at ≡ area_place (length (bytes_of them which)) write.number in
@@ -157,12 +157,12 @@ first_write starts old u areas made same which at bytes write =
     record { it = mine.it; read = mine.read; place = subst Q number (subst P (sym same) write.place) }
 
 -- at the moment at which the claim labels stand
-pub marked_by : (out : List Bool) (old disks new : Disks) (u : Uberblock) (areas : List (Option Area)) → Makes no_write old disks → AreMadeOf old u areas → AreasOn out areas → Fits u
+pub marked_by : (out : List Bool) (old disks new : Disks) (u : Uberblock) (areas : List (Option Area)) → Makes no_write old disks → AreMadeOf out old u areas → AreasOn out areas → Fits u
     → AreFirst out disks areas new → AreMarkedFirst out old u new
 marked_by out old disks new u areas scan made on fits first =
     let M : (ℕ → ℕ → List ℕ → Type 0) → Type 0 = λ may. Makes may old first.now in
     let wrote = Makes-wider (IsAreaWrite disks.starts (InAreaTurn areas true)) (IsClaimLabelWrite old u) disks first.now
-    (first_write disks.starts old u areas made (sym scan.starts)) first.alone in
+    (first_write disks.starts out old u areas made (sym scan.starts)) first.alone in
     let long : length old.calls ≤ length first.now.calls = omega (arith, longer old disks no_write scan, longer disks first.now (IsClaimLabelWrite old u) wrote) in
     record {
       now = first.now;
@@ -172,7 +172,7 @@ marked_by out old disks new u areas scan made on fits first =
       marked = λ which used.
           let area = (on which).0 used in
           let mine = made which area.0 area.1 in
-          let valid = relabeled_valid mine.label u mine.source.valid fits in
+          let valid = relabeled_valid mine.label u (label_for_valid out old u which mine.it mine.label mine.source) fits in
           let small : mine.it.first < 4 = claim_label_small (length (bytes_of old.starts which)) (content old which) u.config_digest mine.it mine.read in
           let turn : InAreaTurn areas true which mine.it.first area.0.bytes.items = record { area = area.0; has = area.1; turn = sym mine.first; same = refl } in
           let P : List (List ℕ) → Type 0 = λ them. IsLabelShown (length (bytes_of them which)) (content first.now which) mine.it.first (relabeled mine.label u.claim u.group Active) in

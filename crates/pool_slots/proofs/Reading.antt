@@ -216,17 +216,14 @@ found_fits old new which slots found count read it =
     let below : k < 512 = omega (arith, within slots k found.uberblock it.has, count) in
     (says_some (k % 128) (read.bytes k) (get_or slots k None) found.uberblock (read.each k below).1 it.has).0.0
 
-pub finds_highest : (old new : Disks) (which : ℕ) (slots : Vec (Option Uberblock) Global) (found : Found) → 1048576 ≤ size_of old which → new.starts ≡ old.starts
-    → ReadsSlots old new which (Ok slots) → HasHighest slots.items found → FindsOn old new which (Ok found)
-finds_highest old new which slots found room starts it highest = (
-  found_fits old new which slots.items found it.0 it.1 highest,
-  λ known honest. highest_is old which slots.items found (are_read old new which slots.items room starts it.0 it.1 known honest) highest,
+-- what is found in the slots, or that nothing is
+pub finds_highest : (old new : Disks) (which : ℕ) (slots : Vec (Option Uberblock) Global) (found : Option Found) → 1048576 ≤ size_of old which → new.starts ≡ old.starts
+    → ReadsSlots old new which (Ok slots) → IfSome found (HasHighest slots.items) → IfNone found ((k : ℕ) (u : Uberblock) → ¬ Has slots.items k u) → FindsOn old new which (Ok found)
+finds_highest old new which slots None room starts it some none = λ known honest. bare_is old which slots.items (are_read old new which slots.items room starts it.0 it.1 known honest) none
+finds_highest old new which slots (Some found) room starts it some none = (
+  found_fits old new which slots.items found it.0 it.1 some,
+  λ known honest. highest_is old which slots.items found (are_read old new which slots.items room starts it.0 it.1 known honest) some,
 )
-
-pub finds_none : (old new : Disks) (which : ℕ) (slots : Vec (Option Uberblock) Global) → 1048576 ≤ size_of old which → new.starts ≡ old.starts
-    → ReadsSlots old new which (Ok slots) → ((k : ℕ) (u : Uberblock) → ¬ Has slots.items k u) → IsKnown old which → AreHonestSince (length old.calls) new.starts new.calls
-    → IsBareOn (size_of old which) (content old which)
-finds_none old new which slots room starts it none known honest = bare_is old which slots.items (are_read old new which slots.items room starts it.0 it.1 known honest) none
 
 -- ---- going back
 

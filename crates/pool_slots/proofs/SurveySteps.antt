@@ -1,28 +1,30 @@
 -- A whole survey.
-use Rattle.std.proofs.Common.{◌≡◌, inl, inr, ℕ, Bool, List, length, Option, Ok, Err, subst}
+use Rattle.std.proofs.Common.{◌≡◌, inl, inr, ℕ, Bool, List, length, get_or, Option, None, Ok, Err, subst}
 use Rattle.std.specs.Prelude.{Vec}
 use Rattle.std.specs.declared.alloc.Global.{Global}
-use Rattle.model_disk.specs.Joint.{Disks, AreHonestSince}
+use Rattle.model_disk.specs.Joint.{Disks, bytes_of, content, AreHonestSince}
 use Rattle.model_disk.specs.Runs.{Makes, no_write}
 use Rattle.uberblock_ring.specs.declared.uberblock.Uberblock.{Uberblock}
 use Rattle.vdev_label.specs.Plain.{PlainLabel}
 use Rattle.pool_slots.specs.Failures.{HasFailedOn}
 use Rattle.pool_slots.specs.LabelReads.{IsPlanned, LacksLabel, PlansClaim}
-use Rattle.pool_slots.specs.Labels.{IsShownInUse}
+use Rattle.pool_slots.specs.Labels.{IsShownInUse, IsWithout}
 use Rattle.pool_slots.specs.Marks.{IsUsedUp}
-use Rattle.pool_slots.specs.Opens.{AreFound, AreKnown, AreOn, FindsAll, IsHighestOf, IsRead, TakesFrom}
+use Rattle.pool_slots.specs.Opens.{AreFound, AreKnown, AreOn, FindsAll, FindsHighest, FoundAt, IsBare, IsHighestOf, IsRead, TakesFrom}
+use Rattle.pool_slots.specs.Relabels.{IsLabelFor}
 use Rattle.pool_slots.specs.Slots.{InUse}
 use Rattle.pool_slots.specs.Surveys.{IsSurveyed, SurveyRefuses}
 use Rattle.pool_slots.specs.declared.areas.Plan.{Plan}
 use Rattle.pool_slots.specs.declared.found.Found.{Found}
 use Rattle.pool_slots.specs.declared.labeled.Area.{Area}
+use Rattle.pool_slots.specs.declared.labeled.Labeled.{Labeled}
 use Rattle.pool_slots.specs.declared.refusal.Refusal.{Refusal}
 use Rattle.pool_slots.specs.declared.refusal.Refusal.TheVariants.{NoMemory, DiskFault, NoUberblock, NoLabel, UsedUp}
 use Rattle.pool_slots.proofs.BackReads.{read_earlier, read_later, shown_later}
 use Rattle.pool_slots.proofs.Failing.{fails_later}
 use Rattle.pool_slots.proofs.Finding.{honest_before, honest_since, known_later}
 use Rattle.pool_slots.proofs.LabelScans.{label_earlier, label_later, labeled_earlier}
-use Rattle.pool_slots.proofs.OpenSteps.{highest_shown}
+use Rattle.pool_slots.proofs.OpenSteps.{found_where_shown, highest_shown}
 use Rattle.pool_slots.proofs.Phases.{both_made}
 use Rattle.pool_slots.proofs.Reading.{longer}
 
@@ -33,6 +35,30 @@ in_use_later out old new l makes it = record { which = it.which; used = it.used;
 
 in_use_earlier : (out : List Bool) (old new : Disks) (l : PlainLabel) → Makes no_write old new → IsShownInUse out new l → IsShownInUse out old l
 in_use_earlier out old new l makes it = record { which = it.which; used = it.used; number = it.number; shown = label_earlier old new it.which it.number l makes it.shown }
+
+without_earlier : (old new : Disks) (which : ℕ) (digest : List ℕ) → Makes no_write old new → IsWithout (length (bytes_of new.starts which)) (content new which) digest
+    → IsWithout (length (bytes_of old.starts which)) (content old which) digest
+without_earlier old new which digest makes without number l shown = without number l (label_later old new which number l makes shown)
+
+label_for_earlier : (out : List Bool) (old new : Disks) (u : Uberblock) (which : ℕ) (it : Labeled) (l : PlainLabel) → Makes no_write old new → IsLabelFor out new u which it l → IsLabelFor out old u which it l
+label_for_earlier out old new u which it l makes from =
+    record {
+      own = from.own;
+      shown = label_earlier old new which it.source from.own makes from.shown;
+      from = elim from.from [
+        | inl kept ↦ inl kept
+        | inr taken ↦ inr (record {
+          without = without_earlier old new which u.config_digest makes taken.without;
+          other = taken.other;
+          used = taken.used;
+          number = taken.number;
+          given = taken.given;
+          shown = label_earlier old new taken.other taken.number taken.given makes taken.shown;
+          config = taken.config;
+          is = taken.is;
+        })
+      ];
+    }
 
 pub planned_earlier : (out : List Bool) (old new : Disks) (highest u : Uberblock) (areas : List (Option Area)) → Makes no_write old new → IsPlanned out new highest u areas
     → IsPlanned out old highest u areas
@@ -59,7 +85,7 @@ planned_earlier out old new highest u areas makes it =
             read = labeled_earlier old new which u.config_digest made.it makes made.read;
             first = made.first;
             label = made.label;
-            source = label_earlier old new which made.it.source made.label makes made.source;
+            source = label_for_earlier out old new u which made.it made.label makes made.source;
             spells = made.spells;
           };
     }
@@ -76,7 +102,8 @@ taken_read out rewind old mid back new all highest taken scan go_back planning f
     (takes.2 (known_later out old mid scan known) (honest_since (length old.calls) (length mid.calls) back (longer old mid no_write scan) honest_back) (read_later out old mid highest scan top.shown))
 
 pub lacks_earlier : (out : List Bool) (old new : Disks) (digest : List ℕ) → Makes no_write old new → LacksLabel out new digest → LacksLabel out old digest
-lacks_earlier out old new digest makes it = record { which = it.which; used = it.used; without = λ number l shown. it.without number l (label_later old new it.which number l makes shown) }
+lacks_earlier out old new digest makes (inl it) = inl (record { which = it.which; used = it.used; none = λ number l shown. it.none number l (label_later old new it.which number l makes shown) })
+lacks_earlier out old new digest makes (inr none) = inr (λ which used. without_earlier old new which digest makes (none which used))
 
 pub used_up_earlier : (out : List Bool) (old new : Disks) (highest : Uberblock) → Makes no_write old new → IsUsedUp out new highest → IsUsedUp out old highest
 used_up_earlier out old new highest makes (inl past) = inl past
@@ -111,9 +138,25 @@ pub scan_refuses : (out : List Bool) (rewind : ℕ) (old new : Disks) (refusal :
     → SurveyRefuses out rewind old new refusal
 scan_refuses out rewind old new NoMemory used finds = tt
 scan_refuses out rewind old new (DiskFault d) used finds = (used d finds, finds)
-scan_refuses out rewind old new NoUberblock used finds = λ known honest. inr (inl (finds known honest))
+scan_refuses out rewind old new NoUberblock used finds = absurd finds
 scan_refuses out rewind old new NoLabel used finds = absurd finds
 scan_refuses out rewind old new UsedUp used finds = absurd finds
+
+-- where nothing was found no disk in use shows an uberblock
+none_shown : (out : List Bool) (disks : Disks) (all : List (Option Found)) → AreFound out disks all → ((which : ℕ) (found : Found) → ¬ FoundAt all which found) → IsBare out disks
+none_shown out disks all are none u shown =
+    let it = found_where_shown out disks shown.which (get_or all shown.which None) u shown.used shown.on (are shown.which) in
+    none shown.which it.0 it.1
+
+pub highest_refuses : (out : List Bool) (rewind : ℕ) (old new : Disks) (all seen : List (Option Found)) (refusal : Refusal)
+    → (AreKnown out old → AreHonestSince (length old.calls) new.starts new.calls → AreFound out old all) → seen ≡ all → FindsHighest seen (Err refusal) → SurveyRefuses out rewind old new refusal
+highest_refuses out rewind old new all seen NoMemory found same finds = tt
+highest_refuses out rewind old new all seen (DiskFault d) found same finds = absurd finds
+highest_refuses out rewind old new all seen NoUberblock found same finds = λ known honest.
+    let P : List (Option Found) → Type 0 = λ xs. (which : ℕ) (it : Found) → ¬ FoundAt xs which it in
+    inl (none_shown out old all (found known honest) (subst P same finds))
+highest_refuses out rewind old new all seen NoLabel found same finds = absurd finds
+highest_refuses out rewind old new all seen UsedUp found same finds = absurd finds
 
 pub taken_refuses : (out : List Bool) (rewind : ℕ) (old mid new : Disks) (all seen : List (Option Found)) (highest : Uberblock) (refusal : Refusal) → ((disk : ℕ) → HasFailedOn old new disk → InUse out disk)
     → Makes no_write old mid → Makes no_write mid new → (AreKnown out old → AreHonestSince (length old.calls) mid.starts mid.calls → AreFound out old all) → AreOn out all → seen ≡ all
@@ -123,7 +166,7 @@ taken_refuses out rewind old mid new all seen highest (DiskFault d) used scan ba
     let failed = fails_later no_write old mid new scan d takes in (used d failed, failed)
 taken_refuses out rewind old mid new all seen highest NoUberblock used scan back found on same one takes = λ known honest.
     let P : List (Option Found) → Type 0 = λ xs. IsHighestOf xs highest in
-    inr (inr (
+    inr (
       takes.0,
       record {
         highest = highest;
@@ -131,7 +174,7 @@ taken_refuses out rewind old mid new all seen highest NoUberblock used scan back
         none = λ v shown.
             takes.1 (known_later out old mid scan known) (honest_since (length old.calls) (length mid.calls) new (longer old mid no_write scan) honest) v (shown_later out old mid v scan shown);
       },
-    ))
+    )
 taken_refuses out rewind old mid new all seen highest NoLabel used scan back found on same one takes = absurd takes
 taken_refuses out rewind old mid new all seen highest UsedUp used scan back found on same one takes = absurd takes
 

@@ -1,5 +1,5 @@
 -- What writes and flushes leave.
-use Rattle.std.proofs.Common.{◌≡◌, ◌⊎◌, inl, inr, ◌<◌, ◌≤◌, ◌∙◌, ℕ, ◌+◌, Bool, List, ◌∷◌, length, slice_get, Some, Result, Ok, Err, OnOk, false, refl, sym, ap, subst, arith}
+use Rattle.std.proofs.Common.{◌≡◌, ◌⊎◌, inl, inr, ◌<◌, ◌≤◌, ◌∙◌, ℕ, ◌+◌, ◌%◌, Bool, List, ◌∷◌, length, slice_get, get_or, Option, Some, None, Result, Ok, Err, OnOk, false, refl, sym, ap, subst, arith}
 use Rattle.uberblock_ring.specs.declared.uberblock.Uberblock.{Uberblock}
 use Rattle.uberblock_ring.specs.Uberblock.{Fits}
 use Rattle.uberblock_ring.specs.Slot.{slot_number}
@@ -11,7 +11,7 @@ use Rattle.model_disk.proofs.JointLemmas.{calls_on-same, calls_on-other}
 use Rattle.model_disk.proofs.LawLemmas.{written_bytes_stand}
 use Rattle.model_disk.proofs.RunLemmas.{off_content, Makes-write, Makes-flush}
 use Rattle.pool_slots.specs.Slots.{InUse, HaveLabels, MakesOn, is_disk, spelled, slot_at, IsSlot}
-use Rattle.pool_slots.specs.Writes.{IsSlotWrite, InHalf, in_use, in_half_of, on_disk, SlotStands, SlotsStand, HasBlock, IsBlockWrite, AreApart, BlocksStand}
+use Rattle.pool_slots.specs.Writes.{IsSlotWrite, InHalf, InTurn, first_half_of, in_use, in_half_of, on_disk, SlotStands, SlotsStand, HasBlock, IsBlockWrite, AreApart, BlocksStand}
 use Rattle.pool_slots.specs.declared.blocks.BlockWrite.{BlockWrite}
 use Rattle.pool_slots.specs.declared.found.Found.{Found}
 use Rattle.pool_slots.proofs.Places.{slots_apart, apart_covers, length-spelled, same_or_not}
@@ -258,8 +258,24 @@ made_next first loop new used u picks which room fits inside before makes stand 
 
 -- ---- the half whose turn it is
 
-same_found : (a b : Found) → Some (Some a) ≡ Some (Some b) → a ≡ b
-same_found a b e = cc
+pub turn_made : (out : List Bool) (all : List (Option Found)) (turn which half : ℕ) (old new : Disks) (u : Uberblock) → InUse out which
+    → half ≡ (first_half_of (get_or all which None) + turn) % 2 → MakesOn (is_disk which) (IsSlotWrite old.starts u (in_half_of which half)) old new
+    → MakesOn (InUse out) (IsSlotWrite old.starts u (on_disk which (InTurn out all turn))) old new
+turn_made out all turn which half old new u used same makes =
+    more_picked (is_disk which) (InUse out) old.starts u (in_half_of which half) (on_disk which (InTurn out all turn)) old new (on_used out which used)
+    (λ w l it.
+    let P : ℕ → Type 0 = λ d. InHalf ((first_half_of (get_or all d None) + turn) % 2) l in
+    let Q : ℕ → Type 0 = λ h. InHalf h l in
+    (it.0, record { used = on_used out which used w it.0; half = subst P (sym it.0) (subst Q same it.1) })) makes
+
+pub turn_stands : {T E : Type 0} (r : Result T E) (out : List Bool) (all : List (Option Found)) (turn which half : ℕ) (old new : Disks) (u : Uberblock)
+    → half ≡ (first_half_of (get_or all which None) + turn) % 2 → OnOk r (SlotsStand (content new) old.starts u (in_half_of which half) (length old.starts))
+    → OnOk r (SlotsStand (content new) old.starts u (on_disk which (InTurn out all turn)) (length old.starts))
+turn_stands (Err e) out all turn which half old new u same stand = tt
+turn_stands (Ok x) out all turn which half old new u same stand = λ d label below is picked.
+    let P : ℕ → Type 0 = λ w. InHalf ((first_half_of (get_or all w None) + turn) % 2) label in
+    let Q : ℕ → Type 0 = λ h. InHalf h label in
+    stand d label below is (picked.0, subst Q (sym same) (subst P picked.0 picked.1.half))
 
 -- ---- blocks
 

@@ -23,10 +23,18 @@ pub record IsConfigured (size : ℕ) (held : ℕ → Option ℕ) (digest : List 
   pub shown : IsLabelShown size held number label
   pub config : of_config digest label
 
--- whatever a stop now leaves shows it, on each disk in use
+-- whatever a stop now leaves shows it, on each of these disks
+abbrev pub LeavesConfiguredOn : (ℕ → Type 0) → List (List ℕ) → List ℕ → List JointCall → Type 0
+LeavesConfiguredOn used starts digest calls =
+    (images : List (List ℕ)) → MayLeaveAll starts calls images → (which : ℕ) → used which → IsConfigured (length (bytes_of images which)) (held_by images which) digest
+
+-- on each disk in use
 abbrev pub LeavesConfigured : List Bool → List (List ℕ) → List ℕ → List JointCall → Type 0
-LeavesConfigured out starts digest calls =
-    (images : List (List ℕ)) → MayLeaveAll starts calls images → (which : ℕ) → InUse out which → IsConfigured (length (bytes_of images which)) (held_by images which) digest
+LeavesConfigured out = LeavesConfiguredOn (InUse out)
+
+-- the disk is in use, and shows it
+abbrev pub ShowsConfig : List Bool → Disks → List ℕ → ℕ → Type 0
+ShowsConfig out disks digest which = InUse out which × IsConfigured (length (bytes_of disks.starts which)) (content disks which) digest
 
 -- The labels of the disk show four configurations, each another one.
 pub record ShowsFour (size : ℕ) (held : ℕ → Option ℕ) : Type 0 where
@@ -38,11 +46,11 @@ pub record ShowsFour (size : ℕ) (held : ℕ → Option ℕ) : Type 0 where
 abbrev pub AreNotFour : List Bool → Disks → Type 0
 AreNotFour out disks = (which : ℕ) → InUse out which → ¬ ShowsFour (length (bytes_of disks.starts which)) (content disks which)
 
--- Nothing is written; or a stop at any moment leaves on each disk in use a label with the configuration of what is claimed.
+-- Nothing is written; or a stop at any moment leaves a label with the configuration of what is claimed on each disk in use that has one.
 abbrev pub OpenConfigures : List Bool → ℕ → Disks → Disks → Type 0
 OpenConfigures out rewind old new =
     AreKnown out old → AreSettled out old.calls → AreNotFour out old → AreHonestSince (length old.calls) new.starts new.calls
-    → Makes no_write old new ⊎ ((u : Uberblock) × IsTakenFrom out old rewind u × EachSince (length old.calls) (LeavesConfigured out old.starts u.config_digest) new.calls)
+    → Makes no_write old new ⊎ ((u : Uberblock) × IsTakenFrom out old rewind u × EachSince (length old.calls) (LeavesConfiguredOn (ShowsConfig out old u.config_digest) old.starts u.config_digest) new.calls)
 
 -- ---- what a claim ensures
 
@@ -61,11 +69,11 @@ pub record IsOfConfig (digest : List ℕ) (area : Area) : Type 0 where
   pub spells : area.bytes.items ≡ inscribed label
   pub config : of_config digest label
 
--- Each area has the configuration, and beside each disk's claim label another does.
+-- Each area has the configuration, and beside the claim label of each disk that shows it another does.
 pub record MayConfigure (out : List Bool) (disks : Disks) (areas : List (Option Area)) (digest : List ℕ) : Type 0 where
   pub settled : AreSettled out disks.calls
   pub each : (which : ℕ) (area : Area) → slice_get areas which ≡ Some (Some area) → IsOfConfig digest area
-  pub beside : (which : ℕ) (area : Area) → InUse out which → slice_get areas which ≡ Some (Some area) → IsBeside (length (bytes_of disks.starts which)) (content disks which) area.first digest
+  pub beside : (which : ℕ) (area : Area) → ShowsConfig out disks digest which → slice_get areas which ≡ Some (Some area) → IsBeside (length (bytes_of disks.starts which)) (content disks which) area.first digest
 
 abbrev pub ClaimConfigures : List Bool → Disks → List (Option Area) → Disks → Type 0
-ClaimConfigures out old areas new = (digest : List ℕ) → MayConfigure out old areas digest → EachSince (length old.calls) (LeavesConfigured out old.starts digest) new.calls
+ClaimConfigures out old areas new = (digest : List ℕ) → MayConfigure out old areas digest → EachSince (length old.calls) (LeavesConfiguredOn (ShowsConfig out old digest) old.starts digest) new.calls

@@ -9,9 +9,9 @@ use Rattle.vdev_label.specs.Pairs.{label_pairs, InRange}
 use Rattle.vdev_label.specs.Place.{area_at}
 use Rattle.vdev_label.specs.Plain.{PlainLabel}
 use Rattle.vdev_label.specs.declared.label.State.TheVariants.{Active}
-use Rattle.pool_slots.specs.Shown.{IsSummary}
+use Rattle.pool_slots.specs.Shown.{IsSummary, NoneHas}
 use Rattle.pool_slots.specs.Slots.{InUse}
-use Rattle.pool_slots.specs.Writes.{InHalf, IsSlotWrite, in_use}
+use Rattle.pool_slots.specs.Writes.{InHalf, IsSlotWrite, SlotsStand, in_use}
 use Rattle.pool_slots.specs.declared.labeled.Area.{Area}
 use Rattle.pool_slots.specs.declared.labeled.Labeled.{Labeled}
 use Rattle.pool_slots.specs.declared.labeled.Pick.{Pick}
@@ -53,15 +53,20 @@ pub record AreShownAs (size : ℕ) (held : ℕ → Option ℕ) (shown : List (Op
   pub four : length shown ≡ 4
   pub each : (number : ℕ) → number < 4 → IsShownAs size held number (get_or shown number None)
 
--- what a claim takes from the labels of a disk
+-- what a claim takes from the labels of a disk, where this configuration is wanted
 pub record IsLabeledAs (size : ℕ) (held : ℕ → Option ℕ) (digest : List ℕ) (it : Labeled) : Type 0 where
   pub shown : List (Option Shown)
   pub are : AreShownAs size held shown
-  pub summary : IsSummary shown digest it
+  pub summary : IsSummary shown it
+  pub config : (it.config_digest ≡ digest) ⊎ NoneHas shown digest
 
 -- no label of the disk shows this configuration
 abbrev pub IsWithout : ℕ → (ℕ → Option ℕ) → List ℕ → Type 0
 IsWithout size held digest = (number : ℕ) (l : PlainLabel) → IsLabelShown size held number l → ¬ (sha256 (config_bytes l.vdevs) ≡ digest)
+
+-- no label of the disk shows anything
+abbrev pub IsUnlabeled : ℕ → (ℕ → Option ℕ) → Type 0
+IsUnlabeled size held = (number : ℕ) (l : PlainLabel) → ¬ IsLabelShown size held number l
 
 -- a label of a disk in use shows it
 pub record IsShownInUse (out : List Bool) (disks : Disks) (l : PlainLabel) : Type 0 where
@@ -85,6 +90,20 @@ pub record IsInscribed (u : Uberblock) (l : PlainLabel) (bytes : List ℕ) : Typ
   pub group : l.group ≡ u.group
   pub state : l.state ≡ Active
   pub spells : bytes ≡ inscribed l
+
+-- a label with the numbers of the disk and of its vdev that another one has
+abbrev pub renumbered : PlainLabel → PlainLabel → PlainLabel
+renumbered l own =
+    record {
+      claim = l.claim;
+      guid = own.guid;
+      name = l.name;
+      pool_guid = l.pool_guid;
+      state = l.state;
+      top_guid = own.top_guid;
+      group = l.group;
+      vdevs = l.vdevs;
+    }
 
 -- a label of a disk in use, for this uberblock
 pub record IsLabelWrite (starts : List (List ℕ)) (out : List Bool) (u : Uberblock) (which at : ℕ) (bytes : List ℕ) : Type 0 where
@@ -162,6 +181,10 @@ AreasStand held starts picks =
 -- each is as long as an area is
 abbrev pub AreWhole : (ℕ → ℕ → List ℕ → Type 0) → Type 0
 AreWhole picks = (which number : ℕ) (bytes : List ℕ) → picks which number bytes → length bytes ≡ 114688
+
+-- the uberblock stands in its slot in each label of each disk in use
+abbrev pub AreSlotted : List Bool → Disks → Uberblock → Type 0
+AreSlotted out disks u = SlotsStand (content disks) disks.starts u (in_use out) (length disks.starts)
 
 -- each label of each disk in use shows the claim
 abbrev pub AreClaimed : List Bool → Disks → Uberblock → Type 0

@@ -27,7 +27,7 @@ of_label which label.DiskFault = DiskFault which
 of_label which (label.BadLabel it) = NoLabel
 
 -- Want of memory; a call failed on the disk that it names; no disk shows what is so many groups below the highest, so it is never this where no group is gone back;
--- a disk shows in no label the configuration of an uberblock that is shown; no claim is left above that of a possible uberblock, and those that
+-- a disk shows no label, or none shows the configuration of an uberblock that is shown; no claim is left above that of a possible uberblock, and those that
 -- labels show.
 abbrev pub IsCause : List Bool → ℕ → Disks → Disks → Possible → Refusal → Type 0
 IsCause out rewind old new p NoMemory = Unit {0}

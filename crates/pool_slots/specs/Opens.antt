@@ -1,5 +1,5 @@
 -- What an open reads, and what it claims.
-use Rattle.std.specs.Prelude.{◌≡◌, ◌↔◌, ◌⊎◌, ◌<◌, ℕ, ◌-◌, ◌/◌, ◌%◌, Bool, List, [], ◌∷◌, length, slice_get, Option, Some, None, Contains, Result, Ok, Err, Vec}
+use Rattle.std.specs.Prelude.{◌≡◌, ◌⊎◌, ◌<◌, ℕ, ◌-◌, ◌/◌, ◌%◌, Bool, List, [], ◌∷◌, length, slice_get, get_or, Option, Some, None, Contains, Result, Ok, Err, Vec}
 use Rattle.std.specs.declared.alloc.Global.{Global}
 use Rattle.model_disk.specs.Joint.{JointCall, Disks, bytes_of, content, AreHonestSince}
 use Rattle.model_disk.specs.Runs.{EachSince, no_write}
@@ -9,7 +9,7 @@ use Rattle.uberblock_ring.specs.Uberblock.{Fits}
 use Rattle.pool_slots.specs.Failures.{HasFailedOn}
 use Rattle.pool_slots.specs.Slots.{InUse, MakesOn, AreSettled, slot_at, IsSlot, Shows}
 use Rattle.pool_slots.specs.Possible.{Possible, all_of, IsInReach, IsTopped, Trees, TreeStands, Leads, LeavesLeading, AllAreBelow}
-use Rattle.pool_slots.specs.Writes.{HasFound, InTurn}
+use Rattle.pool_slots.specs.Writes.{InTurn}
 use Rattle.pool_slots.specs.Commits.{AreOffLabels, AreAt, LeadAlways}
 use Rattle.pool_slots.specs.Labels.{IsClaimWrite, IsNextClaim}
 use Rattle.pool_slots.specs.Marks.{AreMarked, IsSpared, LeavesMarked}
@@ -44,27 +44,25 @@ pub record IsHighest (size : ℕ) (held : ℕ → Option ℕ) (found : Found) : 
   pub half : found.other_half ≡ 1 - label % 2
   pub greatest : (other number : ℕ) → IsSlot other number → (v : Uberblock) → Shows held (slot_at size other number) number v → RanksUpTo v found.uberblock
 
--- on each disk in use the highest was found, and nothing on the others
-abbrev pub IsFoundOn : List Bool → Disks → ℕ → Option Found → Type 0
-IsFoundOn out disks which None = ¬ InUse out which
-IsFoundOn out disks which (Some found) = InUse out which × IsHighest (length (bytes_of disks.starts which)) (content disks which) found
-
-abbrev pub AreFound : List Bool → Disks → List (Option Found) → Type 0
-AreFound out disks all = (which : ℕ) (found : Option Found) → slice_get all which ≡ Some found → IsFoundOn out disks which found
-
--- a disk in use, and no other, has something found on it
-abbrev pub AreOn : List Bool → List (Option Found) → Type 0
-AreOn out all = (which : ℕ) → InUse out which ↔ HasFound all which
-
 -- the slots of a disk show no uberblock
 abbrev pub IsBareOn : ℕ → (ℕ → Option ℕ) → Type 0
 IsBareOn size held = (label slot : ℕ) → IsSlot label slot → (u : Uberblock) → ¬ Shows held (slot_at size label slot) slot u
 
--- some disk in use is so
-pub record IsBare (out : List Bool) (disks : Disks) : Type 0 where
-  pub which : ℕ
-  pub used : InUse out which
-  pub none : IsBareOn (length (bytes_of disks.starts which)) (content disks which)
+-- on a disk in use the highest was found, or it shows none; and nothing on the others
+abbrev pub IsFoundOn : List Bool → Disks → ℕ → Option Found → Type 0
+IsFoundOn out disks which None = InUse out which → IsBareOn (length (bytes_of disks.starts which)) (content disks which)
+IsFoundOn out disks which (Some found) = InUse out which × IsHighest (length (bytes_of disks.starts which)) (content disks which) found
+
+abbrev pub AreFound : List Bool → Disks → List (Option Found) → Type 0
+AreFound out disks all = (which : ℕ) → IsFoundOn out disks which (get_or all which None)
+
+-- what was found on the disk of this number
+abbrev pub FoundAt : List (Option Found) → ℕ → Found → Type 0
+FoundAt all which found = get_or all which None ≡ Some found
+
+-- nothing on a disk that is out
+abbrev pub AreOn : List Bool → List (Option Found) → Type 0
+AreOn out all = (which : ℕ) (found : Found) → FoundAt all which found → InUse out which
 
 -- a slot of the disk shows the uberblock
 pub record IsShownOn (size : ℕ) (held : ℕ → Option ℕ) (u : Uberblock) : Type 0 where
@@ -83,6 +81,10 @@ pub record IsShown (out : List Bool) (disks : Disks) (u : Uberblock) : Type 0 wh
   pub which : ℕ
   pub used : InUse out which
   pub on : IsShownOn (length (bytes_of disks.starts which)) (content disks which) u
+
+-- no disk in use shows one
+abbrev pub IsBare : List Bool → Disks → Type 0
+IsBare out disks = (u : Uberblock) → ¬ IsShown out disks u
 
 -- and no other there
 pub record IsRead (out : List Bool) (disks : Disks) (u : Uberblock) : Type 0 where
@@ -103,31 +105,32 @@ uberblock_of (Some found) = Some found.uberblock
 pub record IsHighestOf (all : List (Option Found)) (u : Uberblock) : Type 0 where
   pub which : ℕ
   pub found : Found
-  pub at : slice_get all which ≡ Some (Some found)
+  pub at : FoundAt all which found
   pub is : u ≡ found.uberblock
-  pub greatest : (other : ℕ) (it : Found) → slice_get all other ≡ Some (Some it) → RanksUpTo it.uberblock u
+  pub greatest : (other : ℕ) (it : Found) → FoundAt all other it → RanksUpTo it.uberblock u
 
 abbrev pub AreFitting : List (Option Found) → Type 0
-AreFitting all = (which : ℕ) (found : Found) → slice_get all which ≡ Some (Some found) → Fits found.uberblock
+AreFitting all = (which : ℕ) (found : Found) → FoundAt all which found → Fits found.uberblock
 
 -- ---- what the reads answer
 
--- the highest of one disk; else want of memory, a call that failed, or a disk whose slots show none
-abbrev pub FindsOn : Disks → Disks → ℕ → Result Found Refusal → Type 0
-FindsOn old new which (Ok found) =
+-- the highest of one disk, or nothing where its slots show none; else want of memory, or a call that failed
+abbrev pub FindsOn : Disks → Disks → ℕ → Result (Option Found) Refusal → Type 0
+FindsOn old new which (Ok (Some found)) =
     Fits found.uberblock
     × (IsKnown old which → AreHonestSince (length old.calls) new.starts new.calls → IsHighest (length (bytes_of old.starts which)) (content old which) found)
+FindsOn old new which (Ok None) =
+    IsKnown old which → AreHonestSince (length old.calls) new.starts new.calls → IsBareOn (length (bytes_of old.starts which)) (content old which)
 FindsOn old new which (Err NoMemory) = Unit {0}
 FindsOn old new which (Err (DiskFault disk)) = HasFailedOn old new disk
-FindsOn old new which (Err NoUberblock) =
-    IsKnown old which → AreHonestSince (length old.calls) new.starts new.calls → IsBareOn (length (bytes_of old.starts which)) (content old which)
+FindsOn old new which (Err NoUberblock) = ⊥
 FindsOn old new which (Err NoLabel) = ⊥
 FindsOn old new which (Err UsedUp) = ⊥
 
 -- the same where the disk may be out: then nothing is found
 abbrev pub FindsIfUsed : List Bool → Disks → Disks → ℕ → Result (Option Found) Refusal → Type 0
-FindsIfUsed out old new which (Ok None) = ¬ InUse out which
-FindsIfUsed out old new which (Ok (Some found)) = InUse out which × FindsOn old new which (Ok found)
+FindsIfUsed out old new which (Ok None) = InUse out which → FindsOn old new which (Ok None)
+FindsIfUsed out old new which (Ok (Some found)) = InUse out which × FindsOn old new which (Ok (Some found))
 FindsIfUsed out old new which (Err refusal) = InUse out which × FindsOn old new which (Err refusal)
 
 -- of all disks
@@ -137,7 +140,7 @@ FindsAll out old new (Ok all) =
     × (AreKnown out old → AreHonestSince (length old.calls) new.starts new.calls → AreFound out old all.items)
 FindsAll out old new (Err NoMemory) = Unit {0}
 FindsAll out old new (Err (DiskFault disk)) = HasFailedOn old new disk
-FindsAll out old new (Err NoUberblock) = AreKnown out old → AreHonestSince (length old.calls) new.starts new.calls → IsBare out old
+FindsAll out old new (Err NoUberblock) = ⊥
 FindsAll out old new (Err NoLabel) = ⊥
 FindsAll out old new (Err UsedUp) = ⊥
 
@@ -146,7 +149,7 @@ abbrev pub FindsHighest : List (Option Found) → Result Uberblock Refusal → T
 FindsHighest all (Ok u) = IsHighestOf all u × Fits u
 FindsHighest all (Err NoMemory) = Unit {0}
 FindsHighest all (Err (DiskFault disk)) = ⊥
-FindsHighest all (Err NoUberblock) = (which : ℕ) (found : Found) → ¬ (slice_get all which ≡ Some (Some found))
+FindsHighest all (Err NoUberblock) = (which : ℕ) (found : Found) → ¬ FoundAt all which found
 FindsHighest all (Err NoLabel) = ⊥
 FindsHighest all (Err UsedUp) = ⊥
 
@@ -249,7 +252,7 @@ pub record MayClaim (trees : Trees) (out : List Bool) (disks : Disks) (p : Possi
   pub above : RanksUpTo p.last u
   pub tree : TreeStands trees out (content disks) u.root
   pub top : (which : ℕ) → InUse out which → IsTopped (length (bytes_of disks.starts which)) (content disks which) p.last
-  pub spared : (which : ℕ) → (used : InUse out which) → ¬ InTurn all 0 which (top which used).label
+  pub spared : (which : ℕ) → (used : InUse out which) → ¬ InTurn out all 0 which (top which used).label
 
 -- what `open` ensures of any disks, at each moment
 abbrev pub OpenKeeps : List Bool → ℕ → Disks → Disks → Type 0

@@ -85,8 +85,17 @@ pub record IsGreatest (shown : List (Option Shown)) (claim : ℕ) : Type 0 where
   pub is : has_claim claim s
   pub greatest : (j : ℕ) (t : Shown) → At shown j t → t.claim ≤ claim
 
--- what a claim takes from what they show
-pub record IsSummary (shown : List (Option Shown)) (digest : List ℕ) (it : Labeled) : Type 0 where
+-- no label has this configuration
+abbrev pub NoneHas : List (Option Shown) → List ℕ → Type 0
+NoneHas shown digest = (k : ℕ) (s : Shown) → At shown k s → ¬ has_config digest s
+
+-- what a claim takes from what they show, of those with its configuration
+pub record IsSummary (shown : List (Option Shown)) (it : Labeled) : Type 0 where
   pub greatest : IsGreatest shown it.claim
-  pub source : IsSource shown digest it.source
+  pub source : IsSource shown it.config_digest it.source
   pub first : IsClaimLabel shown it.claim it.first
+
+-- of those with this configuration, or where none has it with that of some label
+pub record IsLabeledOf (shown : List (Option Shown)) (digest : List ℕ) (it : Labeled) : Type 0 where
+  pub summary : IsSummary shown it
+  pub config : (it.config_digest ≡ digest) ⊎ NoneHas shown digest

@@ -16,7 +16,7 @@ use Rattle.pool_slots.specs.declared.labeled.Area.{Area}
 use Rattle.pool_slots.specs.declared.refusal.Refusal.{Refusal}
 use Rattle.pool_slots.specs.declared.refusal.Refusal.TheVariants.{NoMemory, DiskFault, NoUberblock, NoLabel, UsedUp}
 
--- The highest uberblock of each disk in use, the highest of all, the one that is taken, the same under the next claim, and the areas of
+-- The highest uberblock of each disk in use that shows one, the highest of all, the one that is taken, the same under the next claim, and the areas of
 -- labels for it.
 pub record Surveyed : Type 0 where
   pub found : List (Option Found)
@@ -25,7 +25,7 @@ pub record Surveyed : Type 0 where
   pub claimed : Uberblock
   pub areas : List (Option Area)
 
--- It has what is to be written to each disk in use, and nothing for another.
+-- It has what is to be written to each disk in use, and nothing for another; and found nothing on another.
 pub record IsWholeOf (out : List Bool) (starts : List (List ℕ)) (s : Surveyed) : Type 0 where
   pub found : length s.found ≡ length starts
   pub found_on : AreOn out s.found
@@ -54,9 +54,9 @@ OfSurveyed out s now Holds = (rewind : ℕ) (first : Disks) → rewind < 3 → I
 
 -- ---- refusals
 
--- no disk is in use, or one of them shows no uberblock, or none shows what is so many groups below the highest
+-- no disk in use shows an uberblock, or none shows what is so many groups below the highest
 abbrev pub HasNone : List Bool → Disks → ℕ → Type 0
-HasNone out disks rewind = ((which : ℕ) → ¬ InUse out which) ⊎ (IsBare out disks ⊎ ((0 < rewind) × IsNotThere out disks rewind))
+HasNone out disks rewind = IsBare out disks ⊎ ((0 < rewind) × IsNotThere out disks rewind)
 
 -- what an open takes
 pub record IsTaken (out : List Bool) (disks : Disks) (rewind : ℕ) (u : Uberblock) : Type 0 where
@@ -65,8 +65,8 @@ pub record IsTaken (out : List Bool) (disks : Disks) (rewind : ℕ) (u : Uberblo
   pub shown : IsRead out disks u
   pub rewound : IsRewound highest rewind u
 
--- Want of memory; a call failed on a disk in use; there is none to take; a disk in use shows the configuration of the taken one in no label; no claim is
--- left above that of the highest, and those that labels show.
+-- Want of memory; a call failed on a disk in use; there is none to take; a disk in use shows no label, or none shows the configuration of the taken
+-- one; no claim is left above that of the highest, and those that labels show.
 abbrev pub SurveyRefuses : List Bool → ℕ → Disks → Disks → Refusal → Type 0
 SurveyRefuses out rewind old new NoMemory = Unit {0}
 SurveyRefuses out rewind old new (DiskFault disk) = InUse out disk × HasFailedOn old new disk

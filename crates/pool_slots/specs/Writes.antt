@@ -1,5 +1,5 @@
 -- The writes that a commit and an open may make.
-use Rattle.std.specs.Prelude.{◌≡◌, ◌⊎◌, ◌≤◌, ◌<◌, ℕ, ◌+◌, ◌%◌, Bool, List, length, slice_get, Option, Some, false}
+use Rattle.std.specs.Prelude.{◌≡◌, ◌⊎◌, ◌≤◌, ◌<◌, ℕ, ◌+◌, ◌%◌, Bool, List, length, slice_get, get_or, Option, Some, None, false}
 use Rattle.model_disk.specs.Contents.{covers}
 use Rattle.model_disk.specs.Joint.{bytes_of}
 use Rattle.uberblock_ring.specs.declared.uberblock.Uberblock.{Uberblock}
@@ -30,15 +30,15 @@ InHalf half label = (label ≡ half) ⊎ (label ≡ half + 2)
 abbrev pub in_half_of : ℕ → ℕ → ℕ → ℕ → Type 0
 in_half_of disk half which label = (which ≡ disk) × InHalf half label
 
--- something was found on the disk
-abbrev pub HasFound : List (Option Found) → ℕ → Type 0
-HasFound all which = (found : Found) × (slice_get all which ≡ Some (Some found))
+-- The half of a disk's labels that a claim writes first: the one in which its highest uberblock was not read; labels 0 and 2 where none was found.
+abbrev pub first_half_of : Option Found → ℕ
+first_half_of None = 0
+first_half_of (Some found) = found.other_half % 2
 
--- In a claim's first turn (0) each disk's half in which its highest uberblock was not read, in its second (1) the other.
-pub record InTurn (all : List (Option Found)) (turn which label : ℕ) : Type 0 where
-  pub found : Found
-  pub at : slice_get all which ≡ Some (Some found)
-  pub half : InHalf ((found.other_half % 2 + turn) % 2) label
+-- In a claim's first turn (0) that half of each disk in use, in its second (1) the other.
+pub record InTurn (out : List Bool) (all : List (Option Found)) (turn which label : ℕ) : Type 0 where
+  pub used : InUse out which
+  pub half : InHalf ((first_half_of (get_or all which None) + turn) % 2) label
 
 -- what is picked on one disk
 abbrev pub on_disk : ℕ → (ℕ → ℕ → Type 0) → ℕ → ℕ → Type 0

@@ -5,8 +5,8 @@ ghost use Rattle.model_disk.specs.Runs.{Makes};
 ghost use Rattle.uberblock_ring.specs.Uberblock.{Fits};
 ghost use Rattle.pool_slots.specs.Failures.{IsFailure};
 ghost use Rattle.pool_slots.specs.Configs.{ClaimConfigures};
-ghost use Rattle.pool_slots.specs.Labels.{AreClaimed, AreasFit, AreasOn, AreasStand, IsClaimWrite};
-ghost use Rattle.pool_slots.specs.Opens.{AreOn, ClaimGives, ClaimKeeps, SlotsGive, SlotsKeep};
+ghost use Rattle.pool_slots.specs.Labels.{AreClaimed, AreSlotted, AreasFit, AreasOn, AreasStand, IsClaimWrite};
+ghost use Rattle.pool_slots.specs.Opens.{ClaimGives, ClaimKeeps, SlotsGive, SlotsKeep};
 ghost use Rattle.pool_slots.specs.Relabels.{AreFirst, InAllLabels, of_areas};
 ghost use Rattle.pool_slots.specs.Slots.{AreSettled, HaveLabels, InUse, MakesOn};
 ghost use Rattle.pool_slots.specs.Writes.{IsSlotWrite, in_use};
@@ -20,7 +20,8 @@ use model_disk::{Disk, DiskArray};
 use uberblock_ring::Uberblock;
 
 /// Writes an uberblock's slots in one half of the labels of each disk in use, and once they are
-/// flushed on all of them in the other half. The first fault ends it.
+/// flushed on all of them in the other half. A disk on which nothing was found begins with labels 0
+/// and 2. The first fault ends it.
 fn claim_slots<D: Disk + Drop>(
     disks: &mut DiskArray<D>,
     out: &[bool],
@@ -29,7 +30,6 @@ fn claim_slots<D: Disk + Drop>(
 ) -> Result<(), DiskFailure>
     requires out { length out.now ≡ length disks.old.starts }
     requires all { length all.now ≡ length disks.old.starts }
-    requires used { AreOn out.now all.now }
     requires labels { HaveLabels disks.old.starts }
     requires fits { Fits uberblock.now }
     ensures makes { MakesOn (InUse out.now)
@@ -37,11 +37,12 @@ fn claim_slots<D: Disk + Drop>(
     ensures fault { IfErr result (IsFailure disks.old disks.new) }
     ensures any_moment { SlotsKeep out.now disks.old uberblock.now all.now disks.new }
     ensures settled { OnOk result (AreSettled out.now disks.new.calls) }
+    ensures slotted { OnOk result (AreSlotted out.now disks.new uberblock.now) }
     ensures claimed { OnOk result (SlotsGive out.now disks.old uberblock.now all.now disks.new) }
 {
-    write_turn(disks, all, 0, uberblock)?;
+    write_turn(disks, out, all, 0, uberblock)?;
     flush_all(disks, out)?;
-    write_turn(disks, all, 1, uberblock)?;
+    write_turn(disks, out, all, 1, uberblock)?;
     flush_all(disks, out)
 }
 
@@ -56,7 +57,6 @@ pub(crate) fn write_claim<D: Disk + Drop>(
 ) -> Result<(), DiskFailure>
     requires out { length out.now ≡ length disks.old.starts }
     requires all { length all.now ≡ length disks.old.starts }
-    requires used { AreOn out.now all.now }
     requires labels { HaveLabels disks.old.starts }
     requires fits { Fits uberblock.now }
     requires count { length areas.now ≡ length disks.old.starts }
@@ -71,6 +71,7 @@ pub(crate) fn write_claim<D: Disk + Drop>(
         out.now disks.old uberblock.now all.now areas.now disks.new }
     ensures configured { ClaimConfigures out.now disks.old areas.now disks.new }
     ensures claimed { OnOk result (ClaimGives out.now disks.old uberblock.now all.now disks.new) }
+    ensures slotted { OnOk result (AreSlotted out.now disks.new uberblock.now) }
     ensures labeled { OnOk result (AreClaimed out.now disks.new uberblock.now) }
     ensures stand { OnOk result
         (AreasStand (content disks.new) disks.old.starts (InAllLabels areas.now)) }

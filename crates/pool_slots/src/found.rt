@@ -2,7 +2,7 @@
 
 use uberblock_ring::Uberblock;
 
-/// The highest uberblock of a disk.
+/// The highest uberblock of a disk that shows one.
 #[derive(Clone, Copy)]
 pub(crate) struct Found {
     pub uberblock: Uberblock,

@@ -1,6 +1,6 @@
 //! Which label of a disk is written anew, and which one a claim writes first.
 ghost use Rattle.std.specs.Prelude.{◌≡◌, ◌↔◌, ◌<◌, ℕ, length, get_or, None, IfSome, IfNone, IsTrue};
-ghost use Rattle.pool_slots.specs.Shown.{At, HasBeside, IsBetter, IsBlank, IsClaimLabel, IsFirstLeast, IsGreatestOf, IsLowest, IsSource, IsSpare, IsSummary, claim_of, has_claim, has_config};
+ghost use Rattle.pool_slots.specs.Shown.{At, HasBeside, IsBetter, IsBlank, IsClaimLabel, IsFirstLeast, IsGreatestOf, IsLowest, IsLabeledOf, IsSource, IsSpare, IsSummary, NoneHas, claim_of, has_claim, has_config};
 ghost use Rattle.pool_slots.specs.declared.labeled.Shown.{Shown};
 
 use crate::labeled::{Labeled, Shown};
@@ -155,18 +155,48 @@ fn claim_label(shown: &[Option<Shown>], claim: u64) -> usize
     first_least(shown)
 }
 
-/// What a claim takes from what four labels show. `None` where none of them shows the configuration.
-pub(crate) fn summary(shown: &[Option<Shown>], digest: &[u8; 32]) -> Option<Labeled>
+/// What a claim takes from what four labels show, of those with one configuration. `None` where none of them shows it.
+fn summary(shown: &[Option<Shown>], digest: &[u8; 32]) -> Option<Labeled>
     requires four { length shown.now ≡ 4 }
-    ensures some { IfSome result (IsSummary shown.now digest.now) }
-    ensures none { IfNone result ((k : ℕ) (s : Shown) → At shown.now k s
-        → ¬ has_config digest.now s) }
+    ensures some { IfSome result (IsSummary shown.now) }
+    ensures config { IfSome result (λ it. it.config_digest ≡ digest.now) }
+    ensures none { IfNone result (NoneHas shown.now digest.now) }
 {
     let source = source_of(shown, digest)?;
     let claim = greatest_claim(shown);
     Some(Labeled {
         claim,
+        config_digest: *digest,
         source: source as u64,
         first: claim_label(shown, claim) as u64,
     })
+}
+
+/// What the lowest label shows that shows something.
+fn first_shown(shown: &[Option<Shown>]) -> Option<Shown>
+    ensures some { IfSome result (λ s. (k : ℕ) × At shown.now k s) }
+    ensures none { IfNone result ((k : ℕ) (s : Shown) → ¬ At shown.now k s) }
+{
+    for number in 0..shown.len() {
+        if let Some(it) = shown[number] {
+            return Some(it);
+        }
+    }
+    None
+}
+
+/// What a claim takes from what four labels show: of those with this configuration, or where none has it of those with
+/// the configuration of the lowest label that shows something. `None` where none shows anything.
+pub(crate) fn labeled_of(shown: &[Option<Shown>], digest: &[u8; 32]) -> Option<Labeled>
+    requires four { length shown.now ≡ 4 }
+    ensures some { IfSome result (IsLabeledOf shown.now digest.now) }
+    ensures none { IfNone result ((k : ℕ) (s : Shown) → ¬ At shown.now k s) }
+{
+    match summary(shown, digest) {
+        Some(labeled) => Some(labeled),
+        None => {
+            let other = first_shown(shown)?;
+            summary(shown, &other.config_digest)
+        }
+    }
 }

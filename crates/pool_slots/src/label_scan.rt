@@ -7,7 +7,7 @@ ghost use Rattle.pool_slots.specs.Labels.{IsValid, Keeps};
 ghost use Rattle.pool_slots.specs.Reads.{IsFaultOf, OnlyReads};
 ghost use Rattle.pool_slots.specs.Slots.{HaveLabels, InUse, is_disk};
 
-use crate::label_choice::summary;
+use crate::label_choice::labeled_of;
 use crate::labeled::{Labeled, Shown};
 use crate::refusal::Refusal;
 use model_disk::{Disk, DiskArray};
@@ -74,8 +74,8 @@ fn read_four<D: Disk + Drop>(
     Ok(all)
 }
 
-/// Reads the four labels of a disk, and answers what a claim takes from them. One whose labels don't show
-/// the configuration ends it.
+/// Reads the four labels of a disk, and answers what a claim takes from them. One whose labels show nothing
+/// ends it.
 fn read_labeled<D: Disk + Drop>(
     alloc: Global,
     disks: &mut DiskArray<D>,
@@ -88,7 +88,7 @@ fn read_labeled<D: Disk + Drop>(
     ensures reads { ReadsLabeled digest.now disks.old disks.new which result }
 {
     let shown = read_four(alloc, disks, which)?;
-    match summary(&shown, digest) {
+    match labeled_of(&shown, digest) {
         Some(labeled) => Ok(labeled),
         None => Err(Refusal::NoLabel),
     }

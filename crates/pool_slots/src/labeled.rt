@@ -12,10 +12,20 @@ pub(crate) struct Shown {
 pub(crate) struct Labeled {
     /// The greatest claim that they show.
     pub claim: u64,
-    /// The label that is written anew: the latest of those with the wanted configuration.
+    /// The configuration of the label that is written anew: the wanted one if some label has it, else that of the lowest
+    /// label which shows something.
+    pub config_digest: [u8; 32],
+    /// That label: the latest of those with this configuration.
     pub source: u64,
     /// The disk's claim label: the one that is written before any slot.
     pub first: u64,
+}
+
+/// A label with the wanted configuration, which disks take over whose own labels don't have it.
+#[derive(Clone, Copy)]
+pub(crate) struct Donor {
+    pub disk: usize,
+    pub label: u64,
 }
 
 /// Which labels of a disk are written: one, all but one, or one half, which is 0 and 2, or 1 and 3.

@@ -2,7 +2,7 @@
 ghost use Rattle.std.specs.Prelude.{◌≡◌, ◌<◌, length, IfErr, IfOk, OnOk};
 ghost use Rattle.pool_slots.specs.Configs.{OpenConfigures};
 ghost use Rattle.pool_slots.specs.Failures.{IsFailure};
-ghost use Rattle.pool_slots.specs.Labels.{AreClaimed, IsClaimWrite};
+ghost use Rattle.pool_slots.specs.Labels.{AreClaimed, AreSlotted, IsClaimWrite};
 ghost use Rattle.pool_slots.specs.OpenRefusals.{OpenRefuses};
 ghost use Rattle.pool_slots.specs.Opens.{OpenGives, OpenKeeps, OpenMakes, OpenMarks, OpenTakes};
 ghost use Rattle.pool_slots.specs.Relabels.{OpenMarksFirst, OpenRelabels, OpenRewrites};
@@ -22,10 +22,12 @@ use uberblock_ring::Uberblock;
 ///
 /// Four phases are written, each flushed on all disks in use before the next begins: each disk's claim
 /// label, the claimed uberblock in the half of each disk's labels in which its own highest one was not
-/// read, the same in the other half, and the disk's other three labels. The claim label is the lowest one
+/// read (labels 0 and 2 of a disk that has none), the same in the other half, and the disk's other three
+/// labels. The claim label is the lowest one
 /// that shows nothing; else the lowest without which the other three show the same configurations and the
 /// greatest claim; else the lowest of those with the least claim. All four are written alike: as the
 /// latest label of the disk with the configuration of the taken uberblock, with the claim and the group.
+/// A disk that has none with it takes over one of another disk, with its own guid and that of its vdev.
 ///
 /// The first write or flush that fails ends it.
 pub fn claim<D: Disk + Drop>(
@@ -44,10 +46,13 @@ pub fn claim<D: Disk + Drop>(
     ensures opened { OnOk result (OfSurveyed out.now survey.now disks.old
         (λ rewind first. OpenGives out.now rewind first survey.now.claimed disks.new)) }
 
+    // It stands in its slot in all four labels of each.
+    ensures slotted { OnOk result (AreSlotted out.now disks.new survey.now.claimed) }
+
     // Then each of their labels shows its claim.
     ensures labeled { OnOk result (AreClaimed out.now disks.new survey.now.claimed) }
 
-    // They are as the latest label of the disk with the configuration that is taken: of the same guid, name, configuration.
+    // They are as the latest label of the disk with the configuration that is taken, or one of another disk with the disk's own guids.
     ensures relabeled { OnOk result (OfSurveyed out.now survey.now disks.old
         (λ rewind first. OpenRelabels out.now first survey.now.claimed disks.new)) }
 
@@ -71,7 +76,7 @@ pub fn claim<D: Disk + Drop>(
     ensures labels_any_moment { OfSurveyed out.now survey.now disks.old
         (λ rewind first. OpenMarks out.now rewind first disks.new) }
 
-    // And on each disk some label shows the configuration that is taken, where no disk showed four different ones before.
+    // And on each disk that showed it some label shows the configuration that is taken, where no disk showed four different ones before.
     ensures configured_any_moment { OfSurveyed out.now survey.now disks.old
         (λ rewind first. OpenConfigures out.now rewind first disks.new) }
 
@@ -89,13 +94,16 @@ pub fn claim<D: Disk + Drop>(
 ///
 /// Four phases are written, each flushed on all disks in use before the next begins: each disk's claim
 /// label, the claimed uberblock in the half of each disk's labels in which its own highest one was not
-/// read, the same in the other half, and the disk's other three labels. The claim label is the lowest one
+/// read (labels 0 and 2 of a disk that has none), the same in the other half, and the disk's other three
+/// labels. The claim label is the lowest one
 /// that shows nothing; else the lowest without which the other three show the same configurations and the
 /// greatest claim; else the lowest of those with the least claim. All four are written alike: as the
 /// latest label of the disk with the configuration of the taken uberblock, with the claim and the group.
+/// A disk that has none with it takes over one of another disk, with its own guid and that of its vdev.
 ///
-/// `NoUberblock` where none is so many groups less, or a disk has none at all; `NoLabel` where a disk has
-/// no label with the taken uberblock's configuration; `UsedUp` where the last claim that there is was taken.
+/// `NoUberblock` where no disk has one, or none has one so many groups less: a disk without one is claimed like the
+/// others. `NoLabel` where no disk has a label with the taken uberblock's configuration, or a disk has no label at all;
+/// `UsedUp` where the last claim that there is was taken.
 pub fn open<D: Disk + Drop>(
     alloc: Global,
     disks: &mut DiskArray<D>,
@@ -112,10 +120,13 @@ pub fn open<D: Disk + Drop>(
     // And it is what they show so many groups below the highest that they show, under the claim after all that they show.
     ensures taken { IfOk result (λ u. OpenTakes out.now rewind disks.old u disks.new) }
 
+    // It stands in its slot in all four labels of each.
+    ensures slotted { IfOk result (λ u. AreSlotted out.now disks.new u) }
+
     // Then each of their labels shows its claim.
     ensures labeled { IfOk result (λ u. AreClaimed out.now disks.new u) }
 
-    // They are as the latest label of the disk with the configuration that is taken: of the same guid, name, configuration.
+    // They are as the latest label of the disk with the configuration that is taken, or one of another disk with the disk's own guids.
     ensures relabeled { IfOk result (λ u. OpenRelabels out.now disks.old u disks.new) }
 
     // Of each disk the claim label is written first, and flushed on all before anything else is written.
@@ -130,11 +141,11 @@ pub fn open<D: Disk + Drop>(
     // And until the claim is begun in a slot their labels show no less than before, and then on each disk one shows the claim.
     ensures labels_any_moment { OpenMarks out.now rewind disks.old disks.new }
 
-    // And on each disk some label shows the configuration that is taken, where no disk showed four different ones before.
+    // And on each disk that showed it some label shows the configuration that is taken, where no disk showed four different ones before.
     ensures configured_any_moment { OpenConfigures out.now rewind disks.old disks.new }
 
     // It is refused for want of memory, or where a call failed on the disk that it names, or where no claim is left, or where none is so many groups less:
-    // there is a highest one. Or where a disk has no label with the configuration of the one that it takes.
+    // there is a highest one. Or where no disk has a label with the configuration of the one that it takes, or a disk has no label.
     ensures refused { IfErr result (OpenRefuses out.now rewind disks.old disks.new) }
 {
     let found = survey(alloc, disks, out, rewind)?;

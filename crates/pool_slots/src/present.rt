@@ -1,7 +1,7 @@
 //! Opens that go on without a disk of which a read failed.
 ghost use Rattle.std.specs.Prelude.{◌≡◌, ◌<◌, length, IfErr, IfOk};
 ghost use Rattle.pool_slots.specs.Configs.{OpenConfigures};
-ghost use Rattle.pool_slots.specs.Labels.{AreClaimed};
+ghost use Rattle.pool_slots.specs.Labels.{AreClaimed, AreSlotted};
 ghost use Rattle.pool_slots.specs.Lives.{StayOut};
 ghost use Rattle.pool_slots.specs.OpenRefusals.{OpenRefuses};
 ghost use Rattle.pool_slots.specs.Opens.{OpenGives, OpenKeeps, OpenMarks, OpenTakes};
@@ -82,6 +82,7 @@ pub fn open_present<D: Disk + Drop>(
     // What is said from here on is what `open` says, of the disks that are in use now.
     ensures opened { IfOk result (λ u. OpenGives out.new.items rewind disks.old u disks.new) }
     ensures taken { IfOk result (λ u. OpenTakes out.new.items rewind disks.old u disks.new) }
+    ensures slotted { IfOk result (λ u. AreSlotted out.new.items disks.new u) }
     ensures labeled { IfOk result (λ u. AreClaimed out.new.items disks.new u) }
     ensures relabeled { IfOk result (λ u. OpenRelabels out.new.items disks.old u disks.new) }
     ensures marked_first { IfOk result (λ u. OpenMarksFirst out.new.items disks.old u disks.new) }

@@ -19,10 +19,10 @@ pub enum Refusal {
     #[error("disk {disk} failed")]
     DiskFault { disk: usize },
     /// Or none that is so many groups below the highest, under its claim.
-    #[error("a disk has no uberblock")]
+    #[error("no disk has an uberblock")]
     NoUberblock,
-    /// With the configuration of the uberblock that is taken.
-    #[error("a disk has no label")]
+    /// With the configuration of the uberblock that is taken; or a disk has no label at all.
+    #[error("no label has the configuration")]
     NoLabel,
     /// The pool was opened 2^62 times.
     #[error("no claim is left")]

@@ -26,12 +26,12 @@ fn found_in(slots: &[Option<Uberblock>]) -> Option<Found>
     })
 }
 
-/// Reads all slots of a disk, and answers the highest uberblock that they show.
+/// Reads all slots of a disk, and answers the highest uberblock that they show, if they show one.
 fn find<D: Disk + Drop>(
     alloc: Global,
     disks: &mut DiskArray<D>,
     which: usize,
-) -> Result<Found, Refusal>
+) -> Result<Option<Found>, Refusal>
     requires which { which < length disks.old.starts }
     requires room { 1048576 ≤ length (bytes_of disks.old.starts which) }
     ensures only { OnlyReads (is_disk which) (IsFaultOf result) disks.old disks.new }
@@ -41,10 +41,7 @@ fn find<D: Disk + Drop>(
         Ok(slots) => slots,
         Err(cause) => return Err(slots_unread(which, cause)),
     };
-    match found_in(&slots) {
-        Some(found) => Ok(found),
-        None => Err(Refusal::NoUberblock),
-    }
+    Ok(found_in(&slots))
 }
 
 /// The same of a disk that is in use; nothing of one that is out.
@@ -63,10 +60,10 @@ fn find_if_used<D: Disk + Drop>(
     if out[which] {
         return Ok(None);
     }
-    Ok(Some(find(alloc, disks, which)?))
+    find(alloc, disks, which)
 }
 
-/// Reads all slots of all disks in use. One that shows no uberblock ends it.
+/// Reads all slots of all disks in use.
 pub(crate) fn find_all<D: Disk + Drop>(
     alloc: Global,
     disks: &mut DiskArray<D>,
@@ -94,7 +91,7 @@ fn uberblocks_of(alloc: Global, all: &[Option<Found>]) -> Result<Vec<Option<Uber
         .collect(alloc)
 }
 
-/// The highest uberblock that was found.
+/// The highest uberblock that was found. `NoUberblock` where none was.
 pub(crate) fn highest_of(alloc: Global, all: &[Option<Found>]) -> Result<Uberblock, Refusal>
     requires fits { AreFitting all.now }
     ensures finds { FindsHighest all.now result }

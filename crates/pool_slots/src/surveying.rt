@@ -16,8 +16,9 @@ use std::alloc::Global;
 /// one of the same claim that is so many groups less, and what a claim of it writes. The disks are only
 /// read, their slots first and then their labels. A read that fails ends it, as `DiskFault`.
 ///
-/// `NoUberblock` where none is so many groups less, or a disk has none at all; `NoLabel` where a disk has
-/// no label with the taken uberblock's configuration; `UsedUp` where the last claim that there is was taken.
+/// `NoUberblock` where no disk has one, or none has one so many groups less: a disk without one is surveyed like the
+/// others. `NoLabel` where no disk has a label with the taken uberblock's configuration, or a disk has no label at all;
+/// `UsedUp` where the last claim that there is was taken.
 pub fn survey<D: Disk + Drop>(
     alloc: Global,
     disks: &mut DiskArray<D>,

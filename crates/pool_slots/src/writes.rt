@@ -6,7 +6,7 @@ ghost use Rattle.model_disk.specs.Runs.{IsSettled, no_write};
 ghost use Rattle.uberblock_ring.specs.Uberblock.{Fits};
 ghost use Rattle.pool_slots.specs.Failures.{IsFailure};
 ghost use Rattle.pool_slots.specs.Slots.{AreSettled, HaveLabels, InUse, MakesOn, is_disk};
-ghost use Rattle.pool_slots.specs.Writes.{AreApart, AreWithin, BlocksStand, HasBlock, HasFound, InTurn, IsBlockWrite, IsSlotWrite, IsWithin, SlotsStand, in_half_of, in_use, on_disk};
+ghost use Rattle.pool_slots.specs.Writes.{AreApart, AreWithin, BlocksStand, HasBlock, InTurn, IsBlockWrite, IsSlotWrite, IsWithin, SlotsStand, first_half_of, in_half_of, in_use, on_disk};
 
 use crate::blocks::BlockWrite;
 use crate::calls::{flush, write_at, write_slot};
@@ -154,51 +154,68 @@ pub(crate) fn write_all<D: Disk + Drop>(
     Ok(())
 }
 
-/// Writes the slot in the half of a disk's labels whose turn it is, if anything was found on it.
+/// The half of a disk's labels that is written first: the one in which its highest uberblock was not
+/// read; labels 0 and 2 where none was found.
+fn first_half(found: Option<Found>) -> u64
+    ensures half { result ≡ first_half_of found }
+    ensures small { result < 2 }
+{
+    match found {
+        Some(found) => found.other_half % 2,
+        None => 0,
+    }
+}
+
+/// Writes the slot in the half of a disk's labels whose turn it is, if the disk is in use.
 fn write_turn_on<D: Disk + Drop>(
     disks: &mut DiskArray<D>,
+    out: &[bool],
     all: &[Option<Found>],
     turn: u64,
     which: usize,
     uberblock: &Uberblock,
 ) -> Result<(), DiskFailure>
     requires which { which < length disks.old.starts }
+    requires out { length out.now ≡ length disks.old.starts }
     requires all { length all.now ≡ length disks.old.starts }
     requires turn { turn < 2 }
     requires labels { HaveLabels disks.old.starts }
     requires fits { Fits uberblock.now }
-    ensures makes { MakesOn (HasFound all.now)
-        (IsSlotWrite disks.old.starts uberblock.now (on_disk which (InTurn all.now turn)))
+    ensures makes { MakesOn (InUse out.now)
+        (IsSlotWrite disks.old.starts uberblock.now (on_disk which (InTurn out.now all.now turn)))
         disks.old disks.new }
     ensures stand { OnOk result (SlotsStand (content disks.new) disks.old.starts uberblock.now
-        (on_disk which (InTurn all.now turn)) (length disks.old.starts)) }
+        (on_disk which (InTurn out.now all.now turn)) (length disks.old.starts)) }
     ensures fault { IfErr result (IsFailure disks.old disks.new) }
 {
-    let Some(found) = all[which] else {
+    if out[which] {
         return Ok(());
-    };
-    write_half(disks, which, (found.other_half % 2 + turn) % 2, uberblock)
+    }
+    write_half(disks, which, (first_half(all[which]) + turn) % 2, uberblock)
 }
 
-/// Writes the slot in the half of the labels whose turn it is, on each disk its own.
+/// Writes the slot in the half of the labels whose turn it is, on each disk in use its own.
 pub(crate) fn write_turn<D: Disk + Drop>(
     disks: &mut DiskArray<D>,
+    out: &[bool],
     all: &[Option<Found>],
     turn: u64,
     uberblock: &Uberblock,
 ) -> Result<(), DiskFailure>
+    requires out { length out.now ≡ length disks.old.starts }
     requires all { length all.now ≡ length disks.old.starts }
     requires turn { turn < 2 }
     requires labels { HaveLabels disks.old.starts }
     requires fits { Fits uberblock.now }
-    ensures makes { MakesOn (HasFound all.now)
-        (IsSlotWrite disks.old.starts uberblock.now (InTurn all.now turn)) disks.old disks.new }
+    ensures makes { MakesOn (InUse out.now)
+        (IsSlotWrite disks.old.starts uberblock.now (InTurn out.now all.now turn))
+        disks.old disks.new }
     ensures stand { OnOk result (SlotsStand (content disks.new) disks.old.starts uberblock.now
-        (InTurn all.now turn) (length disks.old.starts)) }
+        (InTurn out.now all.now turn) (length disks.old.starts)) }
     ensures fault { IfErr result (IsFailure disks.old disks.new) }
 {
     for which in 0..disks.len() {
-        write_turn_on(disks, all, turn, which, uberblock)?;
+        write_turn_on(disks, out, all, turn, which, uberblock)?;
     }
     Ok(())
 }

@@ -11,13 +11,13 @@ use Rattle.model_disk.specs.declared.disk.Disk as disk
 use Rattle.raidz_io.proofs.Written.{slice_get_some}
 use Rattle.block_store.specs.Store.{is_out}
 use Rattle.block_store.specs.declared.shape.VdevShape.{VdevShape}
-use Rattle.vdev_label.specs.Plain.{PlainVdev}
+use Rattle.vdev_label.specs.Plain.{PlainVdev, config_view}
 use Rattle.pool_labels.proofs.Lists.{contains_at}
 use Rattle.pool_members.specs.Arranged.{calls_for, start_for}
 use Rattle.pool_members.specs.declared.arranging.Child.{Child}
-use Rattle.pool_open.specs.Finding.{IsArrayOf}
-use Rattle.pool_open.specs.Opens.{AreInOrder}
-use Rattle.pool_open.specs.Stops.{fresh}
+use Rattle.pool_create.specs.OpenFinding.{IsArrayOf}
+use Rattle.pool_create.specs.Opens.{AreInOrder}
+use Rattle.pool_create.specs.OpenStops.{fresh}
 use Rattle.pool_slots.proofs.Phases.{none_same, settled_later}
 use Rattle.pool_slots.proofs.ReadRuns.{reads_made}
 use Rattle.pool_stops.proofs.Steps.{same_flags}
@@ -115,6 +115,18 @@ module _ {D : Type 0} where
         ap (λ o. unwrap_or o []) (slice_get_past (map g.calls disks) which (omega (arith, past, length-map disks g.calls))))
         (below_or which (length disks));
   }
+
+  -- the configuration that was found is the pool's
+  pub config_found : (g : disk.Ghosts D) (pool : ℕ) (vdevs : List PlainVdev) (images : List (List ℕ)) (shapes : List VdevShape) (out : List Bool) (disks : List D)
+      (order : List ℕ) (rewind : ℕ) (array : Disks) (its_shapes : List VdevShape) (its_out : List Bool) → AreDisksOf pool vdevs shapes out (fresh images)
+      → AreReturned g images disks order → (ordered : AreInOrder g disks rewind array its_shapes its_out)
+      → AnswerTruly ordered.found.old ordered.found.new → config_view ordered.config ≡ vdevs
+  config_found g pool vdevs images shapes out disks order rewind array its_shapes its_out are returned ordered truly =
+      let found = ordered.found in
+      let handed : List (List ℕ) = map g.start disks in
+      let uncalled : AreUncalled handed found.old = uncalled_yet g images disks order found.old returned found.read.before in
+      let laid = own_disks_are_ordered pool vdevs shapes out images handed order found.old found.new rewind found.layout are returned.handed_in uncalled truly found.laid_out in
+      ap config_view found.config_is ∙ laid.2
 
   pub is_arranged : (g : disk.Ghosts D) (pool : ℕ) (vdevs : List PlainVdev) (images : List (List ℕ)) (shapes : List VdevShape) (out : List Bool) (disks : List D)
       (order : List ℕ) (rewind : ℕ) (array : Disks) (its_shapes : List VdevShape) (its_out : List Bool) → AreDisksOf pool vdevs shapes out (fresh images)

@@ -2,9 +2,9 @@
 use Rattle.std.proofs.Common.{ℕ, zero, suc, ◌≡◌, Bool, false, List, [], ◌∷◌, ◌++◌, Option, Contains, sym, ap, subst, ◌∙◌, arith}
 use Rattle.std.specs.List.{AllByRecursion}
 use Rattle.block_store.specs.Store.{is_out}
-use Rattle.pool_commit.specs.Backs.{HasPlan, IsPlanOf}
-use Rattle.pool_commit.specs.Making.{behind_left, flushes_left, slots_left, writes_left}
-use Rattle.pool_commit.specs.declared.kept.Planned.{Planned}
+use Rattle.pool_create.specs.Backs.{HasPlan, IsPlanOf}
+use Rattle.pool_create.specs.CommitMaking.{behind_left, flushes_left, slots_left, writes_left}
+use Rattle.pool_create.specs.CommitPlanned.{Planned}
 use Rattle.disk_set.specs.declared.behind.SlotWrite.{SlotWrite}
 use Rattle.pool_model.specs.Flow.{counted_on}
 use Rattle.pool_model.specs.View.{DueCall}

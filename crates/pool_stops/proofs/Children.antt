@@ -13,9 +13,9 @@ use Rattle.vdev_label.specs.Plain.{PlainVdev}
 use Rattle.pool_labels.specs.Choices.{AreAllMembers, AreEnough, IsMember, absent_count}
 use Rattle.pool_labels.specs.declared.scanned.Scan.{Scan}
 use Rattle.pool_members.specs.declared.arranging.Child.{Child}
-use Rattle.pool_open.specs.Children.{all_children, child_of}
-use Rattle.pool_open.specs.Shapes.{AreShapesOf}
-use Rattle.pool_open.proofs.Once.{FoundList, tail_members}
+use Rattle.pool_create.specs.Children.{all_children, child_of}
+use Rattle.pool_create.specs.Shapes.{AreShapesOf}
+use Rattle.pool_create.proofs.OpenOnce.{FoundList, tail_members}
 use Rattle.pool_stops.specs.Own.{disk_guids}
 
 -- ---- lists

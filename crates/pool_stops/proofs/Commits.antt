@@ -3,21 +3,22 @@ use Rattle.std.proofs.Common.{ℕ, suc, ◌≡◌, inl, inr, ⊎_elim, ◌<◌, 
 use Rattle.std.specs.Prelude.{◌==◌, if◌then◌else◌}
 use Rattle.std.proofs.lemmas.Bool.Decides.{nat_tests}
 use Rattle.uberblock_ring.specs.declared.uberblock.Uberblock.{Uberblock}
-use Rattle.pool_commit.specs.declared.kept.Kept.{Kept}
-use Rattle.pool_commit.specs.declared.kept.Planned.{Planned}
-use Rattle.pool_commit.specs.Backs.{Backs, HasPlan, IsPlanOf}
-use Rattle.pool_commit.specs.Progress.{IsShifted}
-use Rattle.pool_commit.specs.State.{NoneIsOut, group_at}
-use Rattle.pool_commit.specs.Writing.{WritesPlan}
-use Rattle.pool_core.specs.State.{CoreState}
-use Rattle.pool_core.specs.Steps.{Link}
-use Rattle.pool_core.proofs.Phases.{group_low}
+use Rattle.pool_create.specs.Kept.{Kept}
+use Rattle.pool_create.specs.CommitPlanned.{Planned}
+use Rattle.pool_create.specs.Backs.{Backs, HasPlan, IsPlanOf}
+use Rattle.pool_create.specs.Progress.{IsShifted}
+use Rattle.pool_create.specs.CommitState.{NoneIsOut, group_at}
+use Rattle.pool_create.specs.CommitWriting.{WritesPlan}
+use Rattle.pool_create.specs.CoreState.{CoreState}
+use Rattle.pool_create.specs.CoreSteps.{Link}
+use Rattle.pool_create.proofs.CorePhases.{group_low}
 use Rattle.pool_model.specs.Pools.{PlainPool}
 use Rattle.pool_model.specs.View.{Given, View}
 use Rattle.pool_model.specs.declared.step.Reply.{Reply}
 use Rattle.pool_model.specs.declared.step.Step.TheVariants as steps
 use Rattle.pool_slots.specs.Commits.{only_last}
 use Rattle.pool_slots.specs.Possible.{IsInReach}
+use Rattle.pool_create.specs.Words.{stamp_of}
 use Rattle.pool_slots.specs.Slots.{AreSettled}
 use Rattle.volume_rules.specs.NowMoves.{IsMadeBy}
 use Rattle.pool_stops.specs.Phases.{IsInPhase, IsInSlots, StepEnds}
@@ -60,6 +61,8 @@ pub record IsCommitted (old new : CoreState) (v w : View) (plan : Planned) (last
   pub root : plan.after.root ≡ Some plan.uberblock.root
   pub group : plan.uberblock.group ≡ suc v.committed
   pub claim : plan.uberblock.claim ≡ last.claim
+  pub stamped : stamp_of plan.uberblock ≡ new.commit.stamp
+  pub stamp : new.commit.stamp ≡ old.commit.stamp
   pub made : IsMadeBy (suc v.committed) (w.pools (suc v.committed))
   pub stay : (n : ℕ) → n ≤ v.committed → w.pools n ≡ v.pools n
 
@@ -69,6 +72,7 @@ planned_kept old new v w plan last before is = record {
   kept = plan.after;
   is = group_at_last new.commit.kept plan.uberblock.group (is.group ∙ sym is.committed) ∙ ap Some is.shifted.last;
   root = is.root;
+  stamped = is.stamped;
   made = subst (λ n. IsMadeBy n (w.pools n)) (sym is.group) is.made;
 }
 
@@ -80,6 +84,7 @@ last_kept old new v w plan last before runs is of = record {
   is = group_at_before new.commit.kept last.group (ap suc runs.group ∙ sym is.committed) ∙ is.shifted.before
       ∙ sym (group_at_last old.commit.kept last.group (runs.group ∙ sym is.was)) ∙ of.is;
   root = of.root;
+  stamped = of.stamped ∙ sym is.stamp;
   made = subst (λ (p : PlainPool). IsMadeBy last.group p) (sym (is.stay last.group (omega (arith, runs.group)))) of.made;
 }
 
@@ -91,6 +96,7 @@ earlier_kept old new v w plan last before u runs is number of = record {
   is = group_at_earliest new.commit.kept u.group (ap suc number ∙ sym is.committed) ∙ is.shifted.earliest
       ∙ sym (group_at_before old.commit.kept u.group (number ∙ sym is.was)) ∙ of.is;
   root = of.root;
+  stamped = of.stamped ∙ sym is.stamp;
   made = subst (λ (p : PlainPool). IsMadeBy u.group p) (sym (is.stay u.group (omega (arith, number)))) of.made;
 }
 
@@ -113,8 +119,9 @@ now_kept old new v w plan last before u runs is reach = ⊎_elim
 -- ---- the step
 
 is_committed : (old new : CoreState) (v w : View) (given : Given) (reply : Reply) (plan : Planned) (last : Uberblock) (before : List Uberblock) → IsRunning old v last before
-    → Link old v steps.Device given reply new w → old.commit.planned ≡ Some plan → IsShifted old.commit.kept plan.after new.commit.kept → IsCommitted old new v w plan last before
-is_committed old new v w given reply plan last before runs link is shifted =
+    → Link old v steps.Device given reply new w → old.commit.planned ≡ Some plan → IsShifted old.commit.kept plan.after new.commit.kept → new.commit.stamp ≡ old.commit.stamp
+    → IsCommitted old new v w plan last before
+is_committed old new v w given reply plan last before runs link is shifted stamp =
     let backs : Backs old.commit v = runs.represents.backs in
     let has : HasPlan old.commit backs.blocks.planned plan v = subst (λ (o : Option Planned). IsPlanOf old.commit backs.blocks.planned o v) is backs.blocks.plan in
     let low = group_low old.intake v runs.represents.follows in
@@ -129,6 +136,8 @@ is_committed old new v w given reply plan last before runs link is shifted =
       root = has.uberblock.is_root ∙ ap (λ (u : Uberblock). Some u.root) (sym has.uberblock.is);
       group = its_group old v plan last before runs is;
       claim = (good old v plan last before runs is).next.0;
+      stamped = ap stamp_of has.uberblock.is ∙ sym stamp;
+      stamp = stamp;
       made = subst (λ n. IsMadeBy n (w.pools n)) now link.represents.follows.made;
       stay = λ n below. pools_stay v given steps.Device reply w runs.represents.follows.sound link.is_step n (omega (arith, below, now)) below;
     }
@@ -137,7 +146,7 @@ pub commits : (old new : CoreState) (v w : View) (given : Given) (reply : Reply)
     → IsRunning old v last before → Link old v steps.Device given reply new w → WritesPlan old.commit new.commit → NoneIsOut new.commit → old.commit.planned ≡ Some plan
     → new.commit.planned ≡ None → IsShifted old.commit.kept plan.after new.commit.kept → StepsOn old v new w last before
 commits old new v w given reply plan last before laws runs link writes none is gone shifted =
-    let so : IsCommitted old new v w plan last before = is_committed old new v w given reply plan last before runs link is shifted in
+    let so : IsCommitted old new v w plan last before = is_committed old new v w given reply plan last before runs link is shifted writes.stamp in
     let starts = (writes.makes plan is).starts in
     let out : new.commit.store.out ≡ old.commit.store.out = same_flags old.commit.store.out new.commit.store.out writes.out.count runs.whole.none none in
     let whole : IsWhole new.commit = whole_still old.commit new.commit runs.whole none writes.out.count starts writes.shapes in

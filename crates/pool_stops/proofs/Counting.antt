@@ -16,7 +16,7 @@ use Rattle.block_store.specs.Spaces.{VdevSpace}
 use Rattle.block_store.specs.declared.shape.VdevShape.{VdevShape}
 use Rattle.block_store.proofs.Sizes.{asize_some}
 use Rattle.raidz_io.proofs.Pigeons.{AreDistinct, distinct_fit}
-use Rattle.pool_open.specs.Words.{most_blocks, sectors_in}
+use Rattle.pool_create.specs.Words.{most_blocks, sectors_in}
 use Rattle.pool_stops.specs.Whole.{AreCopiesApart, LieApart}
 
 -- ---- sectors of a pool, one vdev's behind the other's

@@ -4,14 +4,14 @@ use Rattle.model_disk.specs.Joint.{Disks, bytes_of, content}
 use Rattle.block_store.specs.Opened.{MayBeOpened}
 use Rattle.block_store.specs.Store.{is_out}
 use Rattle.uberblock_ring.specs.declared.uberblock.Uberblock.{Uberblock}
-use Rattle.pool_commit.specs.declared.kept.Planned.{Planned}
-use Rattle.pool_commit.specs.Backs.{Backs}
-use Rattle.pool_commit.specs.State.{State}
+use Rattle.pool_create.specs.CommitPlanned.{Planned}
+use Rattle.pool_create.specs.Backs.{Backs}
+use Rattle.pool_create.specs.CommitState.{State}
 use Rattle.pool_create.specs.Creating.{IsShownAlone}
 use Rattle.pool_create.specs.Planning.{nobody, none_out}
 use Rattle.pool_model.specs.Pools.{no_volumes}
 use Rattle.pool_model.specs.View.{View, opened_as}
-use Rattle.pool_open.specs.Words.{vdevs_in}
+use Rattle.pool_create.specs.Words.{vdevs_in}
 use Rattle.pool_slots.specs.Commits.{AreAt, only_last}
 use Rattle.pool_slots.specs.PhaseLaws.{BlocksBegin}
 use Rattle.pool_slots.specs.Phases.{AreInBlocks}
@@ -89,6 +89,7 @@ created_pools_run begin old pool config u core is known honest some few =
         kept = s.kept.last;
         is = group_at_last s.kept u.group (is.first.group_is ∙ sym backs.committed);
         root = is.root;
+        stamped = sym is.stamped;
         made = subst (λ n. IsMadeBy n no_volumes) (sym is.first.group_is) represents.follows.made;
       });
       stand = subst (λ (o : Option Planned). StandAt s o u []) (sym unplanned) (record { blocks = phase; settled = settled });

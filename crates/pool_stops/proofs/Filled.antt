@@ -24,7 +24,7 @@ use Rattle.block_store.specs.Uses.{LiesOn}
 use Rattle.block_store.specs.declared.shape.VdevShape.{VdevShape}
 use Rattle.block_store.proofs.Taking.{ends_before, found_too}
 use Rattle.block_store.specs.Accounts.{SectorAt}
-use Rattle.pool_commit.specs.Space.{IsFor}
+use Rattle.pool_create.specs.Space.{IsFor}
 use Rattle.pool_stops.specs.Filled.{BlocksAreFilled, FilledBytesAreForBlocks, FreePlacesAreUnfilled, is_filled, is_filled_sector, is_for_blocks, is_in_vdev, is_taken, is_taken_in, sector_at}
 
 -- ---- tests

@@ -23,9 +23,9 @@ use Rattle.pool_labels.specs.declared.scanned.Scan.{Scan}
 use Rattle.pool_labels.proofs.Lists.{all_at, contains_at}
 use Rattle.pool_members.specs.Arranged.{start_for}
 use Rattle.pool_members.specs.declared.arranging.Child.{Child}
-use Rattle.pool_open.specs.Children.{all_children, child_of}
-use Rattle.pool_open.specs.Shapes.{AreShapesOf, IsShapeOf}
-use Rattle.pool_open.proofs.Once.{FoundList, tail_members}
+use Rattle.pool_create.specs.Children.{all_children, child_of}
+use Rattle.pool_create.specs.Shapes.{AreShapesOf, IsShapeOf}
+use Rattle.pool_create.proofs.OpenOnce.{FoundList, tail_members}
 use Rattle.pool_slots.proofs.ReadRuns.{reads_made}
 use Rattle.pool_stops.specs.Found.{FoundDisksMayBeOpened}
 use Rattle.pool_stops.proofs.Scanned.{in_part}

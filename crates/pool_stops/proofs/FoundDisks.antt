@@ -22,10 +22,10 @@ use Rattle.pool_labels.specs.declared.scanned.Reading.TheVariants.{Valid, Bad, U
 use Rattle.pool_labels.specs.declared.scanned.Scan.{Scan}
 use Rattle.pool_labels.specs.declared.scanned.ScannedLabel.{ScannedLabel}
 use Rattle.pool_members.specs.declared.arranging.Child.{Child}
-use Rattle.pool_open.specs.Children.{all_children}
-use Rattle.pool_open.specs.Shapes.{AreShapesOf}
-use Rattle.pool_open.specs.Stops.{fresh}
-use Rattle.pool_open.proofs.Once.{FoundList}
+use Rattle.pool_create.specs.Children.{all_children}
+use Rattle.pool_create.specs.Shapes.{AreShapesOf}
+use Rattle.pool_create.specs.OpenStops.{fresh}
+use Rattle.pool_create.proofs.OpenOnce.{FoundList}
 use Rattle.pool_slots.specs.Configs.{of_config as of_plain_config}
 use Rattle.pool_slots.specs.Opens.{IsHighestShown}
 use Rattle.pool_slots.specs.Slots.{InUse}
@@ -296,4 +296,5 @@ own_disks_are_ordered pool vdevs shapes out images handed order old new rewind l
       subst (λ (them : List Child). AreChildren order them) (sym children)
           (ordered_as pool vdevs shapes out images handed order old new laid.scan laid.choice.members.items it members),
       same_shapes vdevs 0 layout.shapes.items shapes (subst (λ vs. AreShapesOf vs 0 layout.shapes.items) same laid.laid_out.shapes) are.shapes_are,
+      laid.laid_out.config ∙ same,
     )

@@ -17,13 +17,13 @@ use Rattle.block_store.proofs.Taking.{found_too, place_for_too}
 use Rattle.block_store.proofs.TakenIn.{Picks, all_spare, into_view, lies_by, out_of_view, picks_filled, picks_planned, viewed, viewed_all, viewed_shapes}
 use Rattle.meta_objset.specs.declared.space_maps.MetaslabPlace.{MetaslabPlace}
 use Rattle.metaslab.specs.Space.{Space}
-use Rattle.metaslab_group.specs.Spaces.{AreWhollyFree, IsWhollyFree}
+use Rattle.metaslab.specs.Spaces.{AreWhollyFree, IsWhollyFree}
 use Rattle.raidz_io.proofs.Written.{All-at, slice_get_some}
-use Rattle.pool_maps.specs.Loads.{AreLoadedAs, AreSetsOf, IsSameAt}
-use Rattle.pool_maps.specs.Maps.{HasMapPlace}
-use Rattle.pool_maps.specs.declared.reading.FreeMetaslab.{FreeMetaslab}
+use Rattle.pool_create.specs.Loads.{AreLoadedAs, AreSetsOf, IsSameAt}
+use Rattle.pool_create.specs.Maps.{HasMapPlace}
+use Rattle.pool_create.specs.FreeMetaslab.{FreeMetaslab}
 use Rattle.space_map.proofs.RunLemmas.{named}
-use Rattle.pool_open.proofs.Once.{all_from}
+use Rattle.pool_create.proofs.OpenOnce.{all_from}
 use Rattle.pool_stops.specs.Whole.{AreCopiesApart, LieApart}
 use Rattle.pool_stops.proofs.Counting.{copy_lies, copy_of}
 

@@ -5,7 +5,7 @@ use Rattle.model_disk.specs.Contents.{byte_at}
 use Rattle.model_disk.specs.Joint.{Disks, bytes_of, calls_on, content}
 use Rattle.raidz_io.proofs.Written.{slice_get_some}
 use Rattle.pool_labels.proofs.Lists.{at_contains}
-use Rattle.pool_open.specs.Stops.{fresh}
+use Rattle.pool_create.specs.OpenStops.{fresh}
 use Rattle.pool_slots.specs.Opens.{IsKnown}
 use Rattle.pool_stops.specs.Handed.{AreHandedIn, AreUncalled}
 

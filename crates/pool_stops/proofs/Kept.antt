@@ -18,20 +18,28 @@ use Rattle.block_store.specs.Spaces.{VdevSpace}
 use Rattle.block_store.specs.Store.{Store, is_out, outs, outs_from}
 use Rattle.block_store.proofs.Planning.{arrived, is_among, placed_lies, some_or_none, stored_by}
 use Rattle.block_store.proofs.Sectors.{lie_in_sectors}
-use Rattle.dataset_snapshots.specs.Mapped.{SpellsWithMaps}
-use Rattle.dataset_snapshots.specs.Pools.{SpellsPool}
-use Rattle.dataset_snapshots.specs.Reach.{reach_of}
+use Rattle.pool_create.specs.Mapped.{SpellsWithMaps}
+use Rattle.pool_create.specs.Pools.{SpellsPool}
+use Rattle.pool_create.specs.Reach.{reach_of}
 use Rattle.uberblock_ring.specs.declared.uberblock.Uberblock.{Uberblock}
-use Rattle.pool_commit.specs.declared.kept.KeptGroup.{KeptGroup}
-use Rattle.pool_commit.specs.declared.kept.Planned.{Planned}
-use Rattle.pool_commit.specs.Backs.{Backs, HasMaps, HasPlan, IsPlanOf, IsReachOfPlan, KeptHasMaps, PlansReach, SpellsKept, pool_after}
-use Rattle.pool_commit.specs.State.{NoneIsOut, State, group_at}
-use Rattle.pool_commit.proofs.Mapping.{its_maps_over}
+use Rattle.pool_create.specs.KeptGroup.{KeptGroup}
+use Rattle.pool_create.specs.CommitPlanned.{Planned}
+use Rattle.pool_create.specs.Backs.{Backs, HasMaps, HasPlan, IsPlanOf, IsReachOfPlan, KeptHasMaps, PlansReach, SpellsGroup, SpellsKept, pool_after}
+use Rattle.pool_create.specs.Kept.{Kept}
+use Rattle.pool_create.specs.Stamp.{Stamp}
+use Rattle.pool_create.specs.Directories.{SpellsBy}
+use Rattle.pool_create.specs.Reopened.{IsConfiguredUnder}
+use Rattle.pool_create.specs.Slots.{IsStampOf}
+use Rattle.vdev_label.specs.Plain.{config_view}
+use Rattle.vdev_label.specs.declared.label.Config.{Config}
+use Rattle.std.proofs.lemmas.Bool.Decides.{nat_tests}
+use Rattle.pool_create.specs.CommitState.{NoneIsOut, State, group_at}
+use Rattle.pool_create.proofs.CommitMapping.{its_maps_over}
 use Rattle.pool_model.specs.Pools.{PlainPool}
 use Rattle.pool_model.specs.View.{View, is_kept}
-use Rattle.pool_open.specs.Held.{HoldOver}
-use Rattle.pool_open.specs.Trees.{IsTreeOf}
-use Rattle.pool_open.proofs.Holding.{alike_stores_hold_alike}
+use Rattle.pool_create.specs.Held.{HoldOver}
+use Rattle.pool_create.specs.Trees.{IsConfiguredFor, IsTreeOf}
+use Rattle.pool_create.proofs.OpenHolding.{alike_stores_hold_alike}
 use Rattle.pool_slots.specs.Possible.{TreeStands}
 use Rattle.volume_rules.specs.NowMoves.{IsMadeBy}
 use Rattle.volume_rules.specs.GoodChanges.{MakesGoodVolumes}
@@ -88,6 +96,25 @@ kept_with_maps spaces stored group root found kept pool true is root_is spells h
     root_with_maps spaces stored group root kept.root pool root_is (subst (λ (o : Option KeptGroup). KeptHasMaps spaces stored group o (Some pool)) is has)
 kept_with_maps spaces stored group root found kept pool false is root_is spells has = absurd (subst (λ (o : Option KeptGroup). SpellsKept stored group o None) is spells)
 
+-- its root has the configuration that uberblocks of this stamp name
+configured_after : (stored : Contents) (group : ℕ) (kept : KeptGroup) (root : Block) (pool : PlainPool) (stamp : Stamp) → kept.root ≡ Some root → SpellsGroup stored group kept pool
+    → IsStampOf (config_view kept.config.value) stamp.claim stamp → IsConfiguredUnder stamp stored group root pool
+configured_after stored group kept root pool stamp is spells stamped =
+    let by : SpellsBy stored group (Some root) pool kept.directory.value (config_view kept.config.value) =
+    subst (λ (o : Option Block). SpellsBy stored group o pool kept.directory.value (config_view kept.config.value)) is spells.directory in
+    let (its, has, alike) = by.2 in
+    (by.0, its, has, record { claim_is = refl; guids = stamped.guids ∙ sym alike.guids; digest = stamped.digest ∙ sym alike.digest })
+
+configured_kept : (stored : Contents) (group : ℕ) (root : Block) (found : Option KeptGroup) (kept : KeptGroup) (pool : PlainPool) (here : Bool) (stamp : Stamp) → found ≡ Some kept
+    → kept.root ≡ Some root → SpellsKept stored group found (if here then Some pool else None) → IsStampOf (config_view kept.config.value) stamp.claim stamp
+    → IsConfiguredUnder stamp stored group root pool
+configured_kept stored group root found kept pool true stamp is root_is spells stamped =
+    configured_after stored group kept root pool stamp root_is (subst (λ (o : Option KeptGroup). SpellsKept stored group o (Some pool)) is spells) stamped
+configured_kept stored group root found kept pool false stamp is root_is spells stamped = absurd (subst (λ (o : Option KeptGroup). SpellsKept stored group o None) is spells)
+
+last_at : (kept : Kept) → group_at kept kept.committed ≡ Some kept.last
+last_at kept = grind (arith, nat_tests)
+
 -- all that is filled is the tree of each kept group
 pub kept_tree : (s : State) (v : View) (u : Uberblock) → Backs s v → IsWhole s → IsOfKept s v u
     → WholeTreeOf (filled_trees s.store.spaces s.store.disks) s.store.disks.starts (shapes_of s.store.spaces) s.store.out u (v.pools u.group)
@@ -105,6 +132,9 @@ kept_tree s v u backs whole of =
       stored = stored;
       spells = mapped.0;
       mapped = mapped.1;
+      configured = subst (λ (stamp : Stamp). IsConfiguredUnder stamp stored u.group u.root (v.pools u.group)) (sym of.stamped)
+          (configured_kept stored u.group u.root (group_at s.kept u.group) of.kept (v.pools u.group) (is_kept v u.group) s.stamp of.is of.root (backs.blocks.kept u.group)
+          (backs.stamped u.group of.kept of.is));
       made = of.made;
       held = λ disks same tree.
           hold_over s.store disks stored none stores.held.blocks stores.held.places
@@ -136,6 +166,7 @@ kept_tree_too s u pool it = record {
     stored = it.tree.stored;
     spells = it.tree.spells;
     mapped = it.tree.mapped;
+    configured = it.tree.configured;
     made = it.tree.made;
     held = λ disks same stands. it.tree.held disks same (more_stand s disks u.root stands);
   };
@@ -211,6 +242,9 @@ plan_tree s v plan backs whole is written made good =
       stored = planned;
       spells = mapped.0;
       mapped = mapped.1;
+      configured = subst (λ (u : Uberblock). IsConfiguredFor u planned (pool_after v)) (sym has.uberblock.is)
+          (configured_after planned (suc v.committed) plan.after has.uberblock.root (pool_after v) s.stamp has.uberblock.is_root has.spells
+          (subst (λ (c : Config). IsStampOf (config_view c) s.stamp.claim s.stamp) (sym has.config) (backs.stamped s.kept.committed s.kept.last (last_at s.kept))));
       made = subst (λ (u : Uberblock). IsMadeBy u.group (pool_after v)) (sym has.uberblock.is)
           (made_by_applied v.committed (v.pools v.committed) (v.ledger (suc v.committed)) made good);
       held = λ disks same tree.

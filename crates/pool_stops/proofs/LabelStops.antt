@@ -5,21 +5,21 @@ use Rattle.std.proofs.lemmas.Option.{slice_get-map}
 use Rattle.std.specs.Prelude.{map, option_map}
 use Rattle.model_disk.specs.Joint.{Disks, JointCall, bytes_of, content}
 use Rattle.model_disk.specs.Runs.{EachSince, Makes, no_write}
-use Rattle.model_disk.proofs.RunLemmas.{each_of_run}
+use Rattle.model_disk.proofs.RunLemmas.{each_of_run, each_weaker}
 use Rattle.raidz_io.proofs.Written.{slice_get_some}
 use Rattle.uberblock_ring.specs.Ranking.{IsRewound, RanksUpTo}
 use Rattle.uberblock_ring.specs.declared.uberblock.Uberblock.{Uberblock}
 use Rattle.uberblock_ring.proofs.Ranks.{ranks_through}
-use Rattle.vdev_label.specs.Plain.{config_view}
+use Rattle.vdev_label.specs.Plain.{PlainLabel, config_view}
 use Rattle.vdev_label.specs.Room.{relabeled}
 use Rattle.vdev_label.specs.declared.label.State.TheVariants.{Active}
-use Rattle.pool_commit.specs.State.{State}
-use Rattle.pool_commit.specs.declared.kept.Planned.{Planned}
-use Rattle.pool_core.specs.State.{disks_of}
+use Rattle.pool_create.specs.CommitState.{State}
+use Rattle.pool_create.specs.CommitPlanned.{Planned}
+use Rattle.pool_create.specs.CoreState.{disks_of}
 use Rattle.pool_create.specs.Planning.{nobody}
 use Rattle.pool_format.specs.Labels.{children_of, label_of}
 use Rattle.pool_slots.specs.Commits.{AreAt}
-use Rattle.pool_slots.specs.Configs.{LeavesConfigured, of_config}
+use Rattle.pool_slots.specs.Configs.{LeavesConfigured, LeavesConfiguredOn, ShowsConfig, of_config}
 use Rattle.pool_slots.specs.Labels.{IsShownAs}
 use Rattle.pool_slots.specs.Opens.{CanOpen, IsHighestShown, IsRead}
 use Rattle.pool_slots.specs.Possible.{IsInReach, IsPossible, Possible, Trees}
@@ -99,34 +99,41 @@ not_far last highest taken rewind few (inr above) rewound (inl far) = omega (ari
 not_far last highest taken rewind few (inr above) rewound (inr far) = omega (arith, few, above.1, rewound.1, far.1)
 
 pub opens_stay_configured : OpensStayConfigured
-opens_stay_configured trees old new out rewind p digest few can same four kept honest leaves = ⊎_elim
+opens_stay_configured trees old new out rewind p digest few can same four showing kept honest leaves = ⊎_elim
     (λ none. still_left out digest old new none leaves)
     (λ (u, taken, each).
     let reached : IsInReach p taken.taken = ⊎_elim
     (λ far. absurd (not_far p.last taken.highest taken.taken rewind few (ranks_above trees out old p taken.highest can taken.top) taken.rewound far))
     (λ possible. possible.0) (is_allowed trees out old p taken.taken can taken.shown) in
-    subst (λ (d : List ℕ). EachSince (length old.calls) (LeavesConfigured out old.starts d) new.calls)
-    (ap (λ (x : Uberblock). x.config_digest) taken.is ∙ same taken.taken reached) each)
+    let is : u.config_digest ≡ digest = ap (λ (x : Uberblock). x.config_digest) taken.is ∙ same taken.taken reached in
+    let S : List ℕ → ℕ → Type 0 = ShowsConfig out old in
+    each_weaker (LeavesConfiguredOn (S digest) old.starts digest) (LeavesConfigured out old.starts digest) (length old.calls) new.calls
+    (λ earlier left images may which used. left images may which (used, showing which used))
+    (subst (λ (d : List ℕ). EachSince (length old.calls) (LeavesConfiguredOn (S d) old.starts d) new.calls) is each))
     (kept.configures can.known can.settled four honest)
 
 -- ---- pools that were opened
 
 -- the label that is written anew has the configuration of what is claimed
-source_config : (old : Disks) (u : Uberblock) (new : Disks) (which : ℕ) → (it : IsRelabeled old u new which) → of_config u.config_digest it.label
-source_config old u new which it =
+source_config : (out : List Bool) (old : Disks) (u : Uberblock) (new : Disks) (which : ℕ) → (it : IsRelabeled out old u new which) → of_config u.config_digest it.label
+source_config out old u new which it =
+    let C : PlainLabel → Type 0 = of_config u.config_digest in
     let source = it.read.summary.source in
     let size : ℕ = length (bytes_of old.starts which) in
-    let reads = subst (λ o. IsShownAs size (content old which) it.it.source o) source.at (it.read.are.each it.it.source it.source.is_label) in
-    sym (reads.1 it.label it.source).1 ∙ source.config
+    let reads = subst (λ o. IsShownAs size (content old which) it.it.source o) source.at (it.read.are.each it.it.source it.source.shown.is_label) in
+    ⊎_elim
+    (λ kept. subst C (sym kept.1) (sym (reads.1 it.source.own it.source.shown).1 ∙ source.config ∙ kept.0))
+    (λ taken. subst C (sym taken.is) taken.config)
+    it.source.from
 
 pub opened_pools_are_configured : OpenedPoolsAreConfigured
 opened_pools_are_configured trees old shapes out rewind p claimed core is can honest which number used low =
     let flag : InUse is.later which = subst (λ (them : List Bool). InUse them which) is.outs used in
-    let it : IsRelabeled old claimed (disks_of core) which = is.relabels can.known honest which flag in
+    let it : IsRelabeled is.later old claimed (disks_of core) which = is.relabels can.known honest which flag in
     let at : AreAt trees is.later (disks_of core) claimed [] = (is.gives trees p can honest).1 in (
       relabeled it.label claimed.claim claimed.group Active,
       record { shown = it.each number low; clean = λ i below. at.settled which flag _ },
-      source_config old claimed (disks_of core) which it,
+      source_config is.later old claimed (disks_of core) which it,
     )
 
 -- ---- exports

@@ -16,16 +16,16 @@ use Rattle.uberblock_ring.specs.declared.uberblock.Uberblock.{Uberblock}
 use Rattle.vdev_label.specs.Config.{config_bytes}
 use Rattle.vdev_label.specs.Place.{label_at}
 use Rattle.vdev_label.specs.Plain.{PlainLabel}
-use Rattle.pool_commit.specs.Backs.{Backs}
-use Rattle.pool_commit.specs.State.{State}
-use Rattle.pool_commit.specs.Writing.{IsDueSlot, WritesPlan, may_write}
-use Rattle.pool_commit.specs.declared.kept.Planned.{Planned}
+use Rattle.pool_create.specs.Backs.{Backs}
+use Rattle.pool_create.specs.CommitState.{State}
+use Rattle.pool_create.specs.CommitWriting.{IsDueSlot, WritesPlan, may_write}
+use Rattle.pool_create.specs.CommitPlanned.{Planned}
 use Rattle.disk_set.specs.declared.behind.SlotWrite.{SlotWrite}
-use Rattle.pool_core.specs.Moves.{Moves}
+use Rattle.pool_create.specs.Moves.{Moves}
 use Rattle.pool_model.specs.View.{View}
 use Rattle.pool_model.specs.declared.step.Step.{Step}
 use Rattle.pool_model.specs.declared.step.Step.TheVariants.{Hold, Write, Act, Release, Close, Quiesce, Plan, Device, Read, ReadUnder}
-use Rattle.pool_open.specs.Stops.{fresh}
+use Rattle.pool_create.specs.OpenStops.{fresh}
 use Rattle.pool_slots.specs.Labels.{IsLabelShown, area_place, inscribed}
 use Rattle.pool_slots.specs.Possible.{held_by}
 use Rattle.pool_slots.specs.Slots.{InUse, IsSlot, slot_at, spelled}

@@ -18,14 +18,14 @@ use Rattle.meta_objset.specs.SpaceMaps.{maps_kind}
 use Rattle.meta_objset.specs.StaleSpans.{spans_kind}
 use Rattle.object_table.proofs.Losses.{table_lost}
 use Rattle.objset.proofs.Losses.{set_walk_lost}
-use Rattle.dataset_snapshots.specs.Contents.{AreContentsRefused, AreNamesRefused, IsRootUnread}
-use Rattle.dataset_snapshots.specs.Finding.{IsDirectoryRefused}
-use Rattle.dataset_snapshots.specs.Reach.{IsMetaWalkRefused}
-use Rattle.dataset_snapshots.proofs.Losses.{meta_lost}
+use Rattle.pool_create.specs.Contents.{AreContentsRefused, AreNamesRefused, IsRootUnread}
+use Rattle.pool_create.specs.SnapshotsFinding.{IsDirectoryRefused}
+use Rattle.pool_create.specs.Reach.{IsMetaWalkRefused}
+use Rattle.pool_create.proofs.SnapshotsLosses.{meta_lost}
 use Rattle.meta_objset.specs.declared.directory.DirectoryRow.{DirectoryRow}
-use Rattle.pool_maps.specs.Loads.{AreMapsUnread}
-use Rattle.pool_open.specs.Causes.{of_root}
-use Rattle.pool_open.specs.declared.refusal.Refusal.TheVariants.{NoMemory}
+use Rattle.pool_create.specs.Loads.{AreMapsUnread}
+use Rattle.pool_create.specs.OpenCauses.{of_root}
+use Rattle.pool_create.specs.OpenRefusal.TheVariants.{NoMemory}
 use Rattle.space_map_objects.specs.Maps.{IsForLossOf, IsMapRefused, map_kind}
 use Rattle.space_map_objects.specs.declared.refusal.Refusal.{Refusal as RootRefusal}
 use Rattle.space_map_objects.specs.declared.refusal.Refusal.TheVariants.{Unread}

@@ -6,19 +6,19 @@ use Rattle.block_store.specs.Opened.{MayBeOpened}
 use Rattle.block_store.specs.Places.{shapes_of}
 use Rattle.block_store.specs.declared.shape.VdevShape.{VdevShape}
 use Rattle.uberblock_ring.specs.declared.uberblock.Uberblock.{Uberblock}
-use Rattle.pool_commit.specs.Backs.{Backs, HasPlan, IsPlanOf}
-use Rattle.pool_commit.specs.State.{NoneIsOut, State}
-use Rattle.pool_commit.specs.declared.kept.Planned.{Planned}
-use Rattle.pool_core.specs.Moves.{Moves}
-use Rattle.pool_core.specs.Runs.{Chain}
-use Rattle.pool_core.specs.State.{CoreState, disks_of}
-use Rattle.pool_core.specs.Steps.{Link}
+use Rattle.pool_create.specs.Backs.{Backs, HasPlan, IsPlanOf}
+use Rattle.pool_create.specs.CommitState.{NoneIsOut, State}
+use Rattle.pool_create.specs.CommitPlanned.{Planned}
+use Rattle.pool_create.specs.Moves.{Moves}
+use Rattle.pool_create.specs.CoreRuns.{Chain}
+use Rattle.pool_create.specs.CoreState.{CoreState, disks_of}
+use Rattle.pool_create.specs.CoreSteps.{Link}
 use Rattle.pool_model.specs.View.{Given, View}
 use Rattle.pool_model.specs.declared.step.Reply.{Reply}
 use Rattle.pool_model.specs.declared.step.Step.{Step}
 use Rattle.pool_model.specs.declared.step.Step.TheVariants.{Hold, Write, Act, Release, Close, Quiesce, Plan, Device, Read, ReadUnder}
-use Rattle.pool_open.specs.Stops.{fresh}
-use Rattle.pool_open.proofs.Through.{through_made}
+use Rattle.pool_create.specs.OpenStops.{fresh}
+use Rattle.pool_create.proofs.OpenThrough.{through_made}
 use Rattle.pool_slots.specs.Commits.{only_last}
 use Rattle.pool_slots.specs.Configs.{IsConfigured}
 use Rattle.pool_slots.specs.Opens.{CanOpen, IsClaimOf}
@@ -234,8 +234,8 @@ claim_config : (digest : List ℕ) (p : Possible) (rewind : ℕ) (u : Uberblock)
 claim_config digest p rewind u one claim = ap (λ (x : Uberblock). x.config_digest) claim.is ∙ one claim.taken claim.reached
 
 pub opened_pools_run_as : LedDisksOpen → OpenedPoolsRunAs
-opened_pools_run_as law old shapes out rewind p pools claimed core digest one led is all none few honest =
-    let well = law old shapes out rewind p pools claimed core led is all none few honest in
+opened_pools_run_as law old shapes out rewind p pools claimed core digest one led is all none few named honest =
+    let well = law old shapes out rewind p pools claimed core led is all none few named honest in
     let same : claimed.config_digest ≡ digest = claim_config digest p rewind claimed one well.opened.claim in
     let starts : (disks_of core).starts ≡ old.starts = is.calls.claims.makes.starts ∙ (through_made out is.later old is.calls.read is.calls.before).starts in
     let can : CanOpen led.trees is.later old p = subst (λ (flags : List Bool). CanOpen led.trees flags old p) (sym all) led.can in
@@ -262,8 +262,8 @@ stopped_opens_are_of_config p later rewind digest one (inr (u, claim, same)) =
     (λ was. one w was) (reach_behind p u w reach))
 
 pub stopped_opens_show_config : StoppedOpensShowConfig
-stopped_opens_show_config digest old new shapes out rewind p later pools images u which few one led configured four kept honest leaves behind reach used =
-    let left = opens_stay_configured led.trees old new out rewind p digest few led.can one four kept honest configured leaves.calls leaves.moment in
+stopped_opens_show_config digest old new shapes out rewind p later pools images u which few one led configured four showing kept honest leaves behind reach used =
+    let left = opens_stay_configured led.trees old new out rewind p digest few led.can one four showing kept honest configured leaves.calls leaves.moment in
     shows_of images which digest u.config_digest (left images leaves.left which used) (stopped_opens_are_of_config p later rewind digest one behind u reach)
 
 -- ---- exports

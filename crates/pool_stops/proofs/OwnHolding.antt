@@ -5,13 +5,13 @@ use Rattle.model_disk.specs.Joint.{Disks, JointCall, MayLeaveAll, bytes_of, cont
 use Rattle.model_disk.specs.Runs.{EachSince, IsOff, Makes, no_write}
 use Rattle.raidz_io.proofs.Written.{slice_get_some}
 use Rattle.vdev_label.specs.Plain.{PlainVdev}
-use Rattle.pool_commit.specs.Backs.{Backs}
-use Rattle.pool_commit.specs.State.{State}
-use Rattle.pool_commit.specs.Writing.{may_write}
-use Rattle.pool_core.specs.Moves.{Moves}
+use Rattle.pool_create.specs.Backs.{Backs}
+use Rattle.pool_create.specs.CommitState.{State}
+use Rattle.pool_create.specs.CommitWriting.{may_write}
+use Rattle.pool_create.specs.Moves.{Moves}
 use Rattle.pool_model.specs.View.{View}
 use Rattle.pool_model.specs.declared.step.Step.{Step}
-use Rattle.pool_open.specs.Stops.{fresh}
+use Rattle.pool_create.specs.OpenStops.{fresh}
 use Rattle.pool_slots.specs.Labels.{IsLabelShown, area_place}
 use Rattle.pool_stops.specs.Running.{IsWhole}
 use Rattle.pool_stops.proofs.Holding.{get_in_use}

@@ -12,10 +12,10 @@ use Rattle.meta_objset.specs.SpaceMaps.{IsEarlier}
 use Rattle.meta_objset.specs.declared.space_maps.MetaslabMap.{MetaslabMap}
 use Rattle.meta_objset.specs.declared.space_maps.MetaslabPlace.{MetaslabPlace}
 use Rattle.objset.specs.Objects.{Object}
-use Rattle.pool_maps.specs.Loads.{AreApart, AreReadMaps, AreSetsOf, IsReadOf}
-use Rattle.pool_maps.specs.Maps.{HasMapPlace}
-use Rattle.pool_maps.specs.declared.reading.FreeMetaslab.{FreeMetaslab}
-use Rattle.pool_open.proofs.Once.{pairs_front, pairs_tail}
+use Rattle.pool_create.specs.Loads.{AreApart, AreReadMaps, AreSetsOf, IsReadOf}
+use Rattle.pool_create.specs.Maps.{HasMapPlace}
+use Rattle.pool_create.specs.FreeMetaslab.{FreeMetaslab}
+use Rattle.pool_create.proofs.OpenOnce.{pairs_front, pairs_tail}
 use Rattle.pool_stops.specs.Whole.{AreCopiesApart, LieApart}
 
 -- ---- the maps are of metaslabs of the pool, each of another one

@@ -5,24 +5,30 @@ use Rattle.model_disk.specs.declared.disk.Disk as disk
 use Rattle.raidz_io.specs.Reads.{IsHonestSince}
 use Rattle.block_store.specs.declared.shape.VdevShape.{VdevShape}
 use Rattle.uberblock_ring.specs.declared.uberblock.Uberblock.{Uberblock}
-use Rattle.vdev_label.specs.Plain.{PlainVdev}
-use Rattle.pool_core.specs.State.{CoreState, disks_of}
+use Rattle.raidz_io.proofs.Written.{slice_get_some}
+use Rattle.sha2.specs.Sha256.{sha256}
+use Rattle.vdev_label.specs.Config.{config_bytes}
+use Rattle.vdev_label.specs.Plain.{PlainVdev, config_view}
+use Rattle.pool_create.specs.Slots.{IsStampOf}
+use Rattle.pool_create.specs.CoreState.{CoreState, config_of, disks_of}
 use Rattle.pool_model.specs.Pools.{PlainPool}
-use Rattle.pool_open.specs.Causes.{of_labels}
-use Rattle.pool_open.specs.Opening.{IsKeptThrough, IsNotOpenedOver, IsOpenedOver}
+use Rattle.pool_create.specs.OpenCauses.{of_labels}
+use Rattle.pool_create.specs.OpenOpening.{IsKeptThrough, IsNotOpenedOver, IsOpenedOver}
 use Rattle.std.specs.Prelude.{◌^◌}
-use Rattle.pool_open.specs.Opens.{OpenRefuses, refusal_of}
-use Rattle.pool_open.specs.declared.handed_in.NotOpened.{NotOpened}
-use Rattle.pool_open.specs.declared.handed_in.NotOpened.TheVariants.{NotFound, Refused}
-use Rattle.pool_open.specs.Stops.{fresh}
-use Rattle.pool_open.specs.declared.refusal.Refusal.{Refusal}
-use Rattle.pool_open.specs.declared.refusal.Refusal.TheVariants.{NoMemory}
-use Rattle.pool_open.proofs.Retried.{undiminished_opens_claim_once, unfailing_opens_claim_once}
+use Rattle.pool_create.specs.Opens.{OpenRefuses, refusal_of}
+use Rattle.pool_create.specs.NotOpened.{NotOpened}
+use Rattle.pool_create.specs.NotOpened.TheVariants.{NotFound, Refused}
+use Rattle.pool_create.specs.OpenStops.{fresh}
+use Rattle.pool_create.specs.Trees.{NamesConfigOf}
+use Rattle.pool_create.specs.Words.{stamp_of}
+use Rattle.pool_create.specs.OpenRefusal.{Refusal}
+use Rattle.pool_create.specs.OpenRefusal.TheVariants.{NoMemory}
+use Rattle.pool_create.proofs.OpenRetried.{undiminished_opens_claim_once, unfailing_opens_claim_once}
 use Rattle.pool_slots.specs.Commits.{AreOffLabels}
 use Rattle.pool_slots.specs.Configs.{IsConfigured}
 use Rattle.pool_slots.specs.Marks.{IsUsedUp}
 use Rattle.pool_slots.specs.Labels.{IsLabelShown}
-use Rattle.pool_slots.specs.Opens.{IsHighestShown, IsRead, IsReadOn, IsShownOn}
+use Rattle.pool_slots.specs.Opens.{IsHighestShown, IsRead, IsReadOn, IsShownOn, OpenGives}
 use Rattle.pool_slots.specs.Possible.{IsInReach, Leads, Possible}
 use Rattle.pool_stops.specs.OneConfig.{IsOpenedAs, OpenedPoolsRunAs, StoppedOpensAreOfConfig}
 use Rattle.pool_stops.specs.Reopening.{AreByGroup, IsPossibleBehind, LeavesImages}
@@ -31,11 +37,12 @@ use Rattle.pool_stops.specs.WholePools.{StoppedExportsLeadWhole, StoppedOpensLea
 use Rattle.pool_stops.proofs.LabelStops.{is_allowed, not_far, ranks_above}
 use Rattle.pool_stops.proofs.Whole.{WholeTreeOf}
 use Rattle.pool_stops.specs.Found.{ShowHighest}
-use Rattle.pool_stops.specs.Own.{AreDisksOf, IsLabeled, IsOwnDisk}
+use Rattle.pool_stops.specs.Own.{AreDisksOf, IsLabeled, IsOwnDisk, disk_guids}
 use Rattle.pool_stops.specs.OwnReopening.{AreReturned, IsRefusedTruly, LeadToOwnPools, OwnPoolsOpenAgain, StoppedExportsLeadToOwnPools, StoppedOpensLeadToOwnPools, StoppedRunsLeadToOwnPools}
-use Rattle.pool_stops.specs.OwnRunning.{IsOnItsDisks, OpenedPoolsAreOnTheirDisks, RunsStayOnTheirDisks}
+use Rattle.pool_stops.specs.OwnRunning.{AreOfSum, IsOnItsDisks, OpenedPoolsAreOnTheirDisks, RunsStayOnTheirDisks}
 use Rattle.pool_stops.specs.Stopping.{AreLabelsUntorn, LedDisksAreBound, OwnDisksAreNotFour, StoppedExportsLeaveDisks, StoppedOpensAreOfSum, StoppedOpensLeaveDisks, StoppedRunsLeaveDisks}
-use Rattle.pool_stops.proofs.Arranging.{IsArranged, is_arranged, uncalled_yet}
+use Rattle.pool_stops.proofs.Arranging.{IsArranged, config_found, is_arranged, uncalled_yet}
+use Rattle.pool_stops.proofs.Steps.{used_below}
 use Rattle.pool_stops.proofs.FoundDisks.{own_disks_are_found}
 
 -- ---- what such disks show
@@ -174,19 +181,40 @@ unopened_so law images shapes out p pools array its_shapes its_out refusal are l
       truly = truly;
     }))
 
+-- an open of them claims an uberblock that names the configuration of its core, if that is the pool's
+names_own : (pool : ℕ) (vdevs : List PlainVdev) (digest : List ℕ) (images : List (List ℕ)) (shapes : List VdevShape) (out : List Bool) (p : Possible)
+    (pools : Uberblock → PlainPool) (array : Disks) (rewind : ℕ) (claimed : Uberblock) (core : CoreState) → LeadToWholePools array shapes out p pools
+    → AreDisksOf pool vdevs shapes out array → AreOfSum vdevs p → IsHonestSince array (disks_of core) → (is : IsOpenedOver array shapes out rewind claimed core)
+    → is.later ≡ out → config_view (config_of core) ≡ vdevs → NamesConfigOf claimed core
+names_own pool vdevs digest images shapes out p pools array rewind claimed core led are sums honest is all config =
+    let gives = subst (λ (them : List Bool). OpenGives them rewind array claimed (disks_of core)) all is.gives in
+    let claim = (gives led.led.trees p led.led.can honest).0 in
+    let which = led.led.can.some.0 in
+    let used = led.led.can.some.1 in
+    let below = used_below out which used in
+    let guid = slice_get_some (disk_guids vdevs) which (omega (arith, below, are.there.may.flags, are.own.count)) in
+    let shown = led.configured claim.taken claim.reached which used in
+    let same : (shown.label).vdevs ≡ vdevs = (are.own.each which guid.0 guid.1 shown.number shown.label shown.shown).config_is in
+    subst (λ (them : List PlainVdev). IsStampOf them claimed.claim (stamp_of claimed)) (sym config) (record {
+      claim_is = refl;
+      guids = ap (λ (u : Uberblock). u.guid_sum) claim.is ∙ sums claim.taken claim.reached;
+      digest = ap (λ (u : Uberblock). u.config_digest) claim.is ∙ sym shown.config ∙ ap (λ (them : List PlainVdev). sha256 (config_bytes them)) same;
+    })
+
 opened_so : OpenedPoolsRunAs → OpenedPoolsAreOnTheirDisks → (pool : ℕ) (vdevs : List PlainVdev) (digest : List ℕ) (images : List (List ℕ))
     (shapes : List VdevShape) (out : List Bool) (p : Possible) (pools : Uberblock → PlainPool) (array : Disks) (its_shapes : List VdevShape)
     (its_out : List Bool) (rewind : ℕ) (claimed : Uberblock) (core : CoreState) → LeadToOwnPools pool vdevs digest images shapes out p pools
     → IsArranged images shapes out array its_shapes its_out → length images ≤ 2 ^ 64 → IsHonestSince array (disks_of core)
-    → (is : IsOpenedOver array its_shapes its_out rewind claimed core) → is.later ≡ its_out
+    → config_view (config_of core) ≡ vdevs → (is : IsOpenedOver array its_shapes its_out rewind claimed core) → is.later ≡ its_out
     → IsOpenedAs digest p pools shapes out rewind claimed core × IsOnItsDisks pool vdevs core claimed []
-opened_so runs own pool vdevs digest images shapes out p pools array its_shapes its_out rewind claimed core it are few honest =
+opened_so runs own pool vdevs digest images shapes out p pools array its_shapes its_out rewind claimed core it are few honest config =
     let Goal : Type 0 = IsOpenedAs digest p pools shapes out rewind claimed core × IsOnItsDisks pool vdevs core claimed [] in
     let P : List VdevShape × List Bool → Type 0 = λ x. (is : IsOpenedOver array x.0 x.1 rewind claimed core) → is.later ≡ x.1 → Goal in
     let led = lead_so p pools are it.led in
     subst P (λ j. (sym are.shapes_are j, sym are.out_is j))
     (λ is all. (
-      runs array shapes out rewind p pools claimed core digest it.one led.led is all it.are.there.none (omega (arith, few, ap length are.starts)) honest,
+      runs array shapes out rewind p pools claimed core digest it.one led.led is all it.are.there.none (omega (arith, few, ap length are.starts))
+          (names_own pool vdevs digest images shapes out p pools array rewind claimed core led (are_so pool vdevs are it.are) it.sums honest is all config) honest,
       own pool vdevs array shapes out rewind p pools claimed core (are_so pool vdevs are it.are) it.sums led.led is all honest,
     ))
 
@@ -228,6 +256,7 @@ module _ {D : Type 0} where
         let once = undiminished_opens_claim_once is.array is.shapes is.out rewind claimed core is.opened truly.all in
         opened_so runs own pool vdevs digest images shapes out p pools is.array is.shapes is.out rewind claimed core it
         (is_arranged g pool vdevs images shapes out disks order rewind is.array is.shapes is.out it.are returned is.ordered truly.found) few truly.honest
+        (ap config_view is.configured ∙ config_found g pool vdevs images shapes out disks order rewind is.array is.shapes is.out it.are returned is.ordered truly.found)
         once.0 once.1;
     stopped = λ disks order rewind array new its_shapes its_out left few by_group returned ordered truly kept honest leaves untorn.
         stopped_so stop pool vdevs digest images shapes out p pools array new its_shapes its_out rewind left it

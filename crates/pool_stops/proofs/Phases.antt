@@ -17,10 +17,10 @@ use Rattle.uberblock_ring.specs.Slot.{slot_number}
 use Rattle.uberblock_ring.specs.Uberblock.{Fits}
 use Rattle.uberblock_ring.specs.declared.uberblock.Uberblock.{Uberblock}
 use Rattle.block_store.specs.Spaces.{VdevSpace}
-use Rattle.pool_commit.specs.declared.kept.Planned.{Planned}
-use Rattle.pool_commit.specs.Calls.{IsFlushed, IsWrite}
-use Rattle.pool_commit.specs.State.{State}
-use Rattle.pool_commit.specs.Writing.{IsDueSlot, IsDueWrite, may_write}
+use Rattle.pool_create.specs.CommitPlanned.{Planned}
+use Rattle.pool_create.specs.Calls.{IsFlushed, IsWrite}
+use Rattle.pool_create.specs.CommitState.{State}
+use Rattle.pool_create.specs.CommitWriting.{IsDueSlot, IsDueWrite, may_write}
 use Rattle.pool_slots.proofs.Writing.{flush_settles}
 use Rattle.pool_slots.specs.PhaseLaws.{ReadsAndFlushesKeep}
 use Rattle.pool_slots.specs.Phases.{AreInBlocks, AreInSlots}

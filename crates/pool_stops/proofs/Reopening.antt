@@ -9,21 +9,22 @@ use Rattle.block_store.specs.Store.{is_out}
 use Rattle.block_store.specs.declared.shape.VdevShape.{VdevShape}
 use Rattle.block_store.proofs.Reopening.{is_opened}
 use Rattle.uberblock_ring.specs.declared.uberblock.Uberblock.{Uberblock}
-use Rattle.pool_commit.specs.declared.kept.Planned.{Planned}
-use Rattle.pool_commit.specs.Backs.{Backs, HasPlan, IsPlanOf}
-use Rattle.pool_commit.specs.State.{State}
-use Rattle.pool_commit.proofs.Labels.{labels_of_opened_lie}
-use Rattle.pool_commit.proofs.Planning.{in_counted}
-use Rattle.pool_core.specs.State.{disks_of}
+use Rattle.pool_create.specs.CommitPlanned.{Planned}
+use Rattle.pool_create.specs.Backs.{Backs, HasPlan, IsPlanOf}
+use Rattle.pool_create.specs.CommitState.{State}
+use Rattle.pool_create.proofs.CommitLabels.{labels_of_opened_lie}
+use Rattle.pool_create.proofs.CommitPlanning.{in_counted}
+use Rattle.pool_create.specs.CoreState.{disks_of}
+use Rattle.block_store.specs.Blocks.{Contents}
 use Rattle.pool_model.specs.Pools.{PlainPool}
 use Rattle.pool_export.specs.Moments.{IsLeading}
 use Rattle.pool_model.specs.View.{View, Idle, counted, is_syncing, opened_as}
 use Rattle.pool_model.specs.View.{disks_of as disks_in_vdevs}
-use Rattle.pool_open.specs.Stops.{fresh}
-use Rattle.pool_open.specs.Trees.{IsOpenedFor, IsTreeOf, OpensPossible}
-use Rattle.pool_open.specs.Words.{vdevs_in}
-use Rattle.pool_open.proofs.Stops.{stopped_can_be_opened}
-use Rattle.pool_open.proofs.Through.{through_made}
+use Rattle.pool_create.specs.OpenStops.{fresh}
+use Rattle.pool_create.specs.Trees.{IsConfiguredFor, IsOpenedFor, IsTreeOf, OpensPossible}
+use Rattle.pool_create.specs.Words.{vdevs_in}
+use Rattle.pool_create.proofs.OpenStops.{stopped_can_be_opened}
+use Rattle.pool_create.proofs.OpenThrough.{through_made}
 use Rattle.pool_slots.specs.Commits.{AreAt, AreOffLabels, LeadAlways, only_last}
 use Rattle.pool_slots.specs.Opens.{CanOpen, OpenGives, also_begun}
 use Rattle.pool_slots.specs.PhaseLaws.{BlocksBegin, BlocksEnd}
@@ -64,6 +65,7 @@ tree_on trees starts others shapes out u pool sizes tree = record {
   stored = tree.stored;
   spells = tree.spells;
   mapped = tree.mapped;
+  configured = tree.configured;
   made = tree.made;
   held = λ disks same stands. tree.held disks (same ∙ sizes) stands;
 }
@@ -97,6 +99,11 @@ stopped_steps_lead s v new last before images whole stops leaves =
 
 -- ---- stopped opens
 
+-- under another claim it names the same configuration
+configured_under : (taken : Uberblock) (claim : ℕ) (stored : Contents) (pool : PlainPool) → IsConfiguredFor taken stored pool
+    → IsConfiguredFor (record taken { claim = claim }) stored pool
+configured_under taken claim stored pool is = (is.0, is.1, is.2, record { claim_is = refl; guids = is.3.guids; digest = is.3.digest })
+
 -- a claim of an uberblock has its tree
 claimed_tree : (trees : Trees) (starts : List (List ℕ)) (shapes : List VdevShape) (out : List Bool) (taken u : Uberblock) (pool : PlainPool) → u ≡ record taken { claim = u.claim }
     → IsTreeOf trees starts shapes out taken pool → IsTreeOf trees starts shapes out u pool
@@ -105,6 +112,7 @@ claimed_tree trees starts shapes out taken u pool is tree =
       stored = tree.stored;
       spells = tree.spells;
       mapped = tree.mapped;
+      configured = configured_under taken u.claim tree.stored pool tree.configured;
       made = tree.made;
       held = tree.held;
     } in
@@ -201,7 +209,7 @@ pub alone : (u w : Uberblock) → IsInReach (only_last u []) w → w ≡ u
 alone u w reach = ⊎_elim (λ same. same) (λ before. absurd (omega (arith, before.among.1))) (is_last_or_before u [] w reach)
 
 pub led_disks_open : BlocksBegin → LedDisksOpen
-led_disks_open begin old shapes out rewind p pools claimed core led is all none few honest =
+led_disks_open begin old shapes out rewind p pools claimed core led is all none few named honest =
     let out_is : core.commit.store.out ≡ out = is.outs ∙ all in
     let starts : (disks_of core).starts ≡ old.starts = is.calls.claims.makes.starts ∙ (through_made out is.later old is.calls.read is.calls.before).starts in
     let below = used_below out led.can.some.0 led.can.some.1 in
@@ -211,7 +219,7 @@ led_disks_open begin old shapes out rewind p pools claimed core led is all none 
     (omega (arith, few, ap length starts)) (λ disk. ap (λ flags. is_out flags disk) out_is ∙ none disk) (omega (arith, below, is.may.flags, ap length starts)) in
     let possible = subst (λ (them : List Bool). OpensPossible old shapes them rewind claimed core) all is.possible in
     let gives = subst (λ (them : List Bool). OpenGives them rewind old claimed (disks_of core)) all is.gives in
-    let opened : IsOpenedFor p pools shapes out rewind claimed core = possible led.trees p pools led.can led.tree honest in
+    let opened : IsOpenedFor p pools shapes out rewind claimed core = possible led.trees p pools led.can led.tree named honest in
     let at : AreAt led.trees out (disks_of core) claimed [] = (gives led.trees p led.can honest).1 in
     let s : State = core.commit in
     let trees : Trees = filled_trees s.store.spaces s.store.disks in
@@ -235,6 +243,7 @@ led_disks_open begin old shapes out rewind p pools claimed core led is all none 
           kept = s.kept.last;
           is = group_at_last s.kept claimed.group (group ∙ sym backs.committed);
           root = is.root;
+          stamped = sym is.stamped;
           made = subst (λ n. IsMadeBy n (pools opened.claim.taken)) (sym group) opened.represents.follows.made;
         });
         stand = subst (λ (o : Option Planned). StandAt s o claimed []) (sym unplanned) (record {
@@ -259,7 +268,7 @@ runs_outlive stops opens old mid new v between w steps replies step reply last b
       p = stop.p;
       which = stop.which;
       opened = opens (fresh images) (shapes_of s.store.spaces) s.store.out rewind stop.p (pool_of between) claimed core led reopened.opened reopened.all
-          at.runs.whole.none reopened.few reopened.honest;
+          at.runs.whole.none reopened.few reopened.named reopened.honest;
     }
 
 -- ---- exports

@@ -11,20 +11,20 @@ use Rattle.vdev_label.specs.Plain.{PlainLabel, PlainVdev, config_view}
 use Rattle.vdev_label.specs.Room.{relabeled}
 use Rattle.vdev_label.specs.declared.label.Config.{Config}
 use Rattle.vdev_label.specs.declared.label.State.TheVariants.{Active}
-use Rattle.pool_commit.specs.Backs.{Backs, HasPlan, IsPlanOf}
-use Rattle.pool_commit.specs.State.{NoneIsOut, State}
-use Rattle.pool_commit.specs.declared.kept.Planned.{Planned}
-use Rattle.pool_core.specs.Runs.{Chain}
-use Rattle.pool_core.specs.State.{CoreState, disks_of}
-use Rattle.pool_core.specs.Steps.{Link}
-use Rattle.pool_core.specs.Moves.{Moves}
+use Rattle.pool_create.specs.Backs.{Backs, HasPlan, IsPlanOf}
+use Rattle.pool_create.specs.CommitState.{NoneIsOut, State}
+use Rattle.pool_create.specs.CommitPlanned.{Planned}
+use Rattle.pool_create.specs.CoreRuns.{Chain}
+use Rattle.pool_create.specs.CoreState.{CoreState, disks_of}
+use Rattle.pool_create.specs.CoreSteps.{Link}
+use Rattle.pool_create.specs.Moves.{Moves}
 use Rattle.pool_format.specs.Labels.{children_of, children_with, label_of}
 use Rattle.pool_format.specs.declared.labeling.PoolIdentity.{PoolIdentity}
 use Rattle.pool_model.specs.View.{Given, View}
 use Rattle.pool_model.specs.declared.step.Reply.{Reply}
 use Rattle.pool_model.specs.declared.step.Step.{Step}
-use Rattle.pool_open.specs.Shapes.{AreShapesOf}
-use Rattle.pool_open.proofs.Through.{through_made}
+use Rattle.pool_create.specs.Shapes.{AreShapesOf}
+use Rattle.pool_create.proofs.OpenThrough.{through_made}
 use Rattle.pool_slots.specs.Commits.{AreAt}
 use Rattle.pool_slots.specs.Opens.{CanOpen}
 use Rattle.pool_slots.specs.Slots.{InUse}
@@ -37,6 +37,8 @@ use Rattle.pool_stops.proofs.Labels.{same_starts}
 use Rattle.pool_stops.proofs.OneConfigs.{StepsAs, behind_step, same_shapes, same_stamp, steps_as, within_step}
 use Rattle.pool_stops.proofs.Reopening.{alone}
 use Rattle.pool_stops.proofs.Runs.{none_before, none_was_out}
+use Rattle.pool_stops.proofs.Steps.{used_below}
+use Rattle.pool_stops.proofs.StoppedDisks.{label_for_own}
 use Rattle.pool_stops.specs.Own.{IsOwn, disk_guids}
 use Rattle.pool_stops.specs.OwnRunning.{AreOfSum, CreatedPoolsAreOnTheirDisks, HoldOwn, IsOnItsDisks, OpenedPoolsAreOnTheirDisks, RunsStayOnTheirDisks}
 use Rattle.pool_stops.proofs.OwnHolding.{steps_stay_own}
@@ -208,7 +210,9 @@ opened_pools_are_on_their_disks pool vdevs old shapes out rewind p pools claimed
           let below : which < length out = omega (arith, slice_get_within (disk_guids vdevs) which guid named, are.own.count, are.there.may.flags) in
           let used : InUse is.later which = subst (λ (flags : List Bool). InUse flags which) (sym all) (get_in_use out which below (are.there.none which)) in
           let it = is.relabels can.known honest which used in
-          let own = are.own.each which guid named it.it.source it.label it.source in (
+          let flags : (disk : ℕ) → InUse is.later disk → disk < length old.starts =
+          λ disk there. omega (arith, used_below out disk (subst (λ (them : List Bool). InUse them disk) all there), are.there.may.flags) in
+          let own = label_for_own pool vdevs is.later old claimed which guid it.it.source it.source.own it.label flags are.own named it.source.shown it.source.from in (
             relabeled it.label claimed.claim claimed.group Active,
             record { shown = it.each number low; clean = λ i inside. at.settled which used _ },
             record { pool_is = own.pool_is; guid_is = own.guid_is; config_is = own.config_is },

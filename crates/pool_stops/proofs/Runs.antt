@@ -2,13 +2,13 @@
 use Rattle.std.proofs.Common.{◌≡◌, ⊎_elim, Bool, true, false, List, [], ◌∷◌, Option, Some, None, refl, sym, ap, subst, ◌∙◌, true≢false}
 use Rattle.block_store.specs.Store.{is_out}
 use Rattle.uberblock_ring.specs.declared.uberblock.Uberblock.{Uberblock}
-use Rattle.pool_commit.specs.declared.kept.Planned.{Planned}
-use Rattle.pool_commit.specs.State.{NoneIsOut, State}
-use Rattle.pool_commit.specs.Writing.{WritesPlan}
-use Rattle.pool_core.specs.Moves.{Moves}
-use Rattle.pool_core.specs.Runs.{Chain}
-use Rattle.pool_core.specs.State.{CoreState}
-use Rattle.pool_core.specs.Steps.{Link}
+use Rattle.pool_create.specs.CommitPlanned.{Planned}
+use Rattle.pool_create.specs.CommitState.{NoneIsOut, State}
+use Rattle.pool_create.specs.CommitWriting.{WritesPlan}
+use Rattle.pool_create.specs.Moves.{Moves}
+use Rattle.pool_create.specs.CoreRuns.{Chain}
+use Rattle.pool_create.specs.CoreState.{CoreState}
+use Rattle.pool_create.specs.CoreSteps.{Link}
 use Rattle.pool_model.specs.View.{Given, View}
 use Rattle.pool_model.specs.declared.step.Reply.{Reply}
 use Rattle.pool_model.specs.declared.step.Step.{Step}
@@ -46,7 +46,7 @@ steps_on laws old new v w Close given reply last before runs link moves none = s
 steps_on laws old new v w Quiesce given reply last before runs link moves none = stays old new v w Quiesce given reply last before laws runs link moves
 steps_on laws old new v w (Plan t) given reply last before runs link moves none = ⊎_elim
     (λ same. stays old new v w (Plan t) given reply last before laws runs link same)
-    (λ plans. plans_on old new v w (Plan t) given reply last before laws runs link plans) moves
+    (λ plans. plans_on t old new v w (Plan t) given reply last before laws runs link plans) moves
 steps_on laws old new v w Device given reply last before runs link moves none = ⊎_elim
     (λ same. stays old new v w Device given reply last before laws runs link same)
     (λ writes. writes_on old new v w given reply old.commit.planned last before laws runs link writes none refl) moves

@@ -26,8 +26,8 @@ use Rattle.pool_labels.specs.declared.scanned.Scan.{Scan}
 use Rattle.pool_labels.specs.declared.scanned.ScannedLabel.{ScannedLabel}
 use Rattle.pool_labels.proofs.Lists.{all_at, at_contains, contains_at}
 use Rattle.pool_labels.proofs.ScanRuns.{made_failed}
-use Rattle.pool_open.specs.Stops.{fresh}
-use Rattle.pool_open.proofs.Once.{Differ, pairs_append, pairs_back, pairs_cross, pairs_front, pairs_none, pairs_tail, there_later}
+use Rattle.pool_create.specs.OpenStops.{fresh}
+use Rattle.pool_create.proofs.OpenOnce.{Differ, pairs_append, pairs_back, pairs_cross, pairs_front, pairs_none, pairs_tail, there_later}
 use Rattle.pool_slots.specs.Labels.{IsLabelShown, area_place}
 use Rattle.pool_slots.specs.Opens.{IsKnown, IsRead, IsReadOn, IsShownOn}
 use Rattle.pool_stops.proofs.Holding.{get_in_use}

@@ -6,7 +6,7 @@ use Rattle.std.proofs.Math.Nat.{ℕ_set}
 use mathlib.Core.HLevel.{is_prop→PathP}
 use Rattle.raidz_map.specs.declared.geometry.Geometry.{Geometry}
 use Rattle.block_store.specs.declared.shape.VdevShape.{VdevShape}
-use Rattle.pool_open.specs.Shapes.{AreShapesOf, IsShapeOf}
+use Rattle.pool_create.specs.Shapes.{AreShapesOf, IsShapeOf}
 use Rattle.vdev_label.specs.Plain.{PlainVdev}
 
 same_geometry : (a b : Geometry) → a.children ≡ b.children → a.parity ≡ b.parity → a.sector_shift ≡ b.sector_shift → a ≡ b

@@ -13,18 +13,18 @@ use Rattle.block_store.proofs.Taking.{laid_out_too}
 use Rattle.uberblock_ring.specs.Slot.{slot_number}
 use Rattle.uberblock_ring.specs.Uberblock.{Fits}
 use Rattle.uberblock_ring.specs.declared.uberblock.Uberblock.{Uberblock}
-use Rattle.pool_commit.specs.declared.kept.Kept.{Kept}
-use Rattle.pool_commit.specs.declared.kept.Planned.{Planned}
-use Rattle.pool_commit.specs.Backs.{pool_after}
-use Rattle.pool_commit.specs.Config.{vdevs_of}
-use Rattle.pool_commit.specs.Slots.{ShowsIn}
-use Rattle.pool_commit.specs.State.{NoneIsOut, State, group_at}
-use Rattle.pool_commit.specs.Writing.{PlansFrom, WritesPlan, in_use_of, may_write}
-use Rattle.pool_commit.proofs.Labels.{labels_still}
-use Rattle.pool_commit.proofs.Progressing.{vdevs_by_shapes}
-use Rattle.pool_core.specs.Moves.{ReadsAndPlans}
-use Rattle.pool_core.specs.State.{CoreState}
-use Rattle.pool_core.specs.Steps.{AreFlushed, Link, ShowsGroup}
+use Rattle.pool_create.specs.Kept.{Kept}
+use Rattle.pool_create.specs.CommitPlanned.{Planned}
+use Rattle.pool_create.specs.Backs.{pool_after}
+use Rattle.pool_create.specs.Config.{vdevs_of}
+use Rattle.pool_create.specs.Slots.{ShowsIn}
+use Rattle.pool_create.specs.CommitState.{NoneIsOut, State, group_at}
+use Rattle.pool_create.specs.CommitWriting.{PlansFrom, WritesPlan, in_use_of, may_write}
+use Rattle.pool_create.proofs.CommitLabels.{labels_still}
+use Rattle.pool_create.proofs.CommitProgressing.{vdevs_by_shapes}
+use Rattle.pool_create.specs.Moves.{ReadsAndPlans}
+use Rattle.pool_create.specs.CoreState.{CoreState}
+use Rattle.pool_create.specs.CoreSteps.{AreFlushed, Link, ShowsGroup}
 use Rattle.pool_model.specs.Machine.{GoesOn, MayAnswer, StepOf}
 use Rattle.pool_model.specs.Pools.{PlainPool, upto}
 use Rattle.pool_model.specs.Sound.{IsSound}
@@ -221,11 +221,12 @@ whole_still old new whole none count starts shapes =
       };
     }
 
-kept_still : (old new : State) (v w : View) (u : Uberblock) → new.kept ≡ old.kept → w.pools u.group ≡ v.pools u.group → IsOfKept old v u → IsOfKept new w u
-kept_still old new v w u same pool of = record {
+kept_still : (old new : State) (v w : View) (u : Uberblock) → new.kept ≡ old.kept → new.stamp ≡ old.stamp → w.pools u.group ≡ v.pools u.group → IsOfKept old v u → IsOfKept new w u
+kept_still old new v w u same stamp pool of = record {
   kept = of.kept;
   is = ap (λ (k : Kept). group_at k u.group) same ∙ of.is;
   root = of.root;
+  stamped = of.stamped ∙ sym stamp;
   made = subst (λ (p : PlainPool). IsMadeBy u.group p) (sym pool) of.made;
 }
 
@@ -244,7 +245,7 @@ runs_still old new v w step given reply last before runs link whole stamp kept s
       lower = runs.lower;
       kept = λ u reach.
           let low : u.group ≤ v.committed = omega (arith, reach_low last before u reach, runs.group) in
-          kept_still old.commit new.commit v w u kept
+          kept_still old.commit new.commit v w u kept stamp
           (pools_stay v given step reply w runs.represents.follows.sound link.is_step u.group (omega (arith, low, same)) low) (runs.kept u reach);
       stand = stand;
     }
@@ -338,9 +339,9 @@ plan_stands old v new last before (Some plan) runs from is phase settled = inl (
       (in_use_there old v last before disk runs (omega (arith, below, runs.whole.count))));
 })
 
-pub plans_on : (old new : CoreState) (v w : View) (step : Step) (given : Given) (reply : Reply) (last : Uberblock) (before : List Uberblock) → PhaseLaws → IsRunning old v last before
-    → Link old v step given reply new w → ReadsAndPlans old.commit new.commit → StepsOn old v new w last before
-plans_on old new v w step given reply last before laws runs link plans =
+pub plans_on : (timestamp : ℕ) (old new : CoreState) (v w : View) (step : Step) (given : Given) (reply : Reply) (last : Uberblock) (before : List Uberblock) → PhaseLaws → IsRunning old v last before
+    → Link old v step given reply new w → ReadsAndPlans timestamp old.commit new.commit → StepsOn old v new w last before
+plans_on timestamp old new v w step given reply last before laws runs link plans =
     let from : PlansFrom old.commit new.commit = plans.from in
     let phase : StandAt old.commit None last before = subst (λ (o : Option Planned). StandAt old.commit o last before) plans.unplanned runs.stand in
     let went = laws.plans old.commit new.commit last before runs.whole.lie from plans.reads phase.blocks in

@@ -17,27 +17,27 @@ use Rattle.vdev_label.specs.Plain.{PlainLabel, PlainVdev}
 use Rattle.vdev_label.specs.Room.{relabeled}
 use Rattle.vdev_label.specs.declared.label.State.{State as LabelState}
 use Rattle.vdev_label.specs.declared.label.State.TheVariants.{Active, Exported}
-use Rattle.pool_commit.specs.State.{State}
-use Rattle.pool_commit.specs.declared.kept.Planned.{Planned}
+use Rattle.pool_create.specs.CommitState.{State}
+use Rattle.pool_create.specs.CommitPlanned.{Planned}
 use Rattle.pool_export.specs.Taken.{IsTakenWrite, exported}
 use Rattle.pool_export.proofs.Best.{exported_valid}
-use Rattle.pool_open.specs.Stops.{fresh}
+use Rattle.pool_create.specs.OpenStops.{fresh}
 use Rattle.pool_slots.specs.Configs.{IsConfigured}
-use Rattle.pool_slots.specs.Labels.{IsValid, area_place, inscribed}
+use Rattle.pool_slots.specs.Labels.{IsLabelShown, IsValid, area_place, inscribed}
 use Rattle.pool_slots.specs.Possible.{IsInReach, Possible, held_by}
-use Rattle.pool_slots.specs.Relabels.{IsRewrite}
+use Rattle.pool_slots.specs.Relabels.{IsRewrite, IsTakenOver}
 use Rattle.pool_slots.specs.Slots.{InUse}
 use Rattle.pool_slots.specs.Writes.{in_use}
 use Rattle.pool_slots.proofs.LabelAreas.{area_len, same_areas}
 use Rattle.pool_slots.proofs.Places.{apart_covers, labels_apart, length-spelled}
-use Rattle.pool_slots.proofs.LabelPlans.{relabeled_valid}
+use Rattle.pool_slots.proofs.LabelPlans.{label_for_valid, relabeled_valid}
 use Rattle.pool_stops.specs.Configured.{ExportsStayConfigured, OpensStayConfigured, ShowsConfigured}
 use Rattle.pool_stops.specs.Running.{IsBetween, StandAt}
 use Rattle.pool_stops.proofs.Holding.{get_in_use}
 use Rattle.pool_stops.proofs.Labels.{label_left, off_slots, shown_once}
 use Rattle.pool_stops.proofs.Reopening.{is_planned_so, reach_behind}
 use Rattle.pool_stops.proofs.Steps.{used_below}
-use Rattle.pool_stops.proofs.WholeStops.{all_there}
+use Rattle.pool_stops.proofs.WholeStops.{all_there, led_showing}
 use Rattle.pool_stops.specs.Own.{AreOwnDisks, IsLabeled, IsOwn, disk_guids}
 use Rattle.pool_stops.specs.OwnRunning.{AreOfSum, HoldOwn}
 use Rattle.pool_stops.specs.Stopping.{AreLabelsUntorn, LedDisksAreBound, OwnDisksAreNotFour, StoppedExportsLeaveDisks, StoppedOpensAreOfSum, StoppedOpensLeaveDisks, StoppedRunsLeaveDisks}
@@ -132,22 +132,37 @@ relabeled_own pool vdevs guid l m claim group state is own =
 
 -- ---- opens
 
-rewrites_own : (pool : ℕ) (vdevs : List PlainVdev) (out : List Bool) (old : Disks) (u : Uberblock) → Fits u
+-- so is what a claim makes a disk's labels of
+pub label_for_own : {K : Type 0} (pool : ℕ) (vdevs : List PlainVdev) (out : List Bool) (old : Disks) (u : Uberblock) (which guid source : ℕ) (of_disk l : PlainLabel)
+    → ((disk : ℕ) → InUse out disk → disk < length old.starts) → AreOwnDisks pool vdevs old → slice_get (disk_guids vdevs) which ≡ Some guid
+    → IsLabelShown (length (bytes_of old.starts which)) (content old which) source of_disk → (K × (l ≡ of_disk)) ⊎ IsTakenOver out old u which of_disk l → IsOwn pool vdevs guid l
+label_for_own pool vdevs out old u which guid source of_disk l there are named shown from =
+    let own : IsOwn pool vdevs guid of_disk = are.each which guid named source of_disk shown in
+    let O : PlainLabel → Type 0 = IsOwn pool vdevs guid in
+    ⊎_elim
+    (λ kept. subst O (sym kept.1) own)
+    (λ taken.
+    let other = slice_get_some (disk_guids vdevs) taken.other (omega (arith, there taken.other taken.used, are.count)) in
+    let theirs = are.each taken.other other.0 other.1 taken.number taken.given taken.shown in
+    subst O (sym taken.is) (record { pool_is = theirs.pool_is; guid_is = own.guid_is; config_is = theirs.config_is }))
+    from
+
+rewrites_own : (pool : ℕ) (vdevs : List PlainVdev) (out : List Bool) (old : Disks) (u : Uberblock) → Fits u → ((disk : ℕ) → InUse out disk → disk < length old.starts)
     → ((which : ℕ) → which < length old.starts → 1048576 ≤ length (bytes_of old.starts which)) → AreOwnDisks pool vdevs old
     → WritesOwn pool vdevs (IsRewrite out old u) old
-rewrites_own pool vdevs out old u fits room are = record {
+rewrites_own pool vdevs out old u fits there room are = record {
   whole = λ which number below low at bytes write. elim write [
     | inl slot ↦ inr (λ i inside. off_slots old.starts u (in_use out) which number i fits (room which below) low inside at bytes slot)
     | inr it ↦
         whole_in (length (bytes_of old.starts which)) it.number number at bytes (omega (arith, room which below)) it.is_label low it.place
-        (ap length it.spells ∙ area_len (relabeled it.label u.claim u.group Active) (relabeled_valid it.label u it.shown.valid fits))
+        (ap length it.spells ∙ area_len (relabeled it.label u.claim u.group Active) (relabeled_valid it.label u (label_for_valid out old u which it.it it.label it.source) fits))
   ];
   own = λ which guid number l named low valid write. elim write [
     | inl slot ↦ absurd (omega (arith, ap length slot.spells, area_len l valid, length-spelled u fits))
     | inr it ↦
         relabeled_own pool vdevs guid l it.label u.claim u.group Active
-        (same_areas l (relabeled it.label u.claim u.group Active) valid (relabeled_valid it.label u it.shown.valid fits) it.spells)
-        (are.each which guid named it.from it.label it.shown)
+        (same_areas l (relabeled it.label u.claim u.group Active) valid (relabeled_valid it.label u (label_for_valid out old u which it.it it.label it.source) fits) it.spells)
+        (label_for_own pool vdevs out old u which guid it.it.source it.source.own it.label there are named it.source.shown it.source.from)
   ];
 }
 
@@ -193,7 +208,7 @@ stopped_opens_leave_disks stay not_four bound pool vdevs digest old new shapes o
     let settled : (which : ℕ) → which < length old.starts → IsSettled (calls_on which old.calls) = λ which below. can.settled which (flags which below) in
     let room : (which : ℕ) → which < length old.starts → 1048576 ≤ length (bytes_of old.starts which) =
     λ which below. large_enough old.starts 0 shapes which are.there.may.lie (omega arith) below in
-    let left = stay led.led.trees old new out rewind p digest few can one (not_four pool vdevs shapes out old are) kept honest
+    let left = stay led.led.trees old new out rewind p digest few can one (not_four pool vdevs shapes out old are) (led_showing digest old shapes out p pools led one) kept honest
     (bound digest old shapes out p pools are.there led one) leaves.calls leaves.moment in
     let labeled : (which : ℕ) → which < length images → IsLabeled (length (bytes_of images which)) (content (fresh images) which) =
     λ which below. labeled_by images which digest (left images leaves.left which (flags which (omega (arith, below, leaves.left.count)))) in
@@ -205,7 +220,7 @@ stopped_opens_leave_disks stay not_four bound pool vdevs digest old new shapes o
           (λ none. own_images pool vdevs no_write old new leaves.calls images none leaves.moment leaves.left untorn are.own settled
           (none_writes_own pool vdevs old) labeled)
           (λ (u, fits, makes). own_images pool vdevs (IsRewrite out old u) old new leaves.calls images makes leaves.moment leaves.left untorn are.own settled
-          (rewrites_own pool vdevs out old u fits room are.own) labeled)
+          (rewrites_own pool vdevs out old u fits (λ disk used. omega (arith, used_below out disk used, are.there.may.flags)) room are.own) labeled)
           (kept.rewrites can.known honest);
     }
 

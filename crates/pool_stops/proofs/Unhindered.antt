@@ -1,5 +1,5 @@
 -- Opens that nothing hinders are refused for want of memory alone.
-use Rattle.std.proofs.Common.{ℕ, zero, suc, ◌≡◌, ◌⊎◌, inl, inr, ⊎_elim, ◌+◌, ◌<◌, ◌≤◌, Bool, true, false, List, [], ◌∷◌, length, map, Some, Contains, refl, sym, ap, subst, ◌∙◌, arith, true≢false, if◌then◌else◌, nat_le, ◌&&◌}
+use Rattle.std.proofs.Common.{ℕ, zero, suc, ◌≡◌, ◌⊎◌, inl, inr, ⊎_elim, ◌+◌, ◌<◌, ◌≤◌, Bool, true, false, List, [], ◌∷◌, length, map, Contains, refl, sym, ap, subst, ◌∙◌, arith, true≢false, if◌then◌else◌, nat_le, ◌&&◌}
 use Rattle.pool_model.specs.Refusals.{greatest}
 use Rattle.std.proofs.lemmas.Bool.Decides.{nat_tests}
 use Rattle.model_disk.specs.Joint.{Disks, JointCall, content, failed_since}
@@ -15,24 +15,24 @@ use Rattle.block_store.specs.Spaces.{VdevSpace}
 use Rattle.block_store.specs.Store.{is_out}
 use Rattle.block_store.specs.declared.shape.VdevShape.{VdevShape}
 use Rattle.block_pointer.specs.declared.block.Block.{Block}
-use Rattle.dataset_snapshots.proofs.Readings.{roots_spell_one_pool}
-use Rattle.dataset_snapshots.specs.Pools.{SpellsPool}
-use Rattle.dataset_snapshots.specs.declared.contents.RootContents.{RootContents}
-use Rattle.dataset_snapshots.specs.Contents.{AreContentsOf}
-use Rattle.dataset_snapshots.specs.Mapped.{HasItsMaps, HasItsMapsOver}
-use Rattle.dataset_snapshots.specs.Reach.{meta_blocks_of, reach_of, volume_blocks_of}
+use Rattle.pool_create.proofs.SnapshotsReadings.{roots_spell_one_pool}
+use Rattle.pool_create.specs.Pools.{SpellsPool}
+use Rattle.pool_create.specs.RootContents.{RootContents}
+use Rattle.pool_create.specs.Contents.{AreContentsOf}
+use Rattle.pool_create.specs.Mapped.{HasItsMaps, HasItsMapsOver}
+use Rattle.pool_create.specs.Reach.{meta_blocks_of, reach_of, volume_blocks_of}
 use Rattle.pool_model.specs.Pools.{PlainPool}
 use Rattle.pool_model.specs.View.{Vdev, is_tolerable, lost_in}
-use Rattle.pool_commit.specs.Reopened.{AreMisplaced}
-use Rattle.pool_open.specs.Causes.{of_root}
-use Rattle.pool_open.specs.Held.{HoldOver}
-use Rattle.pool_open.specs.Opening.{AreClaimedThrough, AreReadThrough, IsCauseOfClaim, IsCauseOfReading, IsReadMisplaced, IsRootUnread, IsSurveyRefused}
-use Rattle.pool_open.specs.Roots.{IsRootRefused, IsSmallRoot}
-use Rattle.pool_open.specs.Trees.{IsTreeOf}
-use Rattle.pool_open.specs.Words.{most_blocks, vdevs_in}
-use Rattle.pool_open.specs.declared.refusal.Refusal.{Refusal}
-use Rattle.pool_open.specs.declared.refusal.Refusal.TheVariants.{NoMemory}
-use Rattle.pool_open.proofs.Through.{block_reads_made, honest_within}
+use Rattle.pool_create.specs.Reopened.{AreMisplaced}
+use Rattle.pool_create.specs.OpenCauses.{of_root}
+use Rattle.pool_create.specs.Held.{HoldOver}
+use Rattle.pool_create.specs.OpenOpening.{AreClaimedThrough, AreReadThrough, IsCauseOfClaim, IsCauseOfReading, IsReadMisplaced, IsRootUnread, IsSurveyRefused}
+use Rattle.pool_create.specs.Roots.{IsRootRefused, IsSmallRoot}
+use Rattle.pool_create.specs.Trees.{IsTreeOf}
+use Rattle.pool_create.specs.Words.{most_blocks, vdevs_in}
+use Rattle.pool_create.specs.OpenRefusal.{Refusal}
+use Rattle.pool_create.specs.OpenRefusal.TheVariants.{NoMemory}
+use Rattle.pool_create.proofs.OpenThrough.{block_reads_made, honest_within}
 use Rattle.pool_slots.specs.Failures.{HasFailedOn}
 use Rattle.pool_slots.specs.Marks.{IsUsedUp}
 use Rattle.pool_slots.specs.Opens.{CanOpen, IsHighestShown, IsRead, IsShown}
@@ -42,7 +42,7 @@ use Rattle.pool_slots.specs.Slots.{InUse, IsOutOfReach}
 use Rattle.pool_slots.specs.Surveys.{IsSurveyOf, IsSurveyed, Surveyed}
 use Rattle.pool_slots.specs.declared.refusal.Refusal.TheVariants as slots
 use Rattle.pool_slots.proofs.Failing.{fails_later}
-use Rattle.pool_slots.proofs.OpenSteps.{cause_of}
+use Rattle.pool_slots.proofs.OpenSteps.{cause_of, found_on}
 use Rattle.model_disk.proofs.RunLemmas.{Makes-none}
 use Rattle.pool_slots.proofs.Phases.{none_same}
 use Rattle.pool_slots.proofs.ReadRuns.{reads_made}
@@ -147,7 +147,7 @@ rank_of_top trees out disks p highest can top =
 surveyed_is : (trees : Trees) (out : List Bool) (disks : Disks) (p : Possible) (s : Surveyed) → CanOpen trees out disks p → IsSurveyOf out 0 disks s → IsPossible trees out (content disks) p s.taken
 surveyed_is trees out disks p s can says =
     let one = says.highest in
-    let mine = says.found one.which (Some one.found) one.at in
+    let mine = found_on out disks s.found one.which one.found says.found one.at in
     let top = (can.leads one.which mine.0).top in
     let rank : RanksUpTo p.last s.highest = subst (λ (u : Uberblock). RanksUpTo p.last u) (sym one.is)
     (ranks_through p.last top.u one.found.uberblock top.rank (mine.1.greatest top.label top.slot top.is_slot top.u top.shows)) in
@@ -173,8 +173,14 @@ survey_case old new shapes out p pools refusal led free (inl (slots.NoLabel, sam
     let it = refuses can.known free.honest in
     let rank = rank_of_top led.led.trees out old p it.1.highest can it.1.top in
     let possible = taken_is led.led.trees out old p it.1.highest it.0 can rank it.1.rewound it.1.shown in
-    let config = led.configured it.0 possible.0 it.2.which it.2.used in
-    absurd (it.2.without config.number config.label config.shown config.config)
+    ⊎_elim
+    (λ unlabeled.
+    let config = led.configured it.0 possible.0 unlabeled.which unlabeled.used in
+    absurd (unlabeled.none config.number config.label config.shown))
+    (λ without.
+    let config = led.configured it.0 possible.0 can.some.0 can.some.1 in
+    absurd (without can.some.0 can.some.1 config.number config.label config.shown config.config))
+    it.2
 survey_case old new shapes out p pools refusal led free (inl (slots.UsedUp, same, refuses, no_fault)) =
     let it = refuses led.led.can.known free.honest in absurd (free.claims it.0 it.1 it.2)
 

@@ -12,15 +12,15 @@ use Rattle.block_store.specs.Store.{ArePlaced}
 use Rattle.block_store.specs.declared.shape.VdevShape.{VdevShape}
 use Rattle.block_store.proofs.Planning.{placed_lies}
 use Rattle.block_store.proofs.Taking.{places_too}
-use Rattle.dataset_snapshots.specs.Pools.{SpellsPool}
-use Rattle.dataset_snapshots.specs.Reach.{reach_of}
-use Rattle.dataset_snapshots.proofs.Readings.{roots_spell_one_pool}
-use Rattle.dataset_snapshots.proofs.Standing.{reach_is_known}
+use Rattle.pool_create.specs.Pools.{SpellsPool}
+use Rattle.pool_create.specs.Reach.{reach_of}
+use Rattle.pool_create.proofs.SnapshotsReadings.{roots_spell_one_pool}
+use Rattle.pool_create.proofs.SnapshotsStanding.{reach_is_known}
 use Rattle.dnode_tree.specs.Rewriting.{AreDistinct}
-use Rattle.pool_commit.specs.declared.kept.KeptGroup.{KeptGroup}
-use Rattle.pool_commit.specs.Backs.{KeptLeadsTo, LeadsTo}
+use Rattle.pool_create.specs.KeptGroup.{KeptGroup}
+use Rattle.pool_create.specs.Backs.{KeptLeadsTo, LeadsTo}
 use Rattle.pool_model.specs.Pools.{PlainPool}
-use Rattle.pool_open.specs.Trees.{IsTreeOf}
+use Rattle.pool_create.specs.Trees.{IsTreeOf}
 use Rattle.pool_slots.specs.Possible.{Trees}
 use Rattle.uberblock_ring.specs.declared.uberblock.Uberblock.{Uberblock}
 use Rattle.pool_stops.specs.Whole.{AreCopiesApart, IsWholeTree, LieApart}

@@ -2,22 +2,26 @@
 use Rattle.std.proofs.Common.{ℕ, ◌≡◌, inl, inr, ⊎_elim, Bool, List, length, map, Option, refl, sym, ap, subst, ◌∙◌, arith, ◌<◌, ◌≤◌, ◌+◌, [], ◌∷◌}
 use Rattle.block_store.specs.Opened.{FitsDisks, LieOn}
 use Rattle.block_store.specs.Config.{IsAllowedSize, sectors_of}
-use Rattle.model_disk.specs.Joint.{content, JointCall, MayLeaveAll, bytes_of}
+use Rattle.model_disk.specs.Joint.{Disks, content, JointCall, MayLeaveAll, bytes_of}
+use Rattle.block_store.specs.Blocks.{Contents}
 use Rattle.block_store.specs.Places.{shapes_of}
 use Rattle.block_store.specs.declared.shape.VdevShape.{VdevShape}
 use Rattle.uberblock_ring.specs.declared.uberblock.Uberblock.{Uberblock}
-use Rattle.pool_commit.specs.declared.kept.Planned.{Planned}
-use Rattle.pool_commit.specs.State.{State}
+use Rattle.pool_create.specs.CommitPlanned.{Planned}
+use Rattle.pool_create.specs.CommitState.{State}
 use Rattle.pool_export.specs.Moments.{IsLeading}
 use Rattle.pool_model.specs.Pools.{PlainPool}
-use Rattle.pool_open.specs.Stops.{fresh}
+use Rattle.pool_create.specs.OpenStops.{fresh}
+use Rattle.pool_create.specs.Trees.{IsConfiguredFor}
 use Rattle.pool_slots.specs.Commits.{AreAt, AreOffLabels, LeadAlways, only_last}
+use Rattle.pool_slots.specs.Configs.{IsConfigured}
 use Rattle.pool_slots.specs.Opens.{CanOpen, also_begun}
 use Rattle.pool_slots.specs.PhaseLaws.{BlocksEnd}
 use Rattle.pool_slots.specs.Possible.{IsInReach, Possible, Trees}
 use Rattle.pool_slots.specs.Slots.{InUse}
 use Rattle.pool_stops.specs.Filled.{is_filled}
-use Rattle.pool_stops.specs.OneConfig.{RunsStopAs, RunStopsAs, StoppedExportsShowConfig, StoppedOpensShowConfig, StoppedRunsShowConfig}
+use Rattle.pool_stops.specs.Configured.{AreShowing}
+use Rattle.pool_stops.specs.OneConfig.{AreOfConfig, RunsStopAs, RunStopsAs, StoppedExportsShowConfig, StoppedOpensShowConfig, StoppedRunsShowConfig}
 use Rattle.pool_stops.specs.Reopening.{IsPossibleBehind}
 use Rattle.pool_stops.specs.Running.{IsBetween, StandAt, pool_of}
 use Rattle.pool_stops.specs.Standing.{filled_trees}
@@ -38,6 +42,7 @@ whole_on trees starts others shapes out u pool sizes it = record {
     stored = it.tree.stored;
     spells = it.tree.spells;
     mapped = it.tree.mapped;
+    configured = it.tree.configured;
     made = it.tree.made;
     held = λ disks same stands. it.tree.held disks (same ∙ sizes) stands;
   };
@@ -45,6 +50,11 @@ whole_on trees starts others shapes out u pool sizes it = record {
 }
 
 -- under another claim
+claimed_configured : (taken u : Uberblock) (stored : Contents) (pool : PlainPool) → IsConfiguredFor taken stored pool → IsConfiguredFor (record taken { claim = u.claim }) stored pool
+claimed_configured taken u stored pool it =
+    let (is, its, has, named) = it in
+    (is, its, has, record { claim_is = refl; guids = named.guids; digest = named.digest })
+
 claimed_whole : (trees : Trees) (starts : List (List ℕ)) (shapes : List VdevShape) (out : List Bool) (taken u : Uberblock) (pool : PlainPool) → u ≡ record taken { claim = u.claim }
     → WholeTreeOf trees starts shapes out taken pool → WholeTreeOf trees starts shapes out u pool
 claimed_whole trees starts shapes out taken u pool is it =
@@ -53,6 +63,7 @@ claimed_whole trees starts shapes out taken u pool is it =
         stored = it.tree.stored;
         spells = it.tree.spells;
         mapped = it.tree.mapped;
+        configured = claimed_configured taken u it.tree.stored pool it.tree.configured;
         made = it.tree.made;
         held = it.tree.held;
       };
@@ -81,6 +92,13 @@ stopped_runs_lead_whole shows digest mid between new w images stops leaves =
       configured = λ u reach which at. shows digest mid between new w images u which stops leaves reach at;
     }
 
+-- disks that lead to whole pools show the configuration of what an open may come to
+pub led_showing : (digest : List ℕ) (disks : Disks) (shapes : List VdevShape) (out : List Bool) (p : Possible) (pools : Uberblock → PlainPool) → LeadToWholePools disks shapes out p pools
+    → AreOfConfig digest p → AreShowing out disks digest
+led_showing digest disks shapes out p pools led one which used =
+    let reach : IsInReach p p.last = inl (0, omega arith, refl) in
+    subst (λ (d : List ℕ). IsConfigured (length (bytes_of disks.starts which)) (content disks which) d) (one p.last reach) (led.configured p.last reach which used)
+
 pub stopped_opens_lead_whole : StoppedOpensShowConfig → StoppedOpensLeadWhole
 stopped_opens_lead_whole shows digest old new shapes out rewind p pools images few count by_group one led bound four kept honest leaves =
     let sizes = left_sizes old.starts leaves.calls images leaves.left in
@@ -96,7 +114,7 @@ stopped_opens_lead_whole shows digest old new shapes out rewind p pools images f
       led = record { trees = trees; can = can later always; tree = λ u reach. (each u reach).tree };
       whole = λ u reach. (each u reach).whole;
       configured = λ u reach which at.
-          shows digest old new shapes out rewind p later pools images u which few one led.led bound four kept honest leaves behind reach at;
+          shows digest old new shapes out rewind p later pools images u which few one led.led bound four (led_showing digest old shapes out p pools led one) kept honest leaves behind reach at;
     } in
     ⊎_elim
     (λ always. (p, inl refl, lead p (inl refl) always (λ u reach. whole_on trees old.starts images shapes out u (pools u) sizes (was u reach))))

@@ -8,18 +8,18 @@ use Rattle.block_store.specs.declared.shape.VdevShape.{VdevShape}
 use Rattle.uberblock_ring.specs.declared.uberblock.Uberblock.{Uberblock}
 use Rattle.vdev_label.specs.Plain.{PlainLabel}
 use Rattle.vdev_label.specs.declared.label.Config.{Config}
-use Rattle.pool_commit.specs.Backs.{Backs}
-use Rattle.pool_commit.specs.State.{State}
-use Rattle.pool_core.specs.Moves.{Moves}
-use Rattle.pool_core.specs.State.{CoreState, disks_of}
+use Rattle.pool_create.specs.Backs.{Backs}
+use Rattle.pool_create.specs.CommitState.{State}
+use Rattle.pool_create.specs.Moves.{Moves}
+use Rattle.pool_create.specs.CoreState.{CoreState, disks_of}
 use Rattle.pool_create.specs.Creating.{IsCreated}
 use Rattle.pool_format.specs.declared.labeling.PoolIdentity.{PoolIdentity}
 use Rattle.pool_model.specs.View.{View}
 use Rattle.pool_model.specs.declared.step.Step.{Step}
-use Rattle.pool_open.specs.Exporting.{IsExportBegun}
-use Rattle.pool_open.specs.Opening.{IsKeptThrough, IsOpenedOver}
-use Rattle.pool_open.specs.Stops.{fresh}
-use Rattle.pool_slots.specs.Configs.{AreNotFour, LeavesConfigured, of_config}
+use Rattle.pool_create.specs.OpenExporting.{IsExportBegun}
+use Rattle.pool_create.specs.OpenOpening.{IsKeptThrough, IsOpenedOver}
+use Rattle.pool_create.specs.OpenStops.{fresh}
+use Rattle.pool_slots.specs.Configs.{AreNotFour, IsConfigured, LeavesConfigured, of_config}
 use Rattle.pool_slots.specs.Labels.{IsLabelShown, area_place}
 use Rattle.pool_slots.specs.Opens.{CanOpen}
 use Rattle.pool_slots.specs.Possible.{IsInReach, Possible, Trees}
@@ -85,13 +85,17 @@ CreatedPoolsAreConfigured =
     (old : Disks) (pool : PoolIdentity) (config : Config) (u : Uberblock) (core : CoreState) → IsCreated old pool config u core
     → ShowsConfigured core.commit u.config_digest
 
+-- each disk in use shows it in a label
+abbrev pub AreShowing : List Bool → Disks → List ℕ → Type 0
+AreShowing out disks digest = (which : ℕ) → InUse out which → IsConfigured (length (bytes_of disks.starts which)) (content disks which) digest
+
 -- Wherever an open is stopped its disks show the configuration that they showed, if all that is possible has this one, no disk shows four different
 -- ones, and all answers were true.
 abbrev pub OpensStayConfigured : Type 0
 OpensStayConfigured =
     (trees : Trees) (old new : Disks) (out : List Bool) (rewind : ℕ) (p : Possible) (digest : List ℕ) → rewind < 3 → CanOpen trees out old p
-    → ((u : Uberblock) → IsInReach p u → u.config_digest ≡ digest) → AreNotFour out old → IsKeptThrough out rewind old new → IsHonestSince old new
-    → StayConfigured out digest old new
+    → ((u : Uberblock) → IsInReach p u → u.config_digest ≡ digest) → AreNotFour out old → AreShowing out old digest → IsKeptThrough out rewind old new
+    → IsHonestSince old new → StayConfigured out digest old new
 
 -- the disks of a pool that was opened show the configuration of the uberblock that was claimed
 abbrev pub OpenedPoolsAreConfigured : Type 0

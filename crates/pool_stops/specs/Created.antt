@@ -5,13 +5,13 @@ use Rattle.raidz_io.specs.Reads.{IsHonestSince}
 use Rattle.block_store.specs.Store.{is_out}
 use Rattle.uberblock_ring.specs.declared.uberblock.Uberblock.{Uberblock}
 use Rattle.vdev_label.specs.declared.label.Config.{Config}
-use Rattle.pool_core.specs.State.{CoreState, disks_of}
+use Rattle.pool_create.specs.CoreState.{CoreState, disks_of}
 use Rattle.pool_create.specs.Creating.{IsCreated}
 use Rattle.pool_create.specs.Planning.{nobody}
 use Rattle.pool_format.specs.declared.labeling.PoolIdentity.{PoolIdentity}
 use Rattle.pool_model.specs.Pools.{no_volumes}
 use Rattle.pool_model.specs.View.{opened_as}
-use Rattle.pool_open.specs.Words.{vdevs_in}
+use Rattle.pool_create.specs.Words.{vdevs_in}
 use Rattle.pool_slots.specs.Opens.{AreKnown}
 use Rattle.pool_stops.specs.Running.{IsRunning}
 

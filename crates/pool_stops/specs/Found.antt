@@ -7,15 +7,15 @@ use Rattle.block_store.specs.declared.shape.VdevShape.{VdevShape}
 use Rattle.pool_labels.specs.declared.refusal.Refusal.{Refusal}
 use Rattle.pool_labels.specs.declared.refusal.Refusal.TheVariants.{NoMemory}
 use Rattle.pool_members.specs.declared.arranging.Child.{Child}
-use Rattle.pool_open.specs.Finding.{IsLayoutOf, LayoutRefuses}
-use Rattle.pool_open.specs.Opens.{AreInOrder}
-use Rattle.pool_open.specs.Stops.{fresh}
+use Rattle.pool_create.specs.OpenFinding.{IsLayoutOf, LayoutRefuses}
+use Rattle.pool_create.specs.Opens.{AreInOrder}
+use Rattle.pool_create.specs.OpenStops.{fresh}
 use Rattle.pool_slots.specs.Configs.{IsConfigured}
 use Rattle.pool_slots.specs.Opens.{IsHighestShown, IsShownOn}
 use Rattle.pool_slots.specs.Slots.{InUse}
 use Rattle.uberblock_ring.specs.declared.uberblock.Uberblock.{Uberblock}
 use Rattle.vdev_label.specs.Config.{guid_sum}
-use Rattle.vdev_label.specs.Plain.{PlainVdev}
+use Rattle.vdev_label.specs.Plain.{PlainVdev, config_view}
 use Rattle.pool_stops.specs.Unhindered.{AnswerTruly, HaveLeft}
 use Rattle.pool_stops.specs.Handed.{AreHandedIn, AreUncalled}
 use Rattle.pool_stops.specs.Own.{AreDisksOf}
@@ -42,12 +42,12 @@ OwnDisksAreFound =
     (refusal : Refusal) → AreDisksOf pool vdevs shapes out (fresh images) → ShowHighest vdevs out (fresh images) → AreHandedIn images handed order
     → AreUncalled handed old → AnswerTruly old new → LayoutRefuses old new 0 refusal → refusal ≡ NoMemory
 
--- Where one is found, they are its children in order, and its vdevs take them so.
+-- Where one is found, they are its children in order, its vdevs take them so, and it has the configuration.
 abbrev pub OwnDisksAreOrdered : Type 0
 OwnDisksAreOrdered =
     (pool : ℕ) (vdevs : List PlainVdev) (shapes : List VdevShape) (out : List Bool) (images handed : List (List ℕ)) (order : List ℕ) (old new : Disks)
     (rewind : ℕ) (layout : _) → AreDisksOf pool vdevs shapes out (fresh images) → AreHandedIn images handed order → AreUncalled handed old
-    → AnswerTruly old new → IsLayoutOf old new rewind layout → AreChildren order layout.children.items × (layout.shapes.items ≡ shapes)
+    → AnswerTruly old new → IsLayoutOf old new rewind layout → AreChildren order layout.children.items × (layout.shapes.items ≡ shapes) × (config_view layout.config.value ≡ vdevs)
 
 -- Whatever the disks, where a pool is found on them its vdevs take them in order, and they have room for it: a store may be opened over them.
 abbrev pub FoundDisksMayBeOpened : {D : Type 0} → disk.Ghosts D → Type 0

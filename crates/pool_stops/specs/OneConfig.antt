@@ -9,8 +9,8 @@ use Rattle.block_store.specs.Store.{is_out}
 use Rattle.block_store.specs.declared.shape.VdevShape.{VdevShape}
 use Rattle.uberblock_ring.specs.declared.uberblock.Uberblock.{Uberblock}
 use Rattle.vdev_label.specs.declared.label.Config.{Config}
-use Rattle.pool_commit.specs.State.{NoneIsOut}
-use Rattle.pool_core.specs.State.{CoreState, disks_of}
+use Rattle.pool_create.specs.CommitState.{NoneIsOut}
+use Rattle.pool_create.specs.CoreState.{CoreState, disks_of}
 use Rattle.pool_create.specs.Creating.{IsCreated}
 use Rattle.pool_create.specs.Planning.{nobody}
 use Rattle.pool_format.specs.declared.labeling.PoolIdentity.{PoolIdentity}
@@ -18,16 +18,17 @@ use Rattle.pool_model.specs.Pools.{PlainPool, no_volumes}
 use Rattle.pool_model.specs.View.{View, opened_as}
 use Rattle.pool_model.specs.declared.step.Reply.{Reply}
 use Rattle.pool_model.specs.declared.step.Step.{Step}
-use Rattle.pool_open.specs.Exporting.{IsExportBegun}
-use Rattle.pool_open.specs.Opening.{IsKeptThrough, IsOpenedOver}
-use Rattle.pool_open.specs.Stops.{fresh}
-use Rattle.pool_open.specs.Words.{vdevs_in}
+use Rattle.pool_create.specs.OpenExporting.{IsExportBegun}
+use Rattle.pool_create.specs.OpenOpening.{IsKeptThrough, IsOpenedOver}
+use Rattle.pool_create.specs.OpenStops.{fresh}
+use Rattle.pool_create.specs.Trees.{NamesConfigOf}
+use Rattle.pool_create.specs.Words.{vdevs_in}
 use Rattle.pool_slots.specs.Commits.{only_last}
 use Rattle.pool_slots.specs.Configs.{AreNotFour, IsConfigured, LeavesConfigured}
 use Rattle.pool_slots.specs.Opens.{AreKnown}
 use Rattle.pool_slots.specs.Possible.{IsInReach, Possible}
 use Rattle.pool_slots.specs.Slots.{InUse}
-use Rattle.pool_stops.specs.Configured.{HoldConfigured, ShowsConfigured}
+use Rattle.pool_stops.specs.Configured.{AreShowing, HoldConfigured, ShowsConfigured}
 use Rattle.pool_stops.specs.Reopening.{IsOpenedWell, IsPossibleBehind, LeadToPools, LeavesImages}
 use Rattle.pool_stops.specs.Running.{IsLastStep, IsRunning, RunStopsAt}
 
@@ -83,12 +84,13 @@ pub record IsOpenedAs (digest : List ℕ) (p : Possible) (pools : Uberblock → 
   pub runs : IsRunningAs digest core
       (opened_as (vdevs_in shapes) (is_out out) well.opened.claim.taken.group (pools well.opened.claim.taken)) claimed []
 
--- a pool that was opened with no disk out is one, if whatever the disks lead to has the configuration
+-- a pool that was opened with no disk out is one, if whatever the disks lead to has the configuration, and its core keeps the one that the claimed
+-- uberblock names
 abbrev pub OpenedPoolsRunAs : Type 0
 OpenedPoolsRunAs =
     (old : Disks) (shapes : List VdevShape) (out : List Bool) (rewind : ℕ) (p : Possible) (pools : Uberblock → PlainPool) (claimed : Uberblock)
     (core : CoreState) (digest : List ℕ) → AreOfConfig digest p → LeadToPools old shapes out p pools → (is : IsOpenedOver old shapes out rewind claimed core)
-    → is.later ≡ out → ((disk : ℕ) → is_out out disk ≡ false) → length old.starts ≤ 2 ^ 64 → IsHonestSince old (disks_of core)
+    → is.later ≡ out → ((disk : ℕ) → is_out out disk ≡ false) → length old.starts ≤ 2 ^ 64 → NamesConfigOf claimed core → IsHonestSince old (disks_of core)
     → IsOpenedAs digest p pools shapes out rewind claimed core
 
 -- and then what is possible behind a stop in that open has it too
@@ -96,12 +98,12 @@ abbrev pub StoppedOpensAreOfConfig : Type 0
 StoppedOpensAreOfConfig =
     (p later : Possible) (rewind : ℕ) (digest : List ℕ) → AreOfConfig digest p → IsPossibleBehind p rewind later → AreOfConfig digest later
 
--- What a stop in it leaves shows the configuration of each of these, if the disks were bound to show it, and none showed four different ones.
+-- What a stop in it leaves shows the configuration of each of these, if the disks showed it and were bound to, and none showed four different ones.
 abbrev pub StoppedOpensShowConfig : Type 0
 StoppedOpensShowConfig =
     (digest : List ℕ) (old new : Disks) (shapes : List VdevShape) (out : List Bool) (rewind : ℕ) (p later : Possible) (pools : Uberblock → PlainPool)
     (images : List (List ℕ)) (u : Uberblock) (which : ℕ) → rewind < 3 → AreOfConfig digest p → LeadToPools old shapes out p pools
-    → LeavesConfigured out old.starts digest old.calls → AreNotFour out old → IsKeptThrough out rewind old new → IsHonestSince old new
+    → LeavesConfigured out old.starts digest old.calls → AreNotFour out old → AreShowing out old digest → IsKeptThrough out rewind old new → IsHonestSince old new
     → LeavesImages out old new images → IsPossibleBehind p rewind later → IsInReach later u → InUse out which
     → IsConfigured (length (bytes_of images which)) (content (fresh images) which) u.config_digest
 

@@ -3,7 +3,7 @@ use Rattle.std.specs.Prelude.{ℕ, ◌≡◌, ◌<◌, Bool, List, length, slice
 use Rattle.std.specs.List.{flat_map}
 use Rattle.model_disk.specs.Joint.{Disks, bytes_of, content}
 use Rattle.block_store.specs.declared.shape.VdevShape.{VdevShape}
-use Rattle.pool_open.specs.Shapes.{AreShapesOf}
+use Rattle.pool_create.specs.Shapes.{AreShapesOf}
 use Rattle.pool_slots.specs.Labels.{IsLabelShown}
 use Rattle.pool_stops.specs.Unhindered.{AreAllThere}
 use Rattle.vdev_label.specs.Limits.{IsAllowed}

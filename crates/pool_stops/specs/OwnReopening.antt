@@ -7,19 +7,19 @@ use Rattle.block_store.specs.Places.{shapes_of}
 use Rattle.block_store.specs.declared.shape.VdevShape.{VdevShape}
 use Rattle.uberblock_ring.specs.declared.uberblock.Uberblock.{Uberblock}
 use Rattle.vdev_label.specs.Plain.{PlainVdev}
-use Rattle.pool_commit.specs.State.{NoneIsOut}
-use Rattle.pool_core.specs.State.{CoreState, disks_of}
+use Rattle.pool_create.specs.CommitState.{NoneIsOut}
+use Rattle.pool_create.specs.CoreState.{CoreState, disks_of}
 use Rattle.pool_model.specs.Pools.{PlainPool}
 use Rattle.pool_model.specs.View.{View}
 use Rattle.pool_model.specs.declared.step.Reply.{Reply}
 use Rattle.pool_model.specs.declared.step.Step.{Step}
-use Rattle.pool_open.specs.Exporting.{IsExportBegun}
-use Rattle.pool_open.specs.Opening.{IsKeptThrough}
-use Rattle.pool_open.specs.Opens.{AreInOrder, IsOpened, OpenRefuses, refusal_of}
-use Rattle.pool_open.specs.Stops.{fresh}
-use Rattle.pool_open.specs.declared.handed_in.NotOpened.{NotOpened}
-use Rattle.pool_open.specs.declared.handed_in.NotOpened.TheVariants.{NotFound, Refused}
-use Rattle.pool_open.specs.declared.refusal.Refusal.TheVariants.{NoMemory}
+use Rattle.pool_create.specs.OpenExporting.{IsExportBegun}
+use Rattle.pool_create.specs.OpenOpening.{IsKeptThrough}
+use Rattle.pool_create.specs.Opens.{AreInOrder, IsOpened, OpenRefuses, refusal_of}
+use Rattle.pool_create.specs.OpenStops.{fresh}
+use Rattle.pool_create.specs.NotOpened.{NotOpened}
+use Rattle.pool_create.specs.NotOpened.TheVariants.{NotFound, Refused}
+use Rattle.pool_create.specs.OpenRefusal.TheVariants.{NoMemory}
 use Rattle.pool_slots.specs.Commits.{only_last}
 use Rattle.pool_slots.specs.Opens.{AreKnown}
 use Rattle.pool_slots.specs.Possible.{Possible}

@@ -10,16 +10,16 @@ use Rattle.vdev_label.specs.Config.{guid_sum}
 use Rattle.vdev_label.specs.Limits.{IsAllowed}
 use Rattle.vdev_label.specs.Plain.{PlainLabel, PlainVdev, config_view}
 use Rattle.vdev_label.specs.declared.label.Config.{Config}
-use Rattle.pool_commit.specs.State.{NoneIsOut}
-use Rattle.pool_core.specs.State.{CoreState, disks_of}
+use Rattle.pool_create.specs.CommitState.{NoneIsOut}
+use Rattle.pool_create.specs.CoreState.{CoreState, disks_of}
 use Rattle.pool_create.specs.Creating.{IsCreated}
 use Rattle.pool_format.specs.declared.labeling.PoolIdentity.{PoolIdentity}
 use Rattle.pool_model.specs.Pools.{PlainPool}
 use Rattle.pool_model.specs.View.{View}
 use Rattle.pool_model.specs.declared.step.Reply.{Reply}
 use Rattle.pool_model.specs.declared.step.Step.{Step}
-use Rattle.pool_open.specs.Opening.{IsOpenedOver}
-use Rattle.pool_open.specs.Shapes.{AreShapesOf}
+use Rattle.pool_create.specs.OpenOpening.{IsOpenedOver}
+use Rattle.pool_create.specs.Shapes.{AreShapesOf}
 use Rattle.pool_slots.specs.Commits.{only_last}
 use Rattle.pool_slots.specs.Possible.{IsInReach, Possible}
 use Rattle.pool_stops.specs.Configured.{IsFlushedLabel}

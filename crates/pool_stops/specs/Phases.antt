@@ -3,12 +3,12 @@ use Rattle.std.specs.Prelude.{ℕ, ◌≡◌, ◌⊎◌, false, List, [], ◌∷
 use Rattle.model_disk.specs.Joint.{calls_on, content}
 use Rattle.model_disk.specs.Runs.{IsSettled}
 use Rattle.uberblock_ring.specs.declared.uberblock.Uberblock.{Uberblock}
-use Rattle.pool_commit.specs.declared.kept.Planned.{Planned}
+use Rattle.pool_create.specs.CommitPlanned.{Planned}
 use Rattle.disk_set.specs.declared.behind.SlotWrite.{SlotWrite}
 use Rattle.block_store.specs.Store.{is_out}
-use Rattle.pool_commit.specs.Backs.{Backs}
-use Rattle.pool_commit.specs.State.{State}
-use Rattle.pool_commit.specs.Writing.{IsDueWrite, PlansFrom, WritesPlan}
+use Rattle.pool_create.specs.Backs.{Backs}
+use Rattle.pool_create.specs.CommitState.{State}
+use Rattle.pool_create.specs.CommitWriting.{IsDueWrite, PlansFrom, WritesPlan}
 use Rattle.pool_model.specs.View.{View}
 use Rattle.pool_slots.specs.Commits.{LeadAlways, last_or, only_last}
 use Rattle.pool_slots.specs.Lives.{IsNextGroup}

@@ -7,17 +7,17 @@ use Rattle.block_store.specs.Places.{shapes_of}
 use Rattle.block_store.specs.Store.{is_out}
 use Rattle.block_store.specs.declared.shape.VdevShape.{VdevShape}
 use Rattle.uberblock_ring.specs.declared.uberblock.Uberblock.{Uberblock}
-use Rattle.pool_commit.specs.State.{NoneIsOut, State}
-use Rattle.pool_core.specs.State.{CoreState, disks_of}
+use Rattle.pool_create.specs.CommitState.{NoneIsOut, State}
+use Rattle.pool_create.specs.CoreState.{CoreState, disks_of}
 use Rattle.pool_model.specs.Pools.{PlainPool}
 use Rattle.pool_model.specs.View.{View, opened_as}
 use Rattle.pool_model.specs.declared.step.Reply.{Reply}
 use Rattle.pool_model.specs.declared.step.Step.{Step}
-use Rattle.pool_open.specs.Exporting.{IsExportBegun}
-use Rattle.pool_open.specs.Opening.{IsKeptThrough, IsOpenedOver}
-use Rattle.pool_open.specs.Stops.{fresh}
-use Rattle.pool_open.specs.Trees.{IsOpenedFor, IsTreeOf}
-use Rattle.pool_open.specs.Words.{vdevs_in}
+use Rattle.pool_create.specs.OpenExporting.{IsExportBegun}
+use Rattle.pool_create.specs.OpenOpening.{IsKeptThrough, IsOpenedOver}
+use Rattle.pool_create.specs.OpenStops.{fresh}
+use Rattle.pool_create.specs.Trees.{IsOpenedFor, IsTreeOf, NamesConfigOf}
+use Rattle.pool_create.specs.Words.{vdevs_in}
 use Rattle.pool_slots.specs.Commits.{only_last}
 use Rattle.pool_slots.specs.Opens.{CanOpen, IsClaimOf, also_begun}
 use Rattle.pool_slots.specs.Possible.{IsInReach, Possible, Trees}
@@ -62,7 +62,7 @@ StoppedOpensLead =
     → length out ≡ length old.starts → AreByGroup pools → LeadToPools old shapes out p pools → IsKeptThrough out rewind old new → IsHonestSince old new
     → LeavesImages out old new images → (later : Possible) × IsPossibleBehind p rewind later × LeadToPools (fresh images) shapes out later pools
 
--- An open of them that is done, with no disk out, gives a core of the pool of one of these, or of a group so many below; and the pool runs on.
+-- An open of them that is done, with no disk out, and a core that keeps the configuration that the claimed uberblock names, gives a core of the pool of one of these, or of a group so many below; and the pool runs on.
 pub record IsOpenedWell (p : Possible) (pools : Uberblock → PlainPool) (shapes : List VdevShape) (out : List Bool) (rewind : ℕ) (claimed : Uberblock) (core : CoreState)
     : Type 0 where
   pub opened : IsOpenedFor p pools shapes out rewind claimed core
@@ -72,7 +72,7 @@ abbrev pub LedDisksOpen : Type 0
 LedDisksOpen =
     (old : Disks) (shapes : List VdevShape) (out : List Bool) (rewind : ℕ) (p : Possible) (pools : Uberblock → PlainPool) (claimed : Uberblock) (core : CoreState)
     → LeadToPools old shapes out p pools → (is : IsOpenedOver old shapes out rewind claimed core) → is.later ≡ out → ((disk : ℕ) → is_out out disk ≡ false)
-    → length old.starts ≤ 2 ^ 64 → IsHonestSince old (disks_of core) → IsOpenedWell p pools shapes out rewind claimed core
+    → length old.starts ≤ 2 ^ 64 → NamesConfigOf claimed core → IsHonestSince old (disks_of core) → IsOpenedWell p pools shapes out rewind claimed core
 
 -- Wherever an export of a pool that runs is stopped, and once it is done: what is left may be opened, and leads to the pool of the committed group.
 abbrev pub StoppedExportsLead : Type 0
@@ -83,11 +83,12 @@ StoppedExportsLead =
 
 -- ---- the whole
 
--- all disks that a stop left were opened, and they answered truly
+-- all disks that a stop left were opened, they answered truly, and the core keeps the configuration that the claimed uberblock names
 pub record IsReopened (images : List (List ℕ)) (s : State) (rewind : ℕ) (claimed : Uberblock) (core : CoreState) : Type 0 where
   pub opened : IsOpenedOver (fresh images) (shapes_of s.store.spaces) s.store.out rewind claimed core
   pub all : opened.later ≡ s.store.out
   pub few : length images ≤ 2 ^ 64
+  pub named : NamesConfigOf claimed core
   pub honest : IsHonestSince (fresh images) (disks_of core)
 
 -- Then the core represents the pool of the last committed group or of the one whose slots were begun, or where it goes back that of a group so many

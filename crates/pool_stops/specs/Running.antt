@@ -3,22 +3,23 @@ use Rattle.std.specs.Prelude.{ℕ, suc, ◌≡◌, ◌⊎◌, ◌<◌, ◌==◌,
 use Rattle.model_disk.specs.Joint.{Disks}
 use Rattle.block_store.specs.Places.{shapes_of}
 use Rattle.uberblock_ring.specs.declared.uberblock.Uberblock.{Uberblock}
-use Rattle.pool_commit.specs.declared.kept.KeptGroup.{KeptGroup}
-use Rattle.pool_commit.specs.declared.kept.Planned.{Planned}
-use Rattle.pool_commit.specs.Backs.{pool_after}
-use Rattle.pool_commit.specs.Config.{vdevs_of}
-use Rattle.pool_commit.specs.State.{NoneIsOut, State, group_at}
-use Rattle.pool_core.specs.Represents.{Represents}
-use Rattle.pool_core.specs.Moves.{Moves}
-use Rattle.pool_core.specs.Runs.{Chain}
-use Rattle.pool_core.specs.State.{CoreState}
-use Rattle.pool_core.specs.State.{disks_of as disks_in}
-use Rattle.pool_core.specs.Steps.{Link}
+use Rattle.pool_create.specs.KeptGroup.{KeptGroup}
+use Rattle.pool_create.specs.CommitPlanned.{Planned}
+use Rattle.pool_create.specs.Backs.{pool_after}
+use Rattle.pool_create.specs.Config.{vdevs_of}
+use Rattle.pool_create.specs.CommitState.{NoneIsOut, State, group_at}
+use Rattle.pool_create.specs.Represents.{Represents}
+use Rattle.pool_create.specs.Moves.{Moves}
+use Rattle.pool_create.specs.CoreRuns.{Chain}
+use Rattle.pool_create.specs.CoreState.{CoreState}
+use Rattle.pool_create.specs.CoreState.{disks_of as disks_in}
+use Rattle.pool_create.specs.CoreSteps.{Link}
 use Rattle.pool_model.specs.Pools.{PlainPool}
 use Rattle.pool_model.specs.View.{Given, View, disks_of}
 use Rattle.pool_model.specs.declared.step.Reply.{Reply}
 use Rattle.pool_model.specs.declared.step.Step.{Step}
-use Rattle.pool_open.specs.Trees.{IsTreeOf}
+use Rattle.pool_create.specs.Trees.{IsTreeOf}
+use Rattle.pool_create.specs.Words.{stamp_of}
 use Rattle.pool_slots.specs.Commits.{AreOffLabels, LeadAlways, last_or, only_last}
 use Rattle.pool_slots.specs.Phases.{AreInBlocks}
 use Rattle.pool_slots.specs.Possible.{IsInReach, Possible, Trees}
@@ -38,11 +39,12 @@ pub record IsWhole (s : State) : Type 0 where
   pub covered : (disk : ℕ) → disk < length s.store.disks.starts → Contains (disks_of (vdevs_of s.store.spaces)) disk
   pub lie : LieBesideLabels s.store.disks.starts s.store.spaces
 
--- the uberblock is that of a kept group, whose volumes were made by it or by earlier groups
+-- the uberblock is that of a kept group, with this stamp, whose volumes were made by it or by earlier groups
 pub record IsOfKept (s : State) (v : View) (u : Uberblock) : Type 0 where
   pub kept : KeptGroup
   pub is : group_at s.kept u.group ≡ Some kept
   pub root : kept.root ≡ Some u.root
+  pub stamped : stamp_of u ≡ s.stamp
   pub made : IsMadeBy u.group (v.pools u.group)
 
 -- With no plan nothing is unflushed.

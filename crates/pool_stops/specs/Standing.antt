@@ -14,8 +14,8 @@ use Rattle.block_store.specs.Places.{IsCopy, IsLaidOut}
 use Rattle.block_store.specs.Plans.{Plans}
 use Rattle.block_store.specs.Store.{Store, Stores, outs}
 use Rattle.block_store.specs.Spaces.{VdevSpace}
-use Rattle.pool_commit.specs.Slots.{LabelsLieAside}
-use Rattle.pool_commit.specs.Writing.{IsDueWrite}
+use Rattle.pool_create.specs.Slots.{LabelsLieAside}
+use Rattle.pool_create.specs.CommitWriting.{IsDueWrite}
 use Rattle.pool_slots.specs.Commits.{LeadAlways, last_or, only_last}
 use Rattle.pool_slots.specs.Lives.{IsNextGroup}
 use Rattle.pool_slots.specs.Phases.{AreInBlocks, AreInSlots}

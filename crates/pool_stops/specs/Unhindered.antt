@@ -7,9 +7,9 @@ use Rattle.block_store.specs.Store.{is_out}
 use Rattle.block_store.specs.declared.shape.VdevShape.{VdevShape}
 use Rattle.pool_model.specs.Pools.{PlainPool}
 use Rattle.pool_model.specs.Refusals.{greatest}
-use Rattle.pool_open.specs.Opening.{IsNotOpenedOver}
-use Rattle.pool_open.specs.declared.refusal.Refusal.{Refusal}
-use Rattle.pool_open.specs.declared.refusal.Refusal.TheVariants.{NoMemory}
+use Rattle.pool_create.specs.OpenOpening.{IsNotOpenedOver}
+use Rattle.pool_create.specs.OpenRefusal.{Refusal}
+use Rattle.pool_create.specs.OpenRefusal.TheVariants.{NoMemory}
 use Rattle.pool_slots.specs.Configs.{IsConfigured}
 use Rattle.pool_slots.specs.Failures.{HasFailedOn}
 use Rattle.pool_slots.specs.Marks.{IsUsedUp}

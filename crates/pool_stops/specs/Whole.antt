@@ -6,10 +6,10 @@ use Rattle.block_store.specs.Places.{ArePlacesApart, ArePlacesIn, shapes_of}
 use Rattle.block_store.specs.Releases.{CopyAt, copies_of_all}
 use Rattle.block_store.specs.Spaces.{VdevSpace}
 use Rattle.block_store.specs.declared.shape.VdevShape.{VdevShape}
-use Rattle.dataset_snapshots.specs.Reach.{reach_of}
+use Rattle.pool_create.specs.Reach.{reach_of}
 use Rattle.dnode_tree.specs.Rewriting.{AreDistinct}
 use Rattle.pool_model.specs.Pools.{PlainPool}
-use Rattle.pool_open.specs.Trees.{IsTreeOf}
+use Rattle.pool_create.specs.Trees.{IsTreeOf}
 use Rattle.pool_slots.specs.Possible.{Trees}
 use Rattle.uberblock_ring.specs.declared.uberblock.Uberblock.{Uberblock}
 

@@ -5,17 +5,17 @@ use Rattle.raidz_io.specs.Reads.{IsHonestSince}
 use Rattle.block_store.specs.Places.{shapes_of}
 use Rattle.block_store.specs.declared.shape.VdevShape.{VdevShape}
 use Rattle.uberblock_ring.specs.declared.uberblock.Uberblock.{Uberblock}
-use Rattle.pool_commit.specs.State.{NoneIsOut}
-use Rattle.pool_core.specs.State.{CoreState, disks_of}
+use Rattle.pool_create.specs.CommitState.{NoneIsOut}
+use Rattle.pool_create.specs.CoreState.{CoreState, disks_of}
 use Rattle.pool_model.specs.Pools.{PlainPool}
 use Rattle.pool_model.specs.View.{View}
 use Rattle.pool_model.specs.declared.step.Reply.{Reply}
 use Rattle.pool_model.specs.declared.step.Step.{Step}
-use Rattle.pool_open.specs.Exporting.{IsExportBegun}
-use Rattle.pool_open.specs.Opening.{IsKeptThrough, IsNotOpenedOver}
-use Rattle.pool_open.specs.Stops.{fresh}
-use Rattle.pool_open.specs.declared.refusal.Refusal.{Refusal}
-use Rattle.pool_open.specs.declared.refusal.Refusal.TheVariants.{NoMemory}
+use Rattle.pool_create.specs.OpenExporting.{IsExportBegun}
+use Rattle.pool_create.specs.OpenOpening.{IsKeptThrough, IsNotOpenedOver}
+use Rattle.pool_create.specs.OpenStops.{fresh}
+use Rattle.pool_create.specs.OpenRefusal.{Refusal}
+use Rattle.pool_create.specs.OpenRefusal.TheVariants.{NoMemory}
 use Rattle.pool_slots.specs.Commits.{only_last}
 use Rattle.pool_slots.specs.Configs.{AreNotFour, LeavesConfigured}
 use Rattle.pool_slots.specs.Possible.{Possible}

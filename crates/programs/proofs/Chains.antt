@@ -6,10 +6,10 @@ use Rattle.pool_model.specs.declared.step.Reply.{Reply}
 use Rattle.pool_model.specs.View.{View, Given}
 use Rattle.pool_model.proofs.Whole.{headline}
 use Rattle.schedule_lines.specs.declared.command.Command.{Command}
-use Rattle.pool_core.specs.Represents.{Represents}
-use Rattle.pool_core.specs.Runs.{Chain}
-use Rattle.pool_core.specs.State.{CoreState}
-use Rattle.pool_core.proofs.Running.{run_of}
+use Rattle.pool_create.specs.Represents.{Represents}
+use Rattle.pool_create.specs.CoreRuns.{Chain}
+use Rattle.pool_create.specs.CoreState.{CoreState}
+use Rattle.pool_create.proofs.CoreRunning.{run_of}
 use Rattle.programs.specs.declared.outcome.Outcome.{Outcome}
 use Rattle.programs.specs.Answers.{Leads, Goes as GoesOn, runs_on}
 use Rattle.programs.specs.Outcomes.{IsOutcomeText, Replies}

@@ -5,7 +5,7 @@ use Rattle.std.specs.Result.{IsErrAnd, IfErr}
 use Rattle.std.specs.Io.KnownBytes.{Appends, IsAtEnd}
 use Rattle.pool_model.specs.declared.refusal.Refusal.{Refusal as Cause}
 use Rattle.schedule_lines.specs.declared.command.Line.{Line}
-use Rattle.schedule_lines.specs.declared.command.Line.TheVariants.{Skipped, Command as CommandLine}
+use Rattle.schedule_lines.specs.declared.command.Line.TheVariants.{Command as CommandLine}
 use Rattle.schedule_lines.specs.declared.command.Command.{Command}
 use Rattle.schedule_lines.specs.declared.command.Command.TheVariants.{Pool, Hold, Release, Write as WriteCommand, Create, Snapshot, Clone, Destroy, Close, Quiesced, Plan, Device, Commit, Sync, Read, Under, Stop, Reopen}
 use Rattle.schedule_lines.specs.declared.command.PoolLine.{PoolLine}
@@ -30,13 +30,13 @@ skips_none (Some bytes) k = ([], refl, refl, omega arith)
 pub skips_end : (old between : Option (List ℕ)) (k m : ℕ) → Skips old k between m → IsAtEnd between → IsSchedule old []
 skips_end old between k m skips end = (between, (skips.0, skips.1, skips.2), end)
 
--- one line that is skipped
-pub skips_more : (old between new : Option (List ℕ)) (k m n : ℕ) → Skips old k between m → ReadsLines between (Skipped ∷ []) new → n ≡ counted (m + 1) → Skips old k new n
-skips_more old between new k m n skips read number = (
-  skips.0 ++ Skipped ∷ [],
-  reads_lines_more old between new skips.0 (Skipped ∷ []) skips.1 read,
-  commands_append skips.0 (Skipped ∷ []) ∙ (append-nil (commands_of skips.0) ∙ skips.2),
-  omega (arith, skips.3, number, length-append skips.0 (Skipped ∷ [])),
+-- one line that asks for nothing
+pub skips_more : (old between new : Option (List ℕ)) (k m n : ℕ) (line : Line) → Skips old k between m → ReadsLines between (line ∷ []) new → commands_of (line ∷ []) ≡ [] → n ≡ counted (m + 1) → Skips old k new n
+skips_more old between new k m n line skips read none number = (
+  skips.0 ++ line ∷ [],
+  reads_lines_more old between new skips.0 (line ∷ []) skips.1 read,
+  commands_append skips.0 (line ∷ []) ∙ (ap (λ (c : List Command). commands_of skips.0 ++ c) none ∙ (append-nil (commands_of skips.0) ∙ skips.2)),
+  omega (arith, skips.3, number, length-append skips.0 (line ∷ [])),
 )
 
 pub reads_of : (old new : Option (List ℕ)) (k n : ℕ) (command : Command) → ReadsCommand old k command new n → Reads old (command ∷ []) new

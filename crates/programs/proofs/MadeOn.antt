@@ -3,8 +3,8 @@ use Rattle.std.proofs.Common.{◌≡◌, List}
 use Rattle.model_disk.specs.Joint.{Disks}
 use Rattle.model_disk.specs.declared.memory.MemDisk.{MemDisk}
 use Rattle.model_disk.specs.contracts.memory.MemDiskDisk.TheImpl.{ghosts}
-use Rattle.pool_core.specs.State.{CoreState}
-use Rattle.pool_core.specs.Steps.{PoolAnswersTruly}
+use Rattle.pool_create.specs.CoreState.{CoreState}
+use Rattle.pool_create.specs.CoreSteps.{PoolAnswersTruly}
 use Rattle.pool_create.specs.Creates.{IsCreatedOn}
 use Rattle.pool_format.specs.declared.labeling.PoolIdentity.{PoolIdentity}
 use Rattle.schedule_lines.specs.declared.command.PoolLine.{PoolLine}

@@ -1,14 +1,15 @@
 -- Commands between two reopenings.
-use Rattle.std.proofs.Common.{◌≡◌, ◌⊎◌, ℕ, List, [], ◌∷◌, Bool, true, false, Option, Some, None, inl, inr, refl, sym, ap, ◌∙◌, subst, if◌then◌else◌}
+use Rattle.std.proofs.Common.{◌≡◌, ◌⊎◌, ℕ, List, [], ◌∷◌, Bool, true, false, Option, Some, None, inl, inr, ⊎_elim, refl, sym, ap, ◌∙◌, subst, if◌then◌else◌}
 use Rattle.std.specs.List.{AllByRecursion}
-use Rattle.pool_core.specs.Represents.{Represents}
-use Rattle.pool_core.specs.State.{CoreState}
+use Rattle.pool_create.specs.Represents.{Represents}
+use Rattle.pool_create.specs.CoreState.{CoreState}
 use Rattle.pool_model.specs.View.{View}
 use Rattle.schedule_lines.specs.declared.command.Command.{Command}
 use Rattle.schedule_lines.specs.declared.command.StopPoint.{StopPoint}
 use Rattle.programs.specs.declared.outcome.Outcome.{Outcome}
+use Rattle.programs.specs.declared.stopping.Point.{Point}
 use Rattle.programs.specs.Answers.{IsNoStep}
-use Rattle.programs.specs.OnDisks.{ComesOf, PoolState, StopsThere, TakesSteps}
+use Rattle.programs.specs.OnDisks.{ComesOf, PoolState, RunsWhole, StopsThere, TakesSteps, point_of}
 use Rattle.programs.specs.Outcomes.{Replies}
 use Rattle.programs.specs.Plays.{Plays}
 use Rattle.programs.specs.Runs.{IsOneRun, IsStoppedRun, StepsTruly}
@@ -20,18 +21,32 @@ no_point true count absent None unset = refl
 no_point true count absent (Some point) unset = absurd (let no : Some point ≡ None = unset in cc)
 no_point false count absent stop unset = refl
 
--- with no stop set, the core that runs goes on to the next one
-pub goes_on : (old : PoolState) (command : Command) (outcome : Outcome) (new : PoolState) (core : CoreState) → old.core ≡ Some core → old.stop ≡ None
-    → TakesSteps old command outcome new → (later : CoreState) × (new.core ≡ Some later) × (new.stop ≡ None) × Replies StepsTruly core command outcome later
-goes_on old command outcome new core runs unset (inl whole) =
+-- with no stop set there is no point at which a command stops
+no_stop : (old : PoolState) (command : Command) (point : Point) → old.stop ≡ None → ¬ (point_of old command ≡ Some point)
+no_stop old command point unset set = absurd (let no : Some point ≡ None = sym set ∙ no_point _ _ _ old.stop unset in cc)
+
+-- what goes on to the next core
+abbrev GoesTo : CoreState → Command → Outcome → PoolState → Type 0
+GoesTo core command outcome new = (later : CoreState) × (new.core ≡ Some later) × (new.stop ≡ None) × Replies StepsTruly core command outcome later
+
+whole_goes : (old : PoolState) (command : Command) (outcome : Outcome) (new : PoolState) (core : CoreState) → old.core ≡ Some core → old.stop ≡ None
+    → RunsWhole old command outcome new → GoesTo core command outcome new
+whole_goes old command outcome new core runs unset whole =
     let one : whole.core ≡ core = let both : Some whole.core ≡ Some core = sym whole.runs ∙ runs in cc in (
       whole.later,
       ap (λ s. s.core) whole.same,
       ap (λ s. s.stop) whole.same ∙ unset,
       subst (λ it. Replies StepsTruly it command outcome whole.later) one whole.replies,
     )
-goes_on old command outcome new core runs unset (inr (inl short)) = absurd (let no : Some short.point ≡ None = sym short.set ∙ no_point _ _ _ old.stop unset in cc)
-goes_on old command outcome new core runs unset (inr (inr stops)) = absurd (let no : Some stops.point ≡ None = sym stops.set ∙ no_point _ _ _ old.stop unset in cc)
+
+-- with no stop set, the core that runs goes on to the next one
+pub goes_on : (old : PoolState) (command : Command) (outcome : Outcome) (new : PoolState) (core : CoreState) → old.core ≡ Some core → old.stop ≡ None
+    → TakesSteps old command outcome new → (later : CoreState) × (new.core ≡ Some later) × (new.stop ≡ None) × Replies StepsTruly core command outcome later
+goes_on old command outcome new core runs unset takes = ⊎_elim
+    (λ whole. whole_goes old command outcome new core runs unset whole)
+    (λ stopped. ⊎_elim
+    (λ short. absurd (no_stop old command short.point unset short.set))
+    (λ stops. absurd (no_stop old command stops.point unset stops.set)) stopped) takes
 
 module _ {M : Type 0} (show : M → PoolState) where
   abbrev Came : M → Command → Outcome → M → Type 0

@@ -2,7 +2,7 @@
 use Rattle.std.proofs.Common.{◌≡◌, ℕ, List, [], ◌∷◌, ◌++◌, Option, Some, None, refl, sym, ap, ◌∙◌, subst}
 use Rattle.std.specs.Io.BufRead.{drop_through}
 use Rattle.schedule_lines.specs.declared.command.Line.{Line}
-use Rattle.schedule_lines.specs.declared.command.Line.TheVariants.{Skipped, Command as CommandLine}
+use Rattle.schedule_lines.specs.declared.command.Line.TheVariants.{Skipped, Threads, Command as CommandLine}
 use Rattle.schedule_lines.specs.declared.command.Command.{Command}
 use Rattle.programs.specs.Reads.{AreLines, ReadsLines, Reads, IsSchedule, commands_of}
 
@@ -19,6 +19,7 @@ reads_lines_more (Some bytes) (Some rest) (Some end) lines more h k = are_lines_
 pub commands_append : (lines more : List Line) → commands_of (lines ++ more) ≡ commands_of lines ++ commands_of more
 commands_append [] more = refl
 commands_append (Skipped ∷ lines) more = commands_append lines more
+commands_append (Threads ∷ lines) more = commands_append lines more
 commands_append (CommandLine command ∷ lines) more = ap (λ (commands : List Command). command ∷ commands) (commands_append lines more)
 
 pub reads_append : (old between new : Option (List ℕ)) (commands more : List Command) → Reads old commands between → Reads between more new → Reads old (commands ++ more) new

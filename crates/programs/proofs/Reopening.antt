@@ -2,10 +2,10 @@
 use Rattle.std.proofs.Common.{◌≡◌, ◌⊎◌, inl, inr, List, Some, None, refl, sym, ap, ◌∙◌, subst}
 use Rattle.model_disk.specs.contracts.memory.MemDiskDisk.TheImpl.{ghosts}
 use Rattle.model_disk.specs.declared.memory.MemDisk.{MemDisk}
-use Rattle.pool_core.specs.State.{CoreState}
-use Rattle.pool_open.specs.Opens.{IsOpened, OpenRefuses, refusal_of}
-use Rattle.pool_open.specs.declared.handed_in.NotOpened.{NotOpened}
-use Rattle.pool_open.specs.declared.refusal.Refusal.{Refusal}
+use Rattle.pool_create.specs.CoreState.{CoreState}
+use Rattle.pool_create.specs.Opens.{IsOpened, OpenRefuses, refusal_of}
+use Rattle.pool_create.specs.NotOpened.{NotOpened}
+use Rattle.pool_create.specs.OpenRefusal.{Refusal}
 use Rattle.schedule_lines.specs.declared.command.ReopenLine.{ReopenLine}
 use Rattle.uberblock_ring.specs.declared.uberblock.Uberblock.{Uberblock}
 use Rattle.programs.specs.DisksKept.{AreCopies, present}

@@ -2,7 +2,7 @@
 use Rattle.std.proofs.Common.{◌≡◌, ℕ, List, [], ◌∷◌, Bool, true, false, Option, Some, None, MatchOption, Result, Ok, Err}
 use Rattle.std.specs.Result.{IfOk}
 use Rattle.model_disk.specs.declared.memory.MemDisk.{MemDisk}
-use Rattle.pool_core.specs.State.{CoreState}
+use Rattle.pool_create.specs.CoreState.{CoreState}
 use Rattle.pool_model.specs.declared.step.Step.{Step}
 use Rattle.pool_model.specs.declared.step.Reply.{Reply}
 use Rattle.schedule_lines.specs.declared.command.Command.{Command}

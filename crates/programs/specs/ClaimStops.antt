@@ -14,7 +14,7 @@ use Rattle.model_disk.specs.declared.fault.FaultDisk.{FaultDisk}
 use Rattle.model_disk.specs.declared.member.Member.{Member}
 use Rattle.model_disk.specs.declared.memory.MemDisk.{MemDisk}
 use Rattle.block_store.specs.declared.shape.VdevShape.{VdevShape}
-use Rattle.pool_open.specs.Opens.{AreInOrder}
+use Rattle.pool_create.specs.Opens.{AreInOrder}
 use Rattle.pool_slots.specs.Configs.{OpenConfigures}
 use Rattle.pool_slots.specs.Failures.{HasFailedOn}
 use Rattle.pool_slots.specs.Labels.{IsClaimWrite}

@@ -7,8 +7,8 @@ use Rattle.model_disk.specs.MemDisk.{start_of, calls_of}
 use Rattle.model_disk.specs.Memory.{AreAllZeros, HaveSize}
 use Rattle.model_disk.specs.contracts.memory.MemDiskDisk.TheImpl.{ghosts}
 use Rattle.model_disk.specs.declared.memory.MemDisk.{MemDisk}
-use Rattle.pool_core.specs.Represents.{Represents}
-use Rattle.pool_core.specs.State.{CoreState}
+use Rattle.pool_create.specs.Represents.{Represents}
+use Rattle.pool_create.specs.CoreState.{CoreState}
 use Rattle.pool_create.specs.Creates.{CreateRefusesOn, IsCreatedOn}
 use Rattle.pool_create.specs.Planning.{nobody}
 use Rattle.pool_format.specs.declared.labeling.PoolIdentity.{PoolIdentity}
@@ -16,9 +16,9 @@ use Rattle.pool_model.specs.Pools.{no_volumes}
 use Rattle.pool_model.specs.View.{opened_as}
 use Rattle.pool_model.specs.declared.refusal.Refusal.{Refusal as Cause}
 use Rattle.pool_model.specs.declared.refusal.Refusal.TheVariants as cause
-use Rattle.pool_open.specs.Words.{vdevs_in}
-use Rattle.pool_open.specs.declared.refusal.Refusal.{Refusal}
-use Rattle.pool_open.specs.declared.refusal.Refusal.TheVariants.{NoMemory, DiskFault, NoSpace, BadLabel, NoUberblock, BadPointer, BadDigest, TooManyMissing, PoolMismatch, BadConfig, BadMap}
+use Rattle.pool_create.specs.Words.{vdevs_in}
+use Rattle.pool_create.specs.OpenRefusal.{Refusal}
+use Rattle.pool_create.specs.OpenRefusal.TheVariants.{NoMemory, DiskFault, NoSpace, BadLabel, NoUberblock, BadPointer, BadDigest, TooManyMissing, PoolMismatch, BadConfig, BadMap}
 use Rattle.schedule_lines.specs.declared.command.PoolLine.{PoolLine}
 use Rattle.uberblock_ring.specs.declared.uberblock.Uberblock.{Uberblock}
 use Rattle.vdev_label.specs.Plain.{PlainVdev, config_view}
@@ -101,7 +101,8 @@ pub record IsUnmade (line : PoolLine) (why : Cause) : Type 0 where
   pub config : Config
   pub asked : IsAsked line pool config
   pub refusal : Refusal
-  pub refused : CreateRefusesOn ghosts disks pool config refusal
+  pub back : List MemDisk
+  pub refused : CreateRefusesOn ghosts disks pool config back refusal
   pub same : why ≡ cause_of refusal
 
 -- why a line makes no pool on disks

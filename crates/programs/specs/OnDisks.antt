@@ -1,16 +1,17 @@
 -- A pool on disks that outlive it: what comes of the commands of a schedule.
-use Rattle.std.specs.Prelude.{◌≡◌, ◌⊎◌, ℕ, ◌≤◌, List, map, length, Option, Some, None, option_map, if◌then◌else◌}
+use Rattle.std.specs.Prelude.{◌≡◌, ◌⊎◌, ℕ, ◌≤◌, Bool, true, false, nat_le, List, map, length, Option, Some, None, option_map, if◌then◌else◌}
+use Rattle.std.specs.List.{list_any}
 use Rattle.model_disk.specs.Joint.{calls_on, log_of}
 use Rattle.model_disk.specs.Member.{start_of, calls_of}
 use Rattle.model_disk.specs.contracts.memory.MemDiskDisk.TheImpl.{ghosts}
 use Rattle.model_disk.specs.declared.memory.MemDisk.{MemDisk}
 use Rattle.model_disk.specs.declared.member.Member.{Member}
-use Rattle.pool_core.specs.State.{CoreState, disks_of}
-use Rattle.pool_core.specs.StateOf.{state_of as core_state}
+use Rattle.pool_create.specs.CoreState.{CoreState, disks_of}
+use Rattle.pool_create.specs.CoreStateOf.{state_of as core_state}
 use Rattle.pool_model.specs.declared.step.Step.{Step}
 use Rattle.pool_model.specs.declared.step.Reply.{Reply}
-use Rattle.pool_open.specs.Opens.{IsOpened, OpenRefuses, refusal_of}
-use Rattle.pool_open.specs.declared.handed_in.NotOpened.{NotOpened}
+use Rattle.pool_create.specs.Opens.{IsOpened, OpenRefuses, refusal_of}
+use Rattle.pool_create.specs.NotOpened.{NotOpened}
 use Rattle.schedule_lines.specs.declared.command.Command.{Command}
 use Rattle.schedule_lines.specs.declared.command.Command.TheVariants.{Stop, Reopen}
 use Rattle.schedule_lines.specs.declared.command.ReopenLine.{ReopenLine}
@@ -31,7 +32,7 @@ use Rattle.programs.specs.Stops.{FallsShort, StopsAt, commit_point}
 -- what a pool shows
 pub record PoolState : Type 0 where
   pub core : Option CoreState  -- while it runs
-  pub disks : List MemDisk  -- all of them, by number; those that a core has are as they were when it was made or opened
+  pub disks : List MemDisk  -- all of them, by number; behind those that a core has, what it doesn't read, until it is dropped
   pub absent : List ℕ  -- the numbers that are left out
   pub stop : Option StopPoint
 
@@ -156,16 +157,22 @@ pub record StopsInClaim (old : PoolState) (line : ReopenLine) (outcome : Outcome
 
 -- ---- commands
 
+-- one of these numbers is that of no disk, where there are so many
+abbrev pub names_no_disk : List ℕ → ℕ → Bool
+names_no_disk numbers count = list_any (λ number. nat_le count number) numbers
+
 -- what comes of a command, and the pool after it
 abbrev pub ComesOf : PoolState → Command → Outcome → PoolState → Type 0
 ComesOf old command outcome new =
     ((point : StopPoint) × (command ≡ Stop point) × (outcome ≡ StopIsSet) × (new ≡ record old { stop = Some point }))
-    ⊎ (((line : ReopenLine) × (command ≡ Reopen line) × (Reopens old line outcome new ⊎ StopsInClaim old line outcome new))
+    ⊎ (((line : ReopenLine) × (command ≡ Reopen line) × (names_no_disk line.absent (length old.disks) ≡ false)
+    × (Reopens old line outcome new ⊎ StopsInClaim old line outcome new))
     ⊎ ((¬ IsNoStep command) × TakesSteps old command outcome new))
 
--- The commands that can't stand there: one for a first line; a step where nothing runs; and a reopening that goes back further than a line can say.
+-- The commands that can't stand there: one for a first line; a step where nothing runs; and a reopening that goes back further than a line can say,
+-- or leaves out a disk that isn't there.
 abbrev pub CannotStand : PoolState → Command → Type 0
 CannotStand pool command =
     IsFirst command
     ⊎ (((¬ IsNoStep command) × (pool.core ≡ None))
-    ⊎ ((line : ReopenLine) × (command ≡ Reopen line) × (3 ≤ line.rewind)))
+    ⊎ ((line : ReopenLine) × (command ≡ Reopen line) × ((3 ≤ line.rewind) ⊎ (names_no_disk line.absent (length pool.disks) ≡ true))))

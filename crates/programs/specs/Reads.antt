@@ -3,7 +3,7 @@ use Rattle.std.specs.Prelude.{◌≡◌, ◌≢◌, ℕ, List, [], ◌∷◌, Op
 use Rattle.std.specs.Io.BufRead.{first_piece, drop_through}
 use Rattle.std.specs.Io.KnownBytes.{IsAtEnd}
 use Rattle.schedule_lines.specs.declared.command.Line.{Line}
-use Rattle.schedule_lines.specs.declared.command.Line.TheVariants.{Skipped, Command as CommandLine}
+use Rattle.schedule_lines.specs.declared.command.Line.TheVariants.{Skipped, Threads, Command as CommandLine}
 use Rattle.schedule_lines.specs.declared.command.Command.{Command}
 use Rattle.schedule_lines.specs.Grammar.{Spells}
 
@@ -18,10 +18,11 @@ ReadsLines None lines new = Unit {0}
 ReadsLines (Some bytes) lines None = ⊥
 ReadsLines (Some bytes) lines (Some rest) = AreLines bytes lines rest
 
--- those that are not skipped
+-- those that ask for something
 abbrev pub commands_of : List Line → List Command
 commands_of [] = []
 commands_of (Skipped ∷ lines) = commands_of lines
+commands_of (Threads ∷ lines) = commands_of lines
 commands_of (CommandLine command ∷ lines) = command ∷ commands_of lines
 
 -- these commands are read

@@ -6,12 +6,12 @@ use Rattle.pool_model.specs.View.{View, Given}
 use Rattle.pool_model.specs.Headline.{Headline}
 use Rattle.schedule_lines.specs.declared.command.Command.{Command}
 use Rattle.schedule_lines.specs.Replies.{IsReplyText}
-use Rattle.pool_commit.specs.Calls.{GrewTo}
-use Rattle.pool_core.specs.Represents.{Represents}
-use Rattle.pool_core.specs.Moves.{Moves}
-use Rattle.pool_core.specs.Runs.{AreTrusted, Chain}
-use Rattle.pool_core.specs.State.{CoreState, disks_of}
-use Rattle.pool_core.specs.Steps.{Goes}
+use Rattle.pool_create.specs.Calls.{GrewTo}
+use Rattle.pool_create.specs.Represents.{Represents}
+use Rattle.pool_create.specs.Moves.{Moves}
+use Rattle.pool_create.specs.CoreRuns.{AreTrusted, Chain}
+use Rattle.pool_create.specs.CoreState.{CoreState, disks_of}
+use Rattle.pool_create.specs.CoreSteps.{Goes}
 use Rattle.programs.specs.Answers.{Begins, next_of}
 
 -- a step of a core whose disks answer truly

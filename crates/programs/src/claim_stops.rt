@@ -9,7 +9,7 @@ ghost use Rattle.programs.specs.DisksKept.{present};
 use crate::disks_kept::copy_of;
 use crate::stopping::is_left_out;
 use model_disk::{Disk, DiskArray, Fault, FaultDisk, MemDisk, Member};
-use pool_open::{FoundPool, find};
+use pool_create::{FoundPool, find};
 use pool_slots::{claim, survey_present};
 use std::alloc::{AllocError, Global};
 

@@ -101,7 +101,7 @@ fn under_step(line: UnderLine) -> Step
 }
 
 /// The first step of a command, or none where the command is no step of a pool.
-pub(crate) fn first_step(alloc: Global, command: Command) -> Result<Option<Step>, AllocError>
+pub fn first_step(alloc: Global, command: Command) -> Result<Option<Step>, AllocError>
     ensures { IfOk result (λ found. MatchOption found (IsNoStep command) (λ s. Begins command s)) }
 {
     Ok(Some(match command {
@@ -125,7 +125,7 @@ pub(crate) fn first_step(alloc: Global, command: Command) -> Result<Option<Step>
 }
 
 /// The step that brings the group of a reply on, unless it is committed or refused.
-pub(crate) fn next_step(reply: &Reply) -> Option<Step>
+pub fn next_step(reply: &Reply) -> Option<Step>
     ensures { result ≡ next_of reply.now }
 {
     match reply {

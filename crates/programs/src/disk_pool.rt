@@ -2,8 +2,8 @@
 ghost use Rattle.std.specs.Prelude.{ℕ, List, [], ◌∷◌, IfSome, IfNone};
 ghost use Rattle.std.specs.Option.{SomeIff};
 ghost use Rattle.pool_model.specs.View.{View};
-ghost use Rattle.pool_core.specs.Represents.{Represents};
-ghost use Rattle.pool_core.specs.StateOf.{state_of};
+ghost use Rattle.pool_create.specs.Represents.{Represents};
+ghost use Rattle.pool_create.specs.CoreStateOf.{state_of};
 ghost use Rattle.programs.specs.Outcomes.{Replies};
 ghost use Rattle.programs.specs.Plays.{Plays};
 ghost use Rattle.programs.specs.Runs.{StepsTruly, IsOneRun};
@@ -13,11 +13,12 @@ ghost use Rattle.schedule_lines.specs.declared.command.Command.{Command};
 use crate::machine::StepMachine;
 use block_store::{MAX_METASLAB_SHIFT, MIN_METASLAB_SHIFT, VdevConfig, sectors_for_blocks};
 use model_disk::MemDisk;
-use pool_core::Core;
+use pool_create::Core;
 use pool_model::{Refusal, Reply, Step};
 use raidz_map::{Geometry, SECTOR_SHIFT};
 use schedule_lines::PoolLine;
 use std::alloc::Global;
+use vdev_label::MAX_SLABS;
 
 /// How many metaslabs a vdev has over disks of that size in bytes, where they are neither too small nor
 /// too large.
@@ -45,16 +46,17 @@ pub(crate) fn vdev_of(line: &PoolLine) -> Option<VdevConfig>
         metaslab_shift: line.metaslab_shift,
         meta_slabs: u64::from(line.meta_metaslabs),
     };
-    if vdev.meta_slabs == 0 || metaslabs(vdev, line.bytes)? <= vdev.meta_slabs {
+    let metaslabs = metaslabs(vdev, line.bytes)?;
+    if vdev.meta_slabs == 0 || metaslabs <= vdev.meta_slabs || MAX_SLABS < metaslabs {
         return None;
     }
     Some(vdev)
 }
 
 impl StepMachine for Core<MemDisk> {
-    ghost use Rattle.pool_commit.specs.Started.{started_on_disks};
-    ghost use Rattle.pool_core.specs.Represents.{Represents};
-    ghost use Rattle.pool_core.specs.StateOf.{state_of};
+    ghost use Rattle.pool_create.specs.Started.{started_on_disks};
+    ghost use Rattle.pool_create.specs.Represents.{Represents};
+    ghost use Rattle.pool_create.specs.CoreStateOf.{state_of};
     ghost use Rattle.programs.specs.Runs.{StepsTruly};
     ghost use Rattle.programs.specs.Vdevs.{vdev_of, RefusesPool};
 
@@ -66,8 +68,8 @@ impl StepMachine for Core<MemDisk> {
     // Disks in memory answer truly, so that nothing is asked of them.
     ghost steps = { λ old step reply new. StepsTruly (state_of old) step reply (state_of new) };
 
-    /// At least one metaslab is for the pool's own blocks, and one for others: else it is `BadConfig`, as
-    /// where a size or the shape isn't allowed.
+    /// At least one metaslab is for the pool's own blocks, and one for others, and there are at most 1,024: else it is
+    /// `BadConfig`, as where a size or the shape isn't allowed. This is judged before memory is taken for the disks.
     fn create(alloc: Global, line: &PoolLine) -> Result<Core<MemDisk>, Refusal> {
         let Some(vdev) = vdev_of(line) else {
             return Err(Refusal::BadConfig);

@@ -18,10 +18,12 @@ mod status;
 mod stopping;
 mod written;
 
-pub use commands::answer;
+pub use commands::{answer, first_step, next_step};
 pub use disk_pool::schedules_are_runs;
+pub use lines::Lines;
 pub use machine::StepMachine;
 pub use outcome::{Outcome, outcome_text};
+pub use pool_create::Core;
 pub use pool_on_disks::{PoolOnDisks, commands_are_runs, stopped_commits_are_runs};
 pub use refusal::Refusal;
 pub use running::schedule;

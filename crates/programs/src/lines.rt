@@ -3,7 +3,7 @@ ghost use Rattle.std.specs.Prelude.{◌≡◌, ◌+◌, [], ◌∷◌, MatchOpti
 ghost use Rattle.std.specs.Io.BufRead.{strip_last};
 ghost use Rattle.std.specs.Io.KnownBytes.{IsAtEnd};
 ghost use Rattle.programs.specs.Faults.{IsLineFault, IsNextFault, ReadsCommand, counted};
-ghost use Rattle.programs.specs.Reads.{IsSchedule, ReadsLines};
+ghost use Rattle.programs.specs.Reads.{IsSchedule, ReadsLines, commands_of};
 
 use crate::refusal::Refusal;
 use schedule_lines::{Command, Line, parse};
@@ -16,6 +16,17 @@ fn without_line_feed(line: &[u8]) -> &[u8]
     match line {
         [front @ .., b'\n'] => front,
         _ => line,
+    }
+}
+
+/// The command of a line: none of a line that is skipped, or that only threads look at.
+fn command_in(line: Line) -> Option<Command>
+    ensures { MatchOption result (commands_of (line ∷ []) ≡ [])
+        (λ command. line ≡ Line.Command command) }
+{
+    match line {
+        Line::Command(command) => Some(command),
+        Line::Skipped | Line::Threads => None,
     }
 }
 
@@ -47,7 +58,7 @@ impl<R: BufRead + Drop> Lines<R> {
         Refusal::Line(self.count)
     }
 
-    /// The command of the next line that isn't skipped, or none at the end of the input.
+    /// The next command, or none at the end of the input.
     pub fn next_command(&mut self, alloc: Global) -> Result<Option<Command>, Refusal>
         ensures found { IfOk result (λ found. MatchOption found
             (IsSchedule (R.remaining self.old.input) [])
@@ -57,17 +68,18 @@ impl<R: BufRead + Drop> Lines<R> {
             (IsLineFault (R.remaining self.old.input) self.old.count) }
     {
         for _ in 0..u64::MAX {
-            match self.next_line(alloc)? {
-                None => return Ok(None),
-                Some(Line::Skipped) => {}
-                Some(Line::Command(command)) => return Ok(Some(command)),
+            let Some(line) = self.next_line(alloc)? else {
+                return Ok(None);
+            };
+            if let Some(command) = command_in(line) {
+                return Ok(Some(command));
             }
         }
         Err(Refusal::Input)
     }
 
     /// What the next line says, or none at the end of the input.
-    fn next_line(&mut self, alloc: Global) -> Result<Option<Line>, Refusal>
+    pub fn next_line(&mut self, alloc: Global) -> Result<Option<Line>, Refusal>
         ensures found { IfOk result (λ found. MatchOption found
             (IsAtEnd (R.remaining self.old.input))
             (λ line. ReadsLines (R.remaining self.old.input) (line ∷ [])

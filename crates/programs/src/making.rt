@@ -1,7 +1,7 @@
 //! The pool's core on disks that a schedule makes.
 ghost use Rattle.std.specs.Prelude.{◌≡◌, ◌∷◌, [], IfErr, IfOk};
 ghost use Rattle.block_store.specs.Config.{sectors_of};
-ghost use Rattle.pool_core.specs.StateOf.{state_of};
+ghost use Rattle.pool_create.specs.CoreStateOf.{state_of};
 ghost use Rattle.programs.specs.Making.{IsAsked, IsMadeOn, RefusesOnDisks, cause_of, child_guids, plain_vdev};
 ghost use Rattle.vdev_label.specs.Plain.{config_view};
 
@@ -9,8 +9,7 @@ use crate::disk_pool::vdev_of;
 use crate::machine::StepMachine;
 use block_store::sectors_for_blocks;
 use model_disk::{MemDisk, Member};
-use pool_core::Core;
-use pool_create::create;
+use pool_create::{Core, create};
 use pool_format::PoolIdentity;
 use pool_model::{Refusal, Reply, Step};
 use schedule_lines::PoolLine;
@@ -59,21 +58,21 @@ fn asked(alloc: Global, line: &PoolLine, sectors: u64) -> Result<(PoolIdentity, 
 }
 
 /// The cause that is printed of a refusal.
-fn cause_of(refusal: pool_open::Refusal) -> Refusal
+fn cause_of(refusal: pool_create::Refusal) -> Refusal
     ensures { result ≡ cause_of refusal }
 {
     match refusal {
-        pool_open::Refusal::NoMemory => Refusal::NoMemory,
-        pool_open::Refusal::DiskFault => Refusal::DiskFault,
-        pool_open::Refusal::NoSpace => Refusal::NoSpace,
-        pool_open::Refusal::BadPointer => Refusal::BadPointer,
-        pool_open::Refusal::BadDigest => Refusal::BadDigest,
-        pool_open::Refusal::BadMap => Refusal::BadMap,
-        pool_open::Refusal::BadLabel(_)
-        | pool_open::Refusal::NoUberblock
-        | pool_open::Refusal::TooManyMissing
-        | pool_open::Refusal::PoolMismatch
-        | pool_open::Refusal::BadConfig => Refusal::BadConfig,
+        pool_create::Refusal::NoMemory => Refusal::NoMemory,
+        pool_create::Refusal::DiskFault => Refusal::DiskFault,
+        pool_create::Refusal::NoSpace => Refusal::NoSpace,
+        pool_create::Refusal::BadPointer => Refusal::BadPointer,
+        pool_create::Refusal::BadDigest => Refusal::BadDigest,
+        pool_create::Refusal::BadMap => Refusal::BadMap,
+        pool_create::Refusal::BadLabel(_)
+        | pool_create::Refusal::NoUberblock
+        | pool_create::Refusal::TooManyMissing
+        | pool_create::Refusal::PoolMismatch
+        | pool_create::Refusal::BadConfig => Refusal::BadConfig,
     }
 }
 
@@ -94,12 +93,12 @@ fn made(alloc: Global, line: &PoolLine, sectors: u64) -> Result<Core<Member<MemD
             opened.core.answers_are_true();
             Ok(opened.core)
         }
-        Err(refusal) => Err(cause_of(refusal)),
+        Err((refusal, _)) => Err(cause_of(refusal)),
     }
 }
 
 impl StepMachine for Core<Member<MemDisk>> {
-    ghost use Rattle.pool_core.specs.StateOf.{state_of};
+    ghost use Rattle.pool_create.specs.CoreStateOf.{state_of};
     ghost use Rattle.programs.specs.Making.{IsMadeOn, RefusesOnDisks};
     ghost use Rattle.programs.specs.Runs.{StepsTruly};
 

@@ -18,15 +18,20 @@ pub enum Outcome {
     /// The disks were opened again: the group that the pool stands at, and its claim.
     Opened { group: u64, claim: u64 },
     /// They were not.
-    Unopened(pool_open::Refusal),
+    Unopened(pool_create::Refusal),
 }
 
-fn unopened_text(alloc: Global, refusal: &pool_open::Refusal) -> Result<String, AllocError>
+fn unopened_text(alloc: Global, refusal: &pool_create::Refusal) -> Result<String, AllocError>
     ensures { IfOk result (λ text. string_bytes text ≡ unopened_text refusal.now) }
 {
     let number = refusal.number();
     let name = refusal.name();
-    format!(in alloc; "refused {number} {name}")
+    let argument = refusal.argument();
+    if argument.is_empty() {
+        format!(in alloc; "refused {number} {name}")
+    } else {
+        format!(in alloc; "refused {number} {name} {argument}")
+    }
 }
 
 /// What is printed of an outcome, without a line feed.

@@ -1,14 +1,14 @@
 //! Pools on disks that outlive them: they can be stopped, and their disks opened again.
 ghost use Rattle.std.specs.Prelude.{◌≡◌, ◌<◌, ◌⊎◌, ℕ, List, None, Some, IfOk, MatchOption};
 ghost use Rattle.std.specs.List.{AllByRecursion};
-ghost use Rattle.pool_core.specs.Represents.{Represents};
-ghost use Rattle.pool_core.specs.State.{CoreState};
-ghost use Rattle.pool_core.specs.StateOf.{state_of as core_state};
+ghost use Rattle.pool_create.specs.Represents.{Represents};
+ghost use Rattle.pool_create.specs.CoreState.{CoreState};
+ghost use Rattle.pool_create.specs.CoreStateOf.{state_of as core_state};
 ghost use Rattle.pool_model.specs.View.{View};
 ghost use Rattle.schedule_lines.specs.declared.command.Command.{Command};
 ghost use Rattle.programs.specs.Answers.{IsNoStep};
 ghost use Rattle.programs.specs.OnDisks.{Closes, ComesOf, GoesOn, KeepsClaim, PoolState, Reopens, RunsShort, RunsWhole};
-ghost use Rattle.programs.specs.OnDisks.{StopsInClaim, StopsThere, TakesSteps, claim_stop, point_of, state_of};
+ghost use Rattle.programs.specs.OnDisks.{StopsInClaim, StopsThere, TakesSteps, claim_stop, names_no_disk, point_of, state_of};
 ghost use Rattle.programs.specs.Plays.{Plays};
 ghost use Rattle.programs.specs.Runs.{IsOneRun, IsStoppedRun};
 ghost use Rattle.programs.specs.declared.outcome.Outcome.{Outcome as Printed};
@@ -21,9 +21,8 @@ use crate::outcome::Outcome;
 use crate::schedule_pool::SchedulePool;
 use crate::stopping::{Point, commit_point, run_to};
 use model_disk::{MemDisk, Member};
-use pool_core::Core;
+use pool_create::{Core, OpenedPool, open};
 use pool_model::Refusal;
-use pool_open::{OpenedPool, open};
 use schedule_lines::{Command, PoolLine, ReopenLine, StopPoint};
 use std::alloc::{AllocError, Global};
 
@@ -37,12 +36,25 @@ fn claim_stop(stop: Option<StopPoint>) -> Option<u32>
     }
 }
 
+/// Whether one of these numbers is that of no disk, where there are so many.
+fn names_no_disk(numbers: &[u32], count: usize) -> bool
+    ensures { result ≡ names_no_disk numbers.now count }
+{
+    for i in 0..numbers.len() {
+        if count <= numbers[i] as usize {
+            return true;
+        }
+    }
+    false
+}
+
 /// A pool on disks in memory that outlive it.
 #[derive(Drop)]
 pub struct PoolOnDisks {
     /// The pool, while it runs.
     core: Option<Core<Member<MemDisk>>>,
-    /// All disks, by number. Those that a core has are as they were when it was made or opened.
+    /// All disks, by number. In the place of those that a core has stands what isn't looked at until it is dropped: disks without a
+    /// byte behind a pool that was just made.
     disks: Vec<MemDisk>,
     /// The numbers of the disks that are left out.
     absent: Vec<u32>,
@@ -183,7 +195,7 @@ impl PoolOnDisks {
         self.absent = line.absent.into_vec();
         let handed_in = copies(alloc, &self.disks, &self.absent)?;
         match open(alloc, handed_in, line.rewind) {
-            Ok(opened) => self.go_on(alloc, opened, line.rewind),
+            Ok((opened, _)) => self.go_on(alloc, opened, line.rewind),
             Err(failed) => Ok(Outcome::Unopened(failed.refusal())),
         }
     }
@@ -204,7 +216,7 @@ impl SchedulePool for PoolOnDisks {
 
     fn create(alloc: Global, line: &PoolLine) -> Result<PoolOnDisks, Refusal> {
         let core = <Core<Member<MemDisk>> as StepMachine>::create(alloc, line)?;
-        let Ok(disks) = MemDisk::several(alloc, line.disks as usize, line.bytes as usize) else {
+        let Ok(disks) = MemDisk::several(alloc, line.disks as usize, 0) else {
             return Err(Refusal::NoMemory);
         };
         Ok(PoolOnDisks {
@@ -227,7 +239,7 @@ impl SchedulePool for PoolOnDisks {
                 Ok(Some(Outcome::StopIsSet))
             }
             Command::Reopen(line) => {
-                if line.rewind >= 3 {
+                if line.rewind >= 3 || names_no_disk(line.absent.as_slice(), self.disks.len()) {
                     return Ok(None);
                 }
                 Ok(Some(self.reopen(alloc, line)?))

@@ -6,3 +6,5 @@ pub mod Commands
 pub mod Lines
 pub mod Printing
 pub mod RunLists
+pub mod Spelling
+pub mod Alike

@@ -8,7 +8,7 @@ use Rattle.std.proofs.lemmas.List.{append-nil}
 use Rattle.std.proofs.lemmas.List.Splits.{join_with_byte-slice_split}
 use Rattle.std.proofs.lemmas.Slice.Eq.{bytes_eq-Decides}
 use Rattle.schedule_lines.specs.declared.command.Line.{Line}
-use Rattle.schedule_lines.specs.declared.command.Line.TheVariants.{Skipped, Command as CommandLine}
+use Rattle.schedule_lines.specs.declared.command.Line.TheVariants.{Skipped, Threads, Command as CommandLine}
 use Rattle.schedule_lines.specs.declared.command.Command.{Command}
 use Rattle.schedule_lines.specs.declared.command.Command.TheVariants.{Pool, Hold, Release, Write, Create, Snapshot, Clone, Destroy, Close, Quiesced, Plan, Device, Commit, Sync, Read, Under, Stop, Reopen}
 use Rattle.schedule_lines.specs.declared.command.StopPoint.TheVariants.{Blocks, Slots, Claim}
@@ -18,7 +18,7 @@ use Rattle.schedule_lines.specs.declared.refusal.Refusal.{Refusal}
 use Rattle.schedule_lines.specs.declared.refusal.Refusal.TheVariants.{Fault, NoMemory}
 use Rattle.schedule_lines.specs.Grammar.{words_of, NumbersFit, IsWord, Spells}
 use Rattle.schedule_lines.specs.Keywords.{keyword_text, keywords, keyword_of}
-use Rattle.schedule_lines.specs.Reading.{Gives, word_at, end_at, number_at, pool_at, write_at, create_at, snapshot_at, clone_at, destroy_at, read_at, under_at, stop_at, reopen_at, of_read, command_at, whole_command, line_of}
+use Rattle.schedule_lines.specs.Reading.{Gives, word_at, end_at, number_at, pool_at, write_at, create_at, snapshot_at, clone_at, destroy_at, read_at, under_at, stop_at, reopen_at, of_read, command_at, whole_command, said_line, line_of}
 use Rattle.schedule_lines.proofs.Fields.{bind_some, some, some_is, Words, IsFull, word_taken, number_taken, number_read, Number}
 use Rattle.schedule_lines.proofs.Commands.{Taken, onto, pool_taken, pool_read, write_taken, write_read, create_taken, create_read, snapshot_taken, snapshot_read, clone_taken, clone_read, destroy_taken, destroy_read, read_taken, read_read, under_taken, under_read, stop_taken, stop_read, reopen_taken, reopen_read, of_read_some, chosen}
 use Rattle.schedule_lines.proofs.Splitting.{is_space, Spaceless, split_joined, parts_spaceless}
@@ -228,23 +228,31 @@ command_spelled bytes c taken =
     let spaceless : AllByRecursion Spaceless (words_of c) = subst (AllByRecursion Spaceless) words (parts_spaceless bytes) in
     (record { words = both_by_recursion (words_of c) taken.full spaceless; numbers = taken.fits }, sym (join_with_byte-slice_split 32 bytes) ∙ ap (join_with_byte 32) words)
 
+said_spelled : (bytes : List ℕ) (line : Line) → said_line bytes ≡ Some line → Spells line bytes
+unfolding said_line
+said_spelled bytes line e =
+    elim (chosen (bytes_eq bytes (codes "threads")) (some Threads) (whole_command (slice_split is_space bytes)) (Some line) e) [
+      | inl threads ↦ subst (λ (l : Line). Spells l bytes) (some_is Threads line threads.1) ((bytes_eq-Decides bytes (codes "threads")).0 threads.0)
+      | inr other ↦
+          let w = whole_taken (slice_split is_space bytes) line other.1 in
+          subst (λ (l : Line). Spells l bytes) w.1 (command_spelled bytes w.0 w.2)
+    ]
+
 pub line_spelled : (bytes : List ℕ) (line : Line) → line_of bytes ≡ Some line → Spells line bytes
 unfolding line_of
 line_spelled [] line e = subst (λ (l : Line). Spells l []) (some_is Skipped line e) tt
 line_spelled (b ∷ bytes) line e =
-    elim (chosen (nat_eq b 35) (some Skipped) (whole_command (slice_split is_space (b ∷ bytes))) (Some line) e) [
+    elim (chosen (nat_eq b 35) (some Skipped) (said_line (b ∷ bytes)) (Some line) e) [
       | inl skipped ↦ subst (λ (l : Line). Spells l (b ∷ bytes)) (some_is Skipped line skipped.1) (eqb-true b 35 skipped.0)
-      | inr other ↦
-          let w = whole_taken (slice_split is_space (b ∷ bytes)) line other.1 in
-          subst (λ (l : Line). Spells l (b ∷ bytes)) w.1 (command_spelled (b ∷ bytes) w.0 w.2)
+      | inr other ↦ said_spelled (b ∷ bytes) line other.1
     ]
 
 split_words : (words others : Words) (word : List ℕ) → words ≡ word ∷ others → AllByRecursion Spaceless words → slice_split is_space (join_with_byte 32 words) ≡ words
 split_words words others word e h = rw e (split_joined word others (subst (AllByRecursion Spaceless) e h))
 
--- no command begins with '#'
+-- no command begins with '#', or as "threads" does
 command_line : (c : Command) → line_of (join_with_byte 32 (words_of c)) ≡ whole_command (slice_split is_space (join_with_byte 32 (words_of c)))
-unfolding line_of
+unfolding line_of said_line
 command_line (Pool pool) = refl
 command_line (Hold writer) = refl
 command_line (Release writer) = refl
@@ -267,9 +275,10 @@ command_line (Stop (Claim disks)) = refl
 command_line (Reopen reopen) = refl
 
 pub line_read : (line : Line) (bytes : List ℕ) → Spells line bytes → line_of bytes ≡ Some line
-unfolding line_of
+unfolding line_of said_line
 line_read Skipped [] h = refl
 line_read Skipped (b ∷ bytes) h = rw h refl
+line_read Threads bytes h = ap line_of h
 line_read (CommandLine c) bytes h =
     let spaceless = all_spaceless (words_of c) h.0.words in
     ap line_of h.1 ∙ command_line c ∙ ap whole_command (split_words (words_of c) (drop 1 (words_of c)) (keyword_text (keyword_for c)) (words_begin c) spaceless)

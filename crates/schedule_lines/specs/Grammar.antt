@@ -3,7 +3,7 @@ use Rattle.std.specs.Prelude.{◌≡◌, ◌≢◌, ℕ, ◌^◌, ◌<◌, ◌�
 use Rattle.std.specs.List.{AllByRecursion, join_with_byte}
 use Rattle.std.specs.Fmt.{decimal}
 use Rattle.schedule_lines.specs.declared.command.Line.{Line}
-use Rattle.schedule_lines.specs.declared.command.Line.TheVariants.{Skipped, Command as CommandLine}
+use Rattle.schedule_lines.specs.declared.command.Line.TheVariants.{Skipped, Threads, Command as CommandLine}
 use Rattle.schedule_lines.specs.declared.command.Command.{Command}
 use Rattle.schedule_lines.specs.declared.command.Command.TheVariants.{Pool, Hold, Release, Write, Create, Snapshot, Clone, Destroy, Close, Quiesced, Plan, Device, Commit, Sync, Read, Under, Stop, Reopen}
 use Rattle.schedule_lines.specs.declared.command.StopPoint.{StopPoint}
@@ -78,7 +78,12 @@ abbrev pub IsSkipped : List ℕ → Type 0
 IsSkipped [] = Unit {0}
 IsSkipped (b ∷ bytes) = b ≡ 35
 
--- the bytes spell the line: those of a command are its words, parted by one space
+-- the words of a command, parted by one space
+abbrev pub line_of_command : Command → List ℕ
+line_of_command c = join_with_byte 32 (words_of c)
+
+-- the bytes spell the line
 abbrev pub Spells : Line → List ℕ → Type 0
 Spells Skipped bytes = IsSkipped bytes
-Spells (CommandLine c) bytes = IsSayable c × (bytes ≡ join_with_byte 32 (words_of c))
+Spells Threads bytes = bytes ≡ codes "threads"
+Spells (CommandLine c) bytes = IsSayable c × (bytes ≡ line_of_command c)

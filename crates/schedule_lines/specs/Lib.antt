@@ -4,3 +4,5 @@ pub mod Keywords
 pub mod Reading
 pub mod Replies
 pub mod Runs
+pub mod Spelling
+pub mod Steps

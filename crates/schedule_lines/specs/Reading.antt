@@ -7,7 +7,7 @@ use Rattle.std.specs.Str.Parse.{digits_value}
 use Rattle.schedule_lines.specs.declared.refusal.Refusal.{Refusal}
 use Rattle.schedule_lines.specs.declared.refusal.Refusal.TheVariants.{Fault, NoMemory}
 use Rattle.schedule_lines.specs.declared.command.Line.{Line}
-use Rattle.schedule_lines.specs.declared.command.Line.TheVariants.{Skipped, Command as CommandLine}
+use Rattle.schedule_lines.specs.declared.command.Line.TheVariants.{Skipped, Threads, Command as CommandLine}
 use Rattle.schedule_lines.specs.declared.command.Command.{Command}
 use Rattle.schedule_lines.specs.declared.command.Command.TheVariants.{Pool, Hold, Release, Write, Create, Snapshot, Clone, Destroy, Close, Quiesced, Plan, Device, Commit, Sync, Read, Under, Stop, Reopen}
 use Rattle.schedule_lines.specs.declared.command.StopPoint.{StopPoint}
@@ -204,9 +204,13 @@ whole_command words = do
   end ← end_at command.1
   Some (CommandLine command.0)
 
+-- a line that isn't skipped
+unfoldable pub said_line : List ℕ → Option Line
+said_line bytes = if bytes_eq bytes (codes "threads") then Some Threads else whole_command (slice_split (λ b. b == 32) bytes)
+
 unfoldable pub line_of : List ℕ → Option Line
 line_of [] = Some Skipped
-line_of (b ∷ bytes) = if b == 35 then Some Skipped else whole_command (slice_split (λ b. b == 32) (b ∷ bytes))
+line_of (b ∷ bytes) = if b == 35 then Some Skipped else said_line (b ∷ bytes)
 
 -- What a function returned, seen by view, is what reading gives, unless memory ran out.
 abbrev pub Fails : {A : Type 0} → Refusal → Option A → Type 0

@@ -7,6 +7,8 @@ use pool_model::Name;
 pub enum Line {
     /// An empty line, or one that begins with `#`.
     Skipped,
+    /// The lines behind it may be run by threads. It is no step, and prints nothing.
+    Threads,
     Command(Command),
 }
 

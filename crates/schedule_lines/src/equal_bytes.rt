@@ -26,7 +26,7 @@ impl fmt::Display for Run {
     }
 }
 
-fn count_in_front(byte: u8, bytes: &[u8]) -> usize
+pub(crate) fn count_in_front(byte: u8, bytes: &[u8]) -> usize
     ensures { result ≡ prefix_len (λ b. b == byte) bytes.now }
 {
     bytes.iter().take_while(|b| **b == byte).count()

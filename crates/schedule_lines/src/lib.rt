@@ -10,7 +10,9 @@ mod number;
 mod reading;
 mod refusal;
 mod reply;
+mod steps;
 mod words;
+mod writing;
 
 pub use command::{
     CloneLine, Command, CreateLine, DestroyLine, Line, PoolLine, ReadLine, ReopenLine,
@@ -22,3 +24,5 @@ pub use laws::{bytes_have_one_list_of_runs, bytes_spell_one_line};
 pub use reading::parse;
 pub use refusal::Refusal;
 pub use reply::{made_text, opened_text, reply_text};
+pub use steps::command_of;
+pub use writing::line_bytes;

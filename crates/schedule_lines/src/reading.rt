@@ -2,7 +2,7 @@
 ghost use Rattle.std.specs.Prelude.{◌≡◌, ◌⊎◌, IfOk, Ok, Err};
 ghost use Rattle.schedule_lines.specs.declared.command.Line.{Line};
 ghost use Rattle.schedule_lines.specs.Grammar.{Spells};
-ghost use Rattle.schedule_lines.specs.Reading.{Gives, pool_at, write_at, create_at, snapshot_at, clone_at, destroy_at, read_at, under_at, stop_at, numbers_at, reopen_at, command_at, line_of};
+ghost use Rattle.schedule_lines.specs.Reading.{Gives, pool_at, write_at, create_at, snapshot_at, clone_at, destroy_at, read_at, under_at, stop_at, numbers_at, reopen_at, command_at, said_line, line_of};
 
 use crate::command::{
     CloneLine, Command, CreateLine, DestroyLine, Line, PoolLine, ReadLine, ReopenLine,
@@ -184,18 +184,29 @@ fn command(alloc: Global, keyword: Keyword, words: &mut Words) -> Result<Command
     })
 }
 
-#[tactic(auto, unfolding(crate::specs::Reading::line_of, crate::specs::Reading::whole_command))]
-fn line_of(alloc: Global, line: &[u8]) -> Result<Line, Refusal>
-    ensures { Gives (λ line. line) result (line_of line.now) }
+/// A line that isn't skipped.
+#[tactic(auto, unfolding(crate::specs::Reading::said_line, crate::specs::Reading::whole_command))]
+fn said_line(alloc: Global, line: &[u8]) -> Result<Line, Refusal>
+    ensures { Gives (λ line. line) result (said_line line.now) }
 {
-    if line.first().is_none_or(|b| *b == b'#') {
-        return Ok(Line::Skipped);
+    if line == b"threads".as_slice() {
+        return Ok(Line::Threads);
     }
     let mut words = Words::new(line);
     let keyword = Keyword::from_word(words.word()?).ok_or(Refusal::Fault)?;
     let command = command(alloc, keyword, &mut words)?;
     words.end()?;
     Ok(Line::Command(command))
+}
+
+#[tactic(auto, unfolding(crate::specs::Reading::line_of))]
+fn line_of(alloc: Global, line: &[u8]) -> Result<Line, Refusal>
+    ensures { Gives (λ line. line) result (line_of line.now) }
+{
+    if line.first().is_none_or(|b| *b == b'#') {
+        return Ok(Line::Skipped);
+    }
+    said_line(alloc, line)
 }
 
 /// What a line says, without its line feed.

@@ -1,112 +1,44 @@
 //! Sets of disks of which one fails, and what is left of a plan without it.
-
-use disk_set::{Behind, DiskSet, FailedDisk, SlotWrite};
+use crate::lines::{Bench, Call};
+use disk_set::{Behind, DiskSet, SlotWrite};
 use model_disk::{DiskArray, Fault, FaultDisk, MemDisk};
-use std::alloc::{AllocError, Global};
+use std::alloc::Global;
 use std::collections::VecDeque;
 use std::test::Fail;
 
-type Disks = DiskArray<FaultDisk<MemDisk>>;
+/// `set` makes a set of two disks of 16 bytes, of which the second fails each call. `write` writes
+/// the last three bytes of a disk, `enter` has a group, `absent` a disk that is
+/// missing too, and `read` reads the disks of the set, which it takes apart.
+pub(crate) const SETS: &[(&str, &str)] = &[
+    // A disk that fails is out.
+    (
+        "set; out 0; out 1; since 0; since 1; group; due;
+            enter 7; write 0; write 1; flush 0; flush 1; enter 4;
+            out 0; out 1; since 0; since 1; group; due; read 0 12 4",
+        "new; false; false; None; None; group 0; 0 due;
+            group 7; ok; 1 is out; ok; 1 is out; group 4;
+            false; true; None; Some(4); group 4; 0 due; 00616263",
+    ),
+    // Disks that are out are absent.
+    (
+        "set; enter 7; write 0; write 1; flush 0; flush 1; enter 4; absent 5",
+        "new; group 7; ok; 1 is out; ok; 1 is out; group 4; [1, 5]",
+    ),
+    // A plan goes on without a disk: with the flushes of blocks on both disks, and the slot and the flush
+    // behind it on the other.
+    (
+        "plan_without 0",
+        "is done: false, 2 flushes, 1 slots, 1 flushes, next disk 1 label 3",
+    ),
+];
 
-type Set = DiskSet<FaultDisk<MemDisk>>;
+pub(crate) type Disk = FaultDisk<MemDisk>;
 
-/// What a set says of its two disks.
-#[derive(Clone, Copy, PartialEq, Eq)]
-struct Said {
-    out: [bool; 2],
-    since: [Option<u64>; 2],
-    group: u64,
-    due: usize,
-}
+#[derive(Drop)]
+pub(crate) struct Sets(pub(crate) Option<DiskSet<Disk>>);
 
-/// How calls on a disk ended: well, with this disk out, or no call was made.
-#[derive(Clone, Copy, PartialEq, Eq)]
-enum Ended {
-    Well,
-    Out(usize),
-    NotMade,
-}
-
-/// Two disks of 16 bytes, of which the second fails each call.
-fn two(alloc: Global) -> Result<Set, Fail> {
-    let mut disks = DiskArray::new(Vec::new(alloc));
-    disks.push(FaultDisk::new(MemDisk::new(alloc, 16)?, Fault::At(u64::MAX)))?;
-    disks.push(FaultDisk::new(MemDisk::new(alloc, 16)?, Fault::From(0)))?;
-    let out = vec![in alloc; false; disks.len()]?;
-    Ok(DiskSet::new(alloc, disks, out)?)
-}
-
-fn outcome(answer: Result<(), FailedDisk>) -> Ended {
-    match answer {
-        Ok(()) => Ended::Well,
-        Err(failed) => Ended::Out(failed.disk),
-    }
-}
-
-/// Writes the last three bytes of a disk.
-fn write(set: &mut Set, disk: usize) -> Ended {
-    if disk < set.len() && set.size(disk) == 16 {
-        outcome(set.write_at(disk, 13, b"abc"))
-    } else {
-        Ended::NotMade
-    }
-}
-
-fn flush(set: &mut Set, disk: usize) -> Ended {
-    if disk < set.len() {
-        outcome(set.flush(disk))
-    } else {
-        Ended::NotMade
-    }
-}
-
-/// Calls in a plan of group 7, behind which the plan's group is 4.
-fn calls(set: &mut Set) -> [Ended; 4] {
-    set.enter(7);
-    let wrote = write(set, 0);
-    let failed = write(set, 1);
-    let flushed = flush(set, 0);
-    let failed_again = flush(set, 1);
-    set.enter(4);
-    [wrote, failed, flushed, failed_again]
-}
-
-fn summary(set: &Set) -> Said {
-    Said {
-        out: [set.is_out(0), set.is_out(1)],
-        since: [set.out_since(0), set.out_since(1)],
-        group: set.group(),
-        due: set.due_count(),
-    }
-}
-
-/// The last four bytes of the first disk.
-fn load(mut disks: Disks) -> Option<[u8; 4]> {
-    let mut back = [9; 4];
-    if disks.len() == 2 && disks.size(0) == 16 {
-        disks.read(0, 12, &mut back).ok()?;
-    }
-    Some(back)
-}
-
-/// How the calls ended, what the set says before and after, and what the first disk holds then.
-fn after_calls(alloc: Global) -> Result<(Said, [Ended; 4], Said, Option<[u8; 4]>), Fail> {
-    let mut set = two(alloc)?;
-    let before = summary(&set);
-    let calls = calls(&mut set);
-    let after = summary(&set);
-    Ok((before, calls, after, load(set.into_array())))
-}
-
-/// The disks that are absent once those calls were made, where disk 5 is missing too.
-fn absent(alloc: Global) -> Result<Vec<usize>, Fail> {
-    let mut set = two(alloc)?;
-    calls(&mut set);
-    Ok(set.absent(alloc, &[5])?)
-}
-
-/// What is due behind a plan's blocks on two disks.
-fn plan_of_two(alloc: Global) -> Result<Behind, AllocError> {
+/// What is due behind a plan's blocks on two disks, once it goes on without one.
+fn plan_without(alloc: Global, disk: usize) -> Result<String, Fail> {
     let mut behind = Behind {
         flushes: VecDeque::new(alloc),
         slots: VecDeque::new(alloc),
@@ -117,52 +49,58 @@ fn plan_of_two(alloc: Global) -> Result<Behind, AllocError> {
         behind.slots.push_back(SlotWrite { disk, label: 3 })?;
         behind.slot_flushes.push_back(disk)?;
     }
-    Ok(behind)
-}
-
-/// Of a plan without disk 0 how much is due, and what comes first.
-fn without_the_first(alloc: Global) -> Result<(bool, [usize; 3], Option<SlotWrite>), AllocError> {
-    let mut behind = plan_of_two(alloc)?;
-    behind.leave_out(0);
-    let counts = [
+    behind.leave_out(disk);
+    let done = behind.is_done();
+    let (flushes, slots, last) = (
         behind.flushes.len(),
         behind.slots.len(),
         behind.slot_flushes.len(),
-    ];
-    Ok((behind.is_done(), counts, behind.slots.pop_front()))
-}
-
-#[test]
-fn a_disk_that_fails_is_out(rt: HostRuntime) -> Result<(), Fail> {
-    let (before, calls, after, bytes) = after_calls(rt.alloc())?;
-    let whole = Said {
-        out: [false; 2],
-        since: [None; 2],
-        group: 0,
-        due: 0,
+    );
+    let Some(slot) = behind.slots.pop_front() else {
+        return Ok(format!(in alloc; "is done: {done}, no slot")?);
     };
-    let lacking = Said {
-        out: [false, true],
-        since: [None, Some(4)],
-        group: 4,
-        due: 0,
-    };
-    assert!(rt; before == whole);
-    assert!(rt; calls == [Ended::Well, Ended::Out(1), Ended::Well, Ended::Out(1)]);
-    assert!(rt; after == lacking);
-    assert!(rt; bytes == Some(*b"\0abc"));
-    Ok(())
+    let (disk, label) = (slot.disk, slot.label);
+    Ok(format!(in alloc;
+        "is done: {done}, {flushes} flushes, {slots} slots, {last} flushes, next disk {disk} label {label}"
+    )?)
 }
 
-#[test]
-fn disks_that_are_out_are_absent(rt: HostRuntime) -> Result<(), Fail> {
-    assert!(rt; absent(rt.alloc())?.as_slice() == [1, 5].as_slice());
-    Ok(())
-}
-
-#[test]
-fn a_plan_goes_on_without_a_disk(rt: HostRuntime) -> Result<(), Fail> {
-    let slot = SlotWrite { disk: 1, label: 3 };
-    assert!(rt; without_the_first(rt.alloc())? == (false, [2, 1, 1], Some(slot)));
-    Ok(())
+impl Bench for Sets {
+    fn answer(&mut self, alloc: Global, call: &Call) -> Result<String, Fail> {
+        let disk = call.number(0);
+        let ended = match (call.name, &mut self.0) {
+            ("plan_without", _) => return plan_without(alloc, disk),
+            ("read", set) => match set.take() {
+                Some(set) => return set.into_array().answer(alloc, call),
+                None => return Err(Fail::new("no set")),
+            },
+            ("enter", Some(set)) => {
+                set.enter(disk as u64);
+                return Ok(format!(in alloc; "group {}", set.group())?);
+            }
+            ("due", Some(set)) => return Ok(format!(in alloc; "{} due", set.due_count())?),
+            ("out", Some(set)) => return Ok(format!(in alloc; "{}", set.is_out(disk))?),
+            ("since", Some(set)) => return Ok(format!(in alloc; "{:?}", set.out_since(disk))?),
+            ("absent", Some(set)) => {
+                return Ok(format!(in alloc; "{:?}", set.absent(alloc, &call.numbers)?)?);
+            }
+            ("flush", Some(set)) if disk < set.len() => set.flush(disk),
+            ("write", Some(set)) if disk < set.len() && set.size(disk) == 16 => {
+                set.write_at(disk, 13, b"abc")
+            }
+            ("group", Some(set)) => return Ok(format!(in alloc; "group {}", set.group())?),
+            _ => {
+                let mut disks = DiskArray::new(Vec::new(alloc));
+                disks.push(FaultDisk::new(MemDisk::new(alloc, 16)?, Fault::At(u64::MAX)))?;
+                disks.push(FaultDisk::new(MemDisk::new(alloc, 16)?, Fault::From(0)))?;
+                let out = vec![in alloc; false; disks.len()]?;
+                self.0 = Some(DiskSet::new(alloc, disks, out)?);
+                return Ok(format!(in alloc; "new")?);
+            }
+        };
+        match ended {
+            Ok(()) => Ok(format!(in alloc; "ok")?),
+            Err(failed) => Ok(format!(in alloc; "{} is out", failed.disk)?),
+        }
+    }
 }

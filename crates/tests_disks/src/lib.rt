@@ -1,30 +1,26 @@
-//! Tests of the RAID and of the disks below the blocks: the field and its kernels, the layout and the parity of a block,
-//! disks and arrays of them, disks in the order of a pool's children, blocks on an array, and blocks by pointer. They stand together, so that what they reach is proved once with them.
+//! Tests of the RAID and of the disks below the blocks: the field and its kernels, the layout and the
+//! parity of a block, disks and arrays of them, disks in the order of a pool's children, sets of disks,
+//! blocks on an array, and blocks by pointer. The cases stand in tables, each a line of calls beside what
+//! comes of them.
 #![tactic(auto)]
 
 #[cfg(test)]
-mod arrays;
+mod block_cases;
 #[cfg(test)]
-mod devices;
+mod blocks;
 #[cfg(test)]
 mod disk_sets;
+#[cfg(test)]
+mod disks;
 #[cfg(test)]
 mod extents;
 #[cfg(test)]
 mod fields;
 #[cfg(test)]
-mod lanes;
-#[cfg(test)]
 mod layouts;
 #[cfg(test)]
-mod loaded_maps;
-#[cfg(test)]
-mod members;
-#[cfg(test)]
-mod opened_blocks;
+mod lines;
 #[cfg(test)]
 mod parities;
 #[cfg(test)]
-mod released_blocks;
-#[cfg(test)]
-mod stored_blocks;
+mod pattern;

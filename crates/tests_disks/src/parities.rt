@@ -1,185 +1,241 @@
-//! Parities of small blocks worked by hand, and lost columns given back.
-ghost use Rattle.std.specs.Prelude.{◌≡◌, ◌≤◌, ◌<◌, ◌+◌, [], ◌∷◌, length, sum, vec_len, All, IfOk, slice_index};
+//! Parities of small blocks worked by hand, and lost columns given back. The tables of the field, which the
+//! test goes over too, call `gf256::mul`, `gf_lanes::xor_into` and their like.
+ghost use Rattle.std.specs.Prelude.{◌≡◌, ◌≤◌, ◌<◌, length, sum, All, IfSome, IfOk, slice_index};
 
+use crate::fields::{FIELD, Field, KERNELS};
+use crate::layouts::{LAYOUTS, Layouts};
+use crate::lines::{Bench, Call, wrong_lines};
 use arrayvec::ArrayVec;
-use gf256::double;
 use raidz_parity::{Columns, Parity, Refusal};
-use std::alloc::{AllocError, Global};
+use std::alloc::Global;
+use std::test::Fail;
 
-/// The columns 01, 02 and 80 with their parities.
-const WHOLE: [u8; 5] = [0x83, 0x80, 0x01, 0x02, 0x80];
+/// `generate` has the lengths of the columns and a block's bytes, and `read` the bytes of both parities
+/// and of the block as they are read, where those columns are rebuilt that were told to be lost. Both
+/// parities and the block come of it. Among the columns that are lost the parities come first.
+const PARITIES: &[(&str, &str)] = &[
+    ("generate 1 1 1 =010280", "generated 83 80 010280"),
+    // The last column has the weight one.
+    ("generate 1 1 =8000", "generated 80 1d 8000"),
+    // A column that is shorter.
+    ("generate 2 1 =010203", "generated 0202 0104 010203"),
+    // Columns that are longer than the lanes of the kernels.
+    (
+        "generate 130 67 =00254a6f94b9de082d52779cc1e610355a7fa4c9ee183d6287acd1f620456a8fb4d903284d7297bce10\
+         b30557a9fc4e913385d82a7ccf11b40658aafd4f923486d92b7dc062b50759abfe40e33587da2c7ec16\
+         3b6085aacff41e43688db2d701264b7095badf092e53789dc2e711365b80a5caef193e6388add2f7214\
+         66b90b5da04294e7398bde20c31567ba0c5ea14395e83a8cdf21c41668bb0d5fa24496e93b8dd072c51\
+         769bc0e50f34597ea3c8ed173c6186abd0f51f44698eb3d802274c7196bbe0",
+        "generated 296b39f7295bd2397b29d7592bf2296bd9d7693bf2595be937792bd2692bf93769de2f793be95759ee3\
+         f692bd95729fe2f59db297739ee5f29eb3977d6de6f39fb2957dc062b50759abfe40e33587da2c7ec16\
+         3b6085aacff41e43688db2d701264b7095badf092e53789dc2e711365b80a5caef193e6388add2f7214\
+         66b90b5da04 \
+         2904e746888dad210cdf4ee075c519343756987ddd711c4fa39045d509e447bba8a82a01ec7ff380d02\
+         239d457eb78d81a113cb28370e072e944ba9bb7c80ae14c8293a50c56a0ea2963d51c66b0fa5993c52c\
+         76c0174983f53c86d00779b3024c96e03769a3125ca6f02799d3226cb61d5789c3327cc60d47b9f3428\
+         cd63d77a908 \
+         00254a6f94b9de082d52779cc1e610355a7fa4c9ee183d6287acd1f620456a8fb4d903284d7297bce10\
+         b30557a9fc4e913385d82a7ccf11b40658aafd4f923486d92b7dc062b50759abfe40e33587da2c7ec16\
+         3b6085aacff41e43688db2d701264b7095badf092e53789dc2e711365b80a5caef193e6388add2f7214\
+         66b90b5da04294e7398bde20c31567ba0c5ea14395e83a8cdf21c41668bb0d5fa24496e93b8dd072c51\
+         769bc0e50f34597ea3c8ed173c6186abd0f51f44698eb3d802274c7196bbe0",
+    ),
+    // Any two columns are rebuilt, of which another byte was read.
+    (
+        "lost 0 0; read 1 1 1 =09 =80 =010280",
+        "lost; rebuilt 83 80 010280",
+    ),
+    (
+        "lost 0 1; read 1 1 1 =09 =09 =010280",
+        "lost; rebuilt 83 80 010280",
+    ),
+    (
+        "lost 0 2; read 1 1 1 =09 =80 =090280",
+        "lost; rebuilt 83 80 010280",
+    ),
+    (
+        "lost 0 3; read 1 1 1 =09 =80 =010980",
+        "lost; rebuilt 83 80 010280",
+    ),
+    (
+        "lost 0 4; read 1 1 1 =09 =80 =010209",
+        "lost; rebuilt 83 80 010280",
+    ),
+    (
+        "lost 1 0; read 1 1 1 =09 =09 =010280",
+        "lost; rebuilt 83 80 010280",
+    ),
+    (
+        "lost 1 1; read 1 1 1 =83 =09 =010280",
+        "lost; rebuilt 83 80 010280",
+    ),
+    (
+        "lost 1 2; read 1 1 1 =83 =09 =090280",
+        "lost; rebuilt 83 80 010280",
+    ),
+    (
+        "lost 1 3; read 1 1 1 =83 =09 =010980",
+        "lost; rebuilt 83 80 010280",
+    ),
+    (
+        "lost 1 4; read 1 1 1 =83 =09 =010209",
+        "lost; rebuilt 83 80 010280",
+    ),
+    (
+        "lost 2 0; read 1 1 1 =09 =80 =090280",
+        "lost; rebuilt 83 80 010280",
+    ),
+    (
+        "lost 2 1; read 1 1 1 =83 =09 =090280",
+        "lost; rebuilt 83 80 010280",
+    ),
+    (
+        "lost 2 2; read 1 1 1 =83 =80 =090280",
+        "lost; rebuilt 83 80 010280",
+    ),
+    (
+        "lost 2 3; read 1 1 1 =83 =80 =090980",
+        "lost; rebuilt 83 80 010280",
+    ),
+    (
+        "lost 2 4; read 1 1 1 =83 =80 =090209",
+        "lost; rebuilt 83 80 010280",
+    ),
+    (
+        "lost 3 0; read 1 1 1 =09 =80 =010980",
+        "lost; rebuilt 83 80 010280",
+    ),
+    (
+        "lost 3 1; read 1 1 1 =83 =09 =010980",
+        "lost; rebuilt 83 80 010280",
+    ),
+    (
+        "lost 3 2; read 1 1 1 =83 =80 =090980",
+        "lost; rebuilt 83 80 010280",
+    ),
+    (
+        "lost 3 3; read 1 1 1 =83 =80 =010980",
+        "lost; rebuilt 83 80 010280",
+    ),
+    (
+        "lost 3 4; read 1 1 1 =83 =80 =010909",
+        "lost; rebuilt 83 80 010280",
+    ),
+    (
+        "lost 4 0; read 1 1 1 =09 =80 =010209",
+        "lost; rebuilt 83 80 010280",
+    ),
+    (
+        "lost 4 1; read 1 1 1 =83 =09 =010209",
+        "lost; rebuilt 83 80 010280",
+    ),
+    (
+        "lost 4 2; read 1 1 1 =83 =80 =090209",
+        "lost; rebuilt 83 80 010280",
+    ),
+    (
+        "lost 4 3; read 1 1 1 =83 =80 =010909",
+        "lost; rebuilt 83 80 010280",
+    ),
+    (
+        "lost 4 4; read 1 1 1 =83 =80 =010209",
+        "lost; rebuilt 83 80 010280",
+    ),
+    // Three are not.
+    (
+        "lost 0 2 3; read 1 1 1 =83 =80 =010280",
+        "lost; DiskFault 83 80 010280",
+    ),
+    // Both columns of two lengths are made again from their parities alone.
+    (
+        "lost 2 3; read 2 1 =0202 =0104 =000000",
+        "lost; rebuilt 0202 0104 010203",
+    ),
+];
 
-/// The lengths of two columns.
-fn two(first: usize, second: usize) -> ArrayVec<usize, 32>
-    requires { second ≤ first }
-    ensures items { result.items ≡ first ∷ second ∷ [] }
-    ensures longest { All (λ n. n ≤ slice_index result.items 0) result.items }
+/// The lengths of two columns or three, of which none is longer than the first, nor than 1000 bytes.
+fn lengths(numbers: &[usize]) -> Option<ArrayVec<usize, 32>>
+    ensures count { IfSome result (λ it. length it.items ≡ length numbers.now) }
+    ensures some { IfSome result (λ it. 0 < length it.items) }
+    ensures small { IfSome result (λ it. sum it.items ≤ 3000) }
+    ensures longest { IfSome result (λ it. All (λ n. n ≤ slice_index it.items 0) it.items) }
 {
     let mut lengths = ArrayVec::new();
-    lengths.push(first);
-    lengths.push(second);
-    lengths
-}
-
-/// The lengths of three columns of one byte.
-fn three() -> ArrayVec<usize, 32>
-    ensures items { result.items ≡ 1 ∷ 1 ∷ 1 ∷ [] }
-    ensures longest { All (λ n. n ≤ slice_index result.items 0) result.items }
-{
-    let mut lengths = ArrayVec::new();
-    lengths.push(1);
-    lengths.push(1);
-    lengths.push(1);
-    lengths
-}
-
-/// The bytes of both parities, one after the other, and then of the columns.
-fn all_bytes(alloc: Global, columns: &Columns) -> Result<Vec<u8>, AllocError>
-    requires { length columns.now.parity ≡ 2 }
-{
-    let mut bytes = Vec::from_slice(alloc, columns.parity(0))?;
-    bytes.extend_from_slice(columns.parity(1))?;
-    bytes.extend_from_slice(columns.block())?;
-    Ok(bytes)
-}
-
-/// Whether `generate` makes these of a block.
-fn makes(
-    alloc: Global,
-    lengths: ArrayVec<usize, 32>,
-    block: &[u8],
-    bytes: &[u8],
-) -> Result<bool, AllocError>
-    requires first { 0 < length lengths.items }
-    requires longest { All (λ n. n ≤ slice_index lengths.items 0) lengths.items }
-    requires fits { sum lengths.items ≡ length block.now }
-{
-    let block = Vec::from_slice(alloc, block)?;
-    let columns = Columns::generate(alloc, 2, lengths, block)?;
-    Ok(all_bytes(alloc, &columns)?.as_slice() == bytes)
-}
-
-#[test]
-fn three_columns(rt: HostRuntime) {
-    let right = makes(rt.alloc(), three(), &WHOLE[2..], &WHOLE);
-    assert!(rt; right == Ok(true));
-}
-
-#[test]
-fn last_column_has_weight_one(rt: HostRuntime) {
-    let right = makes(
-        rt.alloc(),
-        two(1, 1),
-        &[0x80, 0x00],
-        &[0x80, 0x1d, 0x80, 0x00],
-    );
-    assert!(rt; right == Ok(true));
-}
-
-#[test]
-fn shorter_column(rt: HostRuntime) {
-    let bytes = [0x02, 0x02, 0x01, 0x04, 0x01, 0x02, 0x03];
-    assert!(rt; makes(rt.alloc(), two(2, 1), &bytes[4..], &bytes) == Ok(true));
-}
-
-/// These columns of one byte as they are read.
-fn read(alloc: Global, bytes: [u8; 5]) -> Result<Columns, AllocError>
-    ensures parities { IfOk result (λ columns. length columns.parity ≡ 2) }
-    ensures columns { IfOk result (λ columns. length columns.data_columns ≡ 3) }
-{
-    let first = bytes[..1].to_vec(alloc)?;
-    let second = bytes[1..2].to_vec(alloc)?;
-    let block = bytes[2..].to_vec(alloc)?;
-    Ok(Columns::new(Parity::Two(first, second), three(), block))
-}
-
-/// The answer of `rebuild` on columns of which some are lost, and whether all are then those of the block.
-fn rebuilt(alloc: Global, bytes: [u8; 5], lost: &[usize]) -> Result<(bool, bool), AllocError>
-    requires { All (λ i. i < 5) lost.now }
-{
-    let mut columns = read(alloc, bytes)?;
-    let refused = columns.rebuild(lost) == Err(Refusal::DiskFault);
-    let all = columns.parity(0) == &WHOLE[..1]
-        && columns.parity(1) == &WHOLE[1..2]
-        && columns.block() == &WHOLE[2..];
-    Ok((refused, all))
-}
-
-/// The same without two columns.
-fn without(alloc: Global, lost: usize, other: usize) -> Result<(bool, bool), AllocError>
-    requires lost { lost < 5 }
-    requires other { other < 5 }
-{
-    let mut bytes = WHOLE;
-    bytes[lost] = 9;
-    bytes[other] = 9;
-    rebuilt(alloc, bytes, &[lost, other])
-}
-
-#[test]
-fn any_two_columns_rebuilt(rt: HostRuntime) {
-    for lost in 0..5usize {
-        for other in 0..5usize {
-            let answer = without(rt.alloc(), lost, other);
-            assert!(rt; answer == Ok((false, true)), "{lost} and {other}");
+    match numbers {
+        [first, second] if second <= first && *first <= 1000 => {
+            lengths.push(*first);
+            lengths.push(*second);
         }
+        [first, second, third] if second <= first && third <= first && *first <= 1000 => {
+            lengths.push(*first);
+            lengths.push(*second);
+            lengths.push(*third);
+        }
+        _ => return None,
     }
+    Some(lengths)
 }
 
-#[test]
-fn three_lost_columns_refused(rt: HostRuntime) {
-    assert!(rt; rebuilt(rt.alloc(), WHOLE, &[0, 2, 3]) == Ok((true, true)));
-}
-
-/// Both columns of two lengths made again from their parities alone.
-fn from_parities(alloc: Global) -> Result<bool, AllocError> {
-    let first = [0x02, 0x02].to_vec(alloc)?;
-    let second = [0x01, 0x04].to_vec(alloc)?;
-    let block = [0, 0, 0].to_vec(alloc)?;
-    let mut columns = Columns::new(Parity::Two(first, second), two(2, 1), block);
-    let accepted = columns.rebuild(&[2, 3]).is_ok();
-    let (parity, block) = columns.into_parts();
-    let rebuilt = block.as_slice() == [0x01, 0x02, 0x03].as_slice();
-    Ok(accepted && rebuilt && parity.row(1) == [0x01, 0x04].as_slice())
-}
-
-#[test]
-fn both_columns_of_two_lengths_rebuilt(rt: HostRuntime) {
-    assert!(rt; from_parities(rt.alloc()) == Ok(true));
-}
-
-fn byte(place: usize) -> u8 {
-    (place.wrapping_mul(37) % 251) as u8
-}
-
-/// The bytes at the places from 0 on.
-fn pattern(alloc: Global, len: usize) -> Result<Vec<u8>, AllocError>
-    ensures { IfOk result (λ bytes. vec_len bytes ≡ len) }
+/// The columns that a call tells.
+fn columns_of(alloc: Global, call: &Call) -> Result<Columns, Fail>
+    ensures parities { IfOk result (λ columns. length columns.parity ≡ 2) }
+    ensures columns { IfOk result (λ columns.
+        length columns.data_columns ≡ length call.now.numbers.items) }
 {
-    let mut bytes = Vec::new(alloc);
-    for place in 0..len {
-        bytes.push(byte(place))?;
+    let Some(lengths) = lengths(&call.numbers) else {
+        return Err(Fail::new("no such lengths"));
+    };
+    let rows = lengths[0];
+    let size: usize = lengths.iter().sum();
+    if call.name == "generate" && call.bytes.len() == size {
+        return Ok(Columns::generate(alloc, 2, lengths, call.bytes.clone()?)?);
     }
-    Ok(bytes)
+    if call.name == "generate" || call.bytes.len() != 2 * rows + size {
+        return Err(Fail::new("no bytes of these columns"));
+    }
+    let (sums, rest) = call.bytes.split_at(rows);
+    let (weighed, block) = rest.split_at(rows);
+    let parity = Parity::Two(sums.to_vec(alloc)?, weighed.to_vec(alloc)?);
+    Ok(Columns::new(parity, lengths, block.to_vec(alloc)?))
 }
 
-/// Whether these are the parities of columns of 130 and 67 bytes.
-fn are_parities(first: &[u8], second: &[u8]) -> bool {
-    let mut all = first.len() == 130 && second.len() == 130;
-    for (place, (sum, weighed)) in first.iter().zip(second.iter()).enumerate() {
-        let other = if place < 67 { byte(place + 130) } else { 0 };
-        all = all && *sum == byte(place) ^ other && *weighed == double(byte(place)) ^ other;
-    }
-    all
-}
+/// The columns that are lost.
+#[derive(Drop)]
+struct Parities(Vec<usize>);
 
-fn longer_than_lanes(alloc: Global) -> Result<bool, AllocError> {
-    let block = pattern(alloc, 197)?;
-    let columns = Columns::generate(alloc, 2, two(130, 67), block)?;
-    Ok(are_parities(columns.parity(0), columns.parity(1)))
+impl Bench for Parities {
+    fn answer(&mut self, alloc: Global, call: &Call) -> Result<String, Fail> {
+        if call.name == "lost" {
+            self.0 = call.numbers.clone()?;
+            return Ok(format!(in alloc; "lost")?);
+        }
+        let mut columns = columns_of(alloc, call)?;
+        let count = call.numbers.len() + 2;
+        let done = if call.name == "generate" {
+            "generated"
+        } else if self.0.iter().all(|column| *column < count) {
+            match columns.rebuild(&self.0) {
+                Ok(()) => "rebuilt",
+                Err(Refusal::DiskFault) => "DiskFault",
+            }
+        } else {
+            "no such column"
+        };
+        let sums = hex::encode(alloc, columns.parity(0))?;
+        let (parity, block) = columns.into_parts();
+        let weighed = hex::encode(alloc, parity.row(1))?;
+        let block = hex::encode(alloc, block.as_slice())?;
+        Ok(format!(in alloc; "{done} {sums} {weighed} {block}")?)
+    }
 }
 
 #[test]
-fn columns_longer_than_lanes(rt: HostRuntime) {
-    assert!(rt; longer_than_lanes(rt.alloc()) == Ok(true));
+fn field_layouts_and_parities(rt: HostRuntime) -> Result<(), Fail> {
+    let mut wrong = wrong_lines(&rt, rt.alloc(), &mut Field, FIELD)?;
+    wrong.push_str(wrong_lines(&rt, rt.alloc(), &mut Field, KERNELS)?.as_str())?;
+    wrong.push_str(wrong_lines(&rt, rt.alloc(), &mut Layouts(None), LAYOUTS)?.as_str())?;
+    let mut parities = Parities(Vec::new(rt.alloc()));
+    wrong.push_str(wrong_lines(&rt, rt.alloc(), &mut parities, PARITIES)?.as_str())?;
+    assert!(rt; wrong.is_empty(), "{wrong}");
+    Ok(())
 }

@@ -2,32 +2,16 @@
 #![tactic(auto)]
 
 #[cfg(test)]
-mod absent_disks;
+mod blocks;
 #[cfg(test)]
-mod claims;
+mod bytes;
 #[cfg(test)]
-mod configs;
-#[cfg(test)]
-mod exports;
-#[cfg(test)]
-mod labels;
+mod disks;
 #[cfg(test)]
 mod lists;
 #[cfg(test)]
-mod new_configs;
-#[cfg(test)]
-mod new_pools;
-#[cfg(test)]
-mod nodes;
-#[cfg(test)]
-mod pointers;
-#[cfg(test)]
-mod scans;
-#[cfg(test)]
-mod seals;
+mod maps;
 #[cfg(test)]
 mod slots;
 #[cfg(test)]
-mod space_maps;
-#[cfg(test)]
-mod surveys;
+mod spelling;

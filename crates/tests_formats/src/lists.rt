@@ -1,188 +1,377 @@
-use nvlist::*;
-use std::alloc::{AllocError, Global};
-use std::test::*;
+//! Name-value lists, configurations, and labels.
 
-/// The list with one pair, txg = 4.
-const ONE_PAIR: &[u8] = b"\0\0\0\x01\0\0\0\x03txg\0\0\0\0\x08\0\0\0\0\0\0\0\x04";
+use crate::spelling::{parse, spelled};
+use nvlist::{NvList, Value};
+use std::alloc::Global;
+use std::test::Fail;
+use vdev_label::*;
 
-/// A pair of each type: a number, a text, a list and two lists, one of them empty.
-const EACH_TYPE: &[u8; 128] =
-    b"\0\0\0\x04\0\0\0\x01a\0\0\0\0\0\0\x08\x01\x02\x03\x04\x05\x06\x07\x08\0\0\0\x02ab\0\0\0\0\0\x09\0\0\0\x05raidz\0\0\0\0\0\0\x01b\0\0\0\0\0\0\x13\0\0\0\x01\0\0\0\x01x\0\0\0\0\0\0\x08\0\0\0\0\0\0\0\x07\0\0\0\x01c\0\0\0\0\0\0\x14\0\0\0\x02\0\0\0\0\0\0\0\x01\0\0\0\x01y\0\0\0\0\0\0\x08\0\0\0\0\0\0\0\x09";
+/// What is refused prints as one of these.
+const NO_LIST: &str = "the bytes spell no name-value list";
 
-/// The bytes of a list that was read, and how many bytes it was read from.
-fn read_again(alloc: Global, bytes: &[u8]) -> Result<(Vec<u8>, usize), Refusal> {
-    let (list, len) = decode(alloc, bytes)?;
-    let mut out = Vec::new(alloc);
-    encode(alloc, &list, &mut out)?;
-    Ok((out, len))
-}
+const LIST: &str = "bad label: list";
 
-/// Whether the list of the bytes is read from all of them, and written as them.
-fn is_kept(alloc: Global, bytes: &[u8]) -> Result<bool, Refusal> {
-    let (again, len) = read_again(alloc, bytes)?;
-    Ok(again.as_slice() == bytes && len == bytes.len())
-}
+const PAIRS: &str = "bad label: pairs";
 
-#[test]
-fn lists_are_read_and_written(rt: HostRuntime) {
-    assert!(rt; is_kept(rt.alloc(), ONE_PAIR) == Ok(true));
-    assert!(rt; is_kept(rt.alloc(), EACH_TYPE) == Ok(true));
-}
+const TAIL: &str = "bad label: tail";
 
-fn number_of(list: Option<&NvList>, name: &str) -> Option<u64> {
-    list?.number(name)
-}
+const DIGEST: &str = "bad label: digest";
 
-/// How many lists there are, whether the first is empty, and a number of the second.
-fn told_of(lists: Option<&[NvList]>) -> Option<(usize, bool, Option<u64>)> {
-    let lists = lists?;
-    let first = lists.first()?.is_empty();
-    Some((lists.len(), first, number_of(lists.get(1), "y")))
-}
-
-fn is_each_type(list: &NvList) -> bool {
-    !list.is_empty()
-        && list.len() == 4
-        && list.number("a") == Some(0x0102_0304_0506_0708)
-        && list.text("ab") == Some("raidz")
-        && list.number("ab").is_none()
-        && number_of(list.list("b"), "x") == Some(7)
-        && told_of(list.lists("c")) == Some((2, true, Some(9)))
-}
-
-/// Whether each type is found in the list that has them.
-fn is_each_type_found(alloc: Global) -> Result<bool, Refusal> {
-    let (list, _) = decode(alloc, EACH_TYPE)?;
-    Ok(is_each_type(&list))
-}
-
-/// The number of the list with one pair.
-fn one_number(alloc: Global) -> Result<Option<u64>, Refusal> {
-    let (list, _) = decode(alloc, ONE_PAIR)?;
-    Ok(list.number("txg"))
-}
-
-#[test]
-fn each_type_is_found(rt: HostRuntime) {
-    assert!(rt; is_each_type_found(rt.alloc()) == Ok(true));
-    assert!(rt; one_number(rt.alloc()) == Ok(Some(4)));
-}
-
-fn refusal(alloc: Global, bytes: &[u8]) -> Option<Refusal> {
-    decode(alloc, bytes).err()
-}
-
-/// What a byte must not become, and why.
-const BREACHES: [(usize, u8, &str); 13] = [
-    (3, 5, "a pair is missing"),
-    (7, 0, "a name has no bytes"),
-    (8, 0x1f, "a name has a control byte"),
-    (8, 0x7f, "a name has a delete"),
-    (11, 1, "the zeros behind a name are none"),
-    (15, 10, "no value has type 10"),
-    (28, 0x60, "a name stands before the last"),
-    (40, 0x80, "a text is no ASCII"),
-    (47, 1, "the zeros behind a text are none"),
-    (39, 6, "a text takes in a zero"),
-    (60, 0xff, "a list has more pairs than bytes"),
-    (96, 0xff, "there are more lists than bytes"),
-    (103, 1, "an empty list has a pair"),
-];
-
-/// Why the list with each type is refused under which this byte is another.
-fn refusal_with(alloc: Global, place: usize, byte: u8) -> Option<Refusal> {
-    let mut bytes = *EACH_TYPE;
-    if place < bytes.len() {
-        bytes[place] = byte;
-    }
-    refusal(alloc, &bytes)
-}
-
-#[test]
-fn breaches_are_refused(rt: HostRuntime) {
-    for &(place, byte, why) in &BREACHES {
-        let refusal = refusal_with(rt.alloc(), place, byte);
-        assert!(rt; refusal == Some(Refusal::BadLabel), "{why}");
-    }
-}
-
-#[test]
-fn a_list_with_a_byte_less_is_refused(rt: HostRuntime) {
-    for len in 0..128 {
-        let front = &EACH_TYPE[..len];
-        assert!(rt;
-            refusal(rt.alloc(), front) == Some(Refusal::BadLabel),
-            "{len} bytes"
-        );
-    }
-}
-
-/// Lists in one another, each but the last with one pair.
-fn nested(alloc: Global, depth: usize) -> Result<Vec<u8>, AllocError> {
-    let mut bytes = Vec::new(alloc);
-    for _ in 1..depth {
-        bytes.extend_from_slice(b"\0\0\0\x01\0\0\0\x01a\0\0\0\0\0\0\x13")?;
-    }
-    bytes.extend_from_slice(b"\0\0\0\0")?;
-    Ok(bytes)
-}
-
-/// Why so many lists in one another are refused, if they are.
-fn nested_refusal(alloc: Global, depth: usize) -> Result<Option<Refusal>, AllocError> {
-    let bytes = nested(alloc, depth)?;
-    Ok(refusal(alloc, &bytes))
-}
-
-#[test]
-fn lists_nest_six_deep(rt: HostRuntime) {
-    assert!(rt; nested_refusal(rt.alloc(), 6) == Ok(None));
-    assert!(rt; nested_refusal(rt.alloc(), 7) == Ok(Some(Refusal::BadLabel)));
-}
-
-/// Names that are added one after another, and whether each is taken.
-const NAMES: [(&str, bool); 7] = [
-    ("name", true),
-    ("name", false),
-    ("na", false),
-    ("name\n", false),
-    ("txg", true),
+/// What bytes are and the bytes, and what is read; of a list what is asked of it, one after the other.
+pub(crate) const CASES: &[(&str, &str)] = &[
+    // Lists with one pair, and with one of each type. How many pairs there are and whether none, and the values of
+    // names: of two lists how many they are, whether the first is empty, and a number of the second.
+    ("list ONE: number txg", "Some(4); kept true"),
     (
-        "zzzzzzzzzzzzzzzzzzzzzzzzzzzzzzzzzzzzzzzzzzzzzzzzzzzzzzzzzzzzzzzzz",
-        false,
+        "list EACH: len; number a; text ab; number ab; list b x; lists c y",
+        "4 false; Some(72623859790382856); Some(\"raidz\"); None; Some(7); 2 true Some(9); kept true",
+    ),
+    // A pair is missing.
+    ("list EACH 3:05", NO_LIST),
+    // A name has no bytes.
+    ("list EACH 7:00", NO_LIST),
+    // A name has a control byte.
+    ("list EACH 8:1f", NO_LIST),
+    // A name has a delete.
+    ("list EACH 8:7f", NO_LIST),
+    // The zeros behind a name are none.
+    ("list EACH 11:01", NO_LIST),
+    // No value has type 10.
+    ("list EACH 15:0a", NO_LIST),
+    // A name stands before the last.
+    ("list EACH 28:60", NO_LIST),
+    // A text is no ASCII.
+    ("list EACH 40:80", NO_LIST),
+    // The zeros behind a text are none.
+    ("list EACH 47:01", NO_LIST),
+    // A text takes in a zero.
+    ("list EACH 39:06", NO_LIST),
+    // A list has more pairs than bytes.
+    ("list EACH 60:ff", NO_LIST),
+    // There are more lists than bytes.
+    ("list EACH 96:ff", NO_LIST),
+    // An empty list has a pair.
+    ("list EACH 103:01", NO_LIST),
+    // A front of it, of any length.
+    ("fronts EACH", "each is refused"),
+    // Lists nest six deep.
+    (
+        "list 00000001 00000001 'a 000000 00000013 00000001 00000001 'a 000000 00000013 \
+        00000001 00000001 'a 000000 00000013 00000001 00000001 'a 000000 00000013 \
+        00000001 00000001 'a 000000 00000013 00000000: len",
+        "1 false; kept true",
     ),
     (
-        "zzzzzzzzzzzzzzzzzzzzzzzzzzzzzzzzzzzzzzzzzzzzzzzzzzzzzzzzzzzzzzzz",
-        true,
+        "list 00000001 00000001 'a 000000 00000013 00000001 00000001 'a 000000 00000013 \
+        00000001 00000001 'a 000000 00000013 00000001 00000001 'a 000000 00000013 \
+        00000001 00000001 'a 000000 00000013 00000001 00000001 'a 000000 00000013 \
+        00000000: len",
+        NO_LIST,
     ),
+    // Names are pushed in their order, with at most 64 bytes, all of them printable.
+    (
+        "new: say a pool; push name; push name; push na; push name\n; push txg; \
+        push zzzzzzzzzzzzzzzzzzzzzzzzzzzzzzzzzzzzzzzzzzzzzzzzzzzzzzzzzzzzzzzzz; \
+        push zzzzzzzzzzzzzzzzzzzzzzzzzzzzzzzzzzzzzzzzzzzzzzzzzzzzzzzzzzzzzzzz; \
+        len; number txg; text a",
+        "true; true; false; false; false; true; false; true; 4 false; Some(4); Some(\"pool\"); ",
+    ),
+    // A vdev by its guid, its parity, the sectors of a disk, the shift of a metaslab, the metaslabs of the meta region and the
+    // guids of its disks; the sum of the guids; and what coreutils' `sha256sum` makes of the bytes.
+    (
+        "config CONFIG",
+        "100 1 7168 12 1 [101, 102, 103]; sum 406; \
+        5cafeadb29a500cab39cbc144946f7482a0584e27febf12506ed3a8c0529009e, kept true",
+    ),
+    // A byte more; and a list with another pair.
+    ("config CONFIG 00", LIST),
+    ("config ONE", PAIRS),
+    // Which configurations are allowed, by the pool's guid and the same of each vdev.
+    // The smallest.
+    ("allowed 1: 100 1 7168 12 1 101 102 103", "true"),
+    // One metaslab is none of the meta region.
+    ("allowed 1: 100 1 7168 12 4 101 102 103", "true"),
+    // All metaslabs are of the meta region.
+    ("allowed 1: 100 1 7168 12 5 101 102 103", "false"),
+    // There is no meta region.
+    ("allowed 1: 100 1 7168 12 0 101 102 103", "false"),
+    // The pool's guid is 0.
+    ("allowed 0: 100 1 7168 12 1 101 102 103", "false"),
+    // The vdev's guid is 0.
+    ("allowed 1: 0 1 7168 12 1 101 102 103", "false"),
+    // A disk's guid is 0.
+    ("allowed 1: 100 1 7168 12 1 101 0 103", "false"),
+    // A disk has the pool's guid.
+    ("allowed 103: 100 1 7168 12 1 101 102 103", "false"),
+    // A disk has the vdev's guid.
+    ("allowed 1: 102 1 7168 12 1 101 102 103", "false"),
+    // Two disks have one guid.
+    ("allowed 1: 100 1 7168 12 1 101 102 101", "false"),
+    // There is no parity.
+    ("allowed 1: 100 0 7168 12 1 101 102 103", "false"),
+    // There are three parities.
+    ("allowed 1: 100 3 7168 12 1 101 102 103 104", "false"),
+    // Two parities of three disks.
+    ("allowed 1: 100 2 7168 12 1 101 102 103", "true"),
+    // There is no disk for data.
+    ("allowed 1: 100 2 7168 12 1 101 102", "false"),
+    // The disks are too small.
+    ("allowed 1: 100 1 6656 12 1 101 102 103", "false"),
+    // A disk has no whole number of labels.
+    ("allowed 1: 100 1 7169 12 1 101 102 103", "false"),
+    // There are too many metaslabs.
+    ("allowed 1: 100 1 17179859968 20 1 101 102", "false"),
+    // The disks are too large.
+    ("allowed 1: 100 1 17179860480 20 1 101 102", "false"),
+    // The metaslabs are too small.
+    ("allowed 1: 100 1 7168 11 1 101 102 103", "false"),
+    // The metaslabs are too large.
+    ("allowed 1: 100 1 1048576 21 1 101 102 103 104 105", "false"),
+    // There are 1,024 metaslabs.
+    ("allowed 1: 100 1 1399296 12 1 101 102 103", "true"),
+    // There are 1,025 metaslabs.
+    ("allowed 1: 100 1 1399808 12 1 101 102 103", "false"),
+    // Of none, one, eight and nine vdevs.
+    ("allowed 1: none", "false"),
+    ("allowed 1: 100 1 7168 12 1 101 102 103", "true"),
+    (
+        "allowed 1: 100 1 7168 12 1 101 102 103; 200 1 7168 12 1 201 202 203; \
+        300 1 7168 12 1 301 302 303; 400 1 7168 12 1 401 402 403; \
+        500 1 7168 12 1 501 502 503; 600 1 7168 12 1 601 602 603; \
+        700 1 7168 12 1 701 702 703; 800 1 7168 12 1 801 802 803",
+        "true",
+    ),
+    (
+        "allowed 1: 100 1 7168 12 1 101 102 103; 200 1 7168 12 1 201 202 203; \
+        300 1 7168 12 1 301 302 303; 400 1 7168 12 1 401 402 403; \
+        500 1 7168 12 1 501 502 503; 600 1 7168 12 1 601 602 603; \
+        700 1 7168 12 1 701 702 703; 800 1 7168 12 1 801 802 803; \
+        900 1 7168 12 1 901 902 903",
+        "false",
+    ),
+    // Where labels lie on a disk of 8 MiB, and on one that has a part of a label behind it.
+    ("offset 8388608 0", "0"),
+    ("offset 8650751 0", "0"),
+    ("offset 8388608 1", "262144"),
+    ("offset 8650751 1", "262144"),
+    ("offset 8388608 2", "7864320"),
+    ("offset 8650751 2", "7864320"),
+    ("offset 8388608 3", "8126464"),
+    ("offset 8650751 3", "8126464"),
+    // A label: its pool, whether that is active, its claim, the guids of the disk, the pool and the vdev, its group, and its
+    // configuration.
+    (
+        "area LABEL len=114688 seal",
+        "pool true 1 101 1 100 2: 100 1 7168 12 1 [101, 102, 103], kept true",
+    ),
+    // A pair is missing.
+    ("area LABEL len=114688 3:0a seal", LIST),
+    // A pair follows the list.
+    ("area LABEL len=114688 3:08 seal", LIST),
+    // A byte follows the list.
+    ("area LABEL len=114688 577:01 seal", LIST),
+    // The zeros behind a name are none.
+    ("area LABEL len=114688 13:01 seal", LIST),
+    // Names don't ascend.
+    ("area LABEL len=114688 32:61 seal", LIST),
+    // There is no claim.
+    ("area LABEL len=114688 12:6e seal", PAIRS),
+    // The claim is 0.
+    ("area LABEL len=114688 27:00 seal", PAIRS),
+    // The claim is above 2^62.
+    ("area LABEL len=114688 20:40 seal", PAIRS),
+    // The name begins with no small letter.
+    ("area LABEL len=114688 64:50 seal", PAIRS),
+    // The name begins with a digit.
+    ("area LABEL len=114688 64:31 seal", PAIRS),
+    // The name has a slash.
+    ("area LABEL len=114688 65:2f seal", PAIRS),
+    // There is no state 2.
+    ("area LABEL len=114688 119:02 seal", PAIRS),
+    // The group is 0.
+    ("area LABEL len=114688 163:00 seal", PAIRS),
+    // The group is above 2^62.
+    ("area LABEL len=114688 156:40 seal", PAIRS),
+    // The sectors have another size.
+    ("area LABEL len=114688 235:0c seal", PAIRS),
+    // The first child is number 1.
+    ("area LABEL len=114688 323:01 seal", PAIRS),
+    // The first vdev is number 1.
+    ("area LABEL len=114688 451:01 seal", PAIRS),
+    // No value has type 7.
+    ("area LABEL len=114688 519:07 seal", LIST),
+    // The vdev is no raidz.
+    ("area LABEL len=114688 544:73 seal", PAIRS),
+    // There is no version 2.
+    ("area LABEL len=114688 575:02 seal", PAIRS),
+    // Pairs are these and no others: one is missing at the end, and one follows there.
+    ("area LABEL len=552 3:08 len=114688 seal", PAIRS),
+    (
+        "area LABEL 00000004 'zone 00000008 00*8 3:0a len=114688 seal",
+        PAIRS,
+    ),
+    // Bytes of a sealed area are changed: the first breach is told.
+    ("area LABEL len=114688 seal 0^03", DIGEST),
+    ("area LABEL len=114688 seal 114687^01 3^02", DIGEST),
+    ("area LABEL len=114688 seal 114648^01 0^02", TAIL),
+    ("area LABEL len=114688 seal 114655^01 114687^02", TAIL),
 ];
 
-/// Which of the names are taken, with 4 as the value of each.
-fn taken(list: &mut NvList) -> [bool; 7] {
-    let mut taken = [false; 7];
-    for i in 0..7 {
-        taken[i] = list.push(NAMES[i].0, Value::Number(4)).is_ok();
+/// What a list answers.
+fn asked(alloc: Global, list: &mut NvList, query: &str) -> Result<String, Fail> {
+    let mut words = query.split(" ");
+    let verb = words.next().unwrap_or("");
+    let name = words.next().unwrap_or("");
+    let other = words.next().unwrap_or("");
+    Ok(match verb {
+        "number" => format!(in alloc; "{:?}", list.number(name))?,
+        "text" => format!(in alloc; "{:?}", list.text(name))?,
+        "list" => match list.list(name) {
+            Some(list) => format!(in alloc; "{:?}", list.number(other))?,
+            None => String::new(alloc),
+        },
+        "lists" => match list.lists(name) {
+            Some([first, second]) => {
+                format!(in alloc; "2 {} {:?}", first.is_empty(), second.number(other))?
+            }
+            _ => String::new(alloc),
+        },
+        "push" => format!(in alloc; "{}", list.push(name, Value::Number(4)).is_ok())?,
+        "say" => {
+            let value = Value::Text(String::from_str(alloc, other)?);
+            format!(in alloc; "{}", list.push(name, value).is_ok())?
+        }
+        _ => format!(in alloc; "{} {}", list.len(), list.is_empty())?,
+    })
+}
+
+/// What a list answers, one after the other.
+fn answers(alloc: Global, list: &mut NvList, queries: &str) -> Result<String, Fail> {
+    let mut text = String::new(alloc);
+    for query in queries.split("; ") {
+        let answer = asked(alloc, list, query)?;
+        write!(text, "{answer}; ")?;
     }
-    taken
+    Ok(text)
 }
 
-/// A list with one text.
-fn one_text(alloc: Global) -> Result<NvList, Refusal> {
-    let pool = Value::Text(String::from_str(alloc, "pool")?);
-    let mut list = NvList::new(alloc);
-    list.push("a", pool)?;
-    Ok(list)
+/// A vdev by its guid, its parity, the sectors of a disk, the shift of a metaslab, the metaslabs of the meta region and the
+/// guids of its disks.
+fn config_text(alloc: Global, config: &Config) -> Result<String, Fail> {
+    let mut text = String::new(alloc);
+    for vdev in &config.vdevs {
+        write!(
+            text,
+            "{} {} {} {} {} {:?}",
+            vdev.guid,
+            vdev.parity,
+            vdev.child_sectors,
+            vdev.slab_shift,
+            vdev.meta_slabs,
+            vdev.children.as_slice()
+        )?;
+    }
+    Ok(text)
 }
 
-/// Which of the names are taken behind a text, and how many pairs, which number and whether the text there are then.
-fn pushed(alloc: Global) -> Result<([bool; 7], usize, Option<u64>, bool), Refusal> {
-    let mut list = one_text(alloc)?;
-    let taken = taken(&mut list);
-    let is_kept = list.text("a") == Some("pool");
-    Ok((taken, list.len(), list.number("txg"), is_kept))
+/// The name of the pool, whether it is active, the claim, the guids of the disk, the pool and the vdev, the group, and the
+/// configuration.
+pub(crate) fn label_text(alloc: Global, label: &Label) -> Result<String, Fail> {
+    let config = config_text(alloc, &label.config)?;
+    let is_active = label.state == State::Active;
+    Ok(format!(in alloc;
+        "{} {is_active} {} {} {} {} {}: {config}",
+        label.name, label.claim, label.guid, label.pool_guid, label.top_guid, label.group
+    )?)
 }
 
-#[test]
-fn pairs_are_pushed_in_order(rt: HostRuntime) {
-    let wanted = NAMES.map(|(_, wanted)| wanted);
-    assert!(rt; pushed(rt.alloc()) == Ok((wanted, 4, Some(4), true)));
+/// What the bytes of a list, a configuration or the area of a label are read as.
+fn read(alloc: Global, verb: &str, bytes: &[u8], queries: &str) -> Result<String, Fail> {
+    match verb {
+        "config" => match Config::decode(alloc, bytes) {
+            Ok(config) => {
+                let is_kept = config.encode(alloc)?.as_slice() == bytes;
+                let digest = hex::encode(alloc, config.digest(alloc)?.as_slice())?;
+                let text = config_text(alloc, &config)?;
+                Ok(format!(in alloc;
+                    "{text}; sum {}; {digest}, kept {is_kept}",
+                    config.guid_sum()
+                )?)
+            }
+            Err(refusal) => Ok(format!(in alloc; "{refusal}")?),
+        },
+        "area" if bytes.len() == AREA_LEN => match decode_area(alloc, bytes) {
+            Ok(label) => {
+                let is_kept = encode_area(alloc, &label)?.as_slice() == bytes;
+                let text = label_text(alloc, &label)?;
+                Ok(format!(in alloc; "{text}, kept {is_kept}")?)
+            }
+            Err(refusal) => Ok(format!(in alloc; "{refusal}")?),
+        },
+        _ => match nvlist::decode(alloc, bytes) {
+            Ok((mut list, len)) => {
+                let mut again = Vec::new(alloc);
+                nvlist::encode(alloc, &list, &mut again)?;
+                let is_kept = again.as_slice() == bytes && len == bytes.len();
+                let text = answers(alloc, &mut list, queries)?;
+                Ok(format!(in alloc; "{text}kept {is_kept}")?)
+            }
+            Err(refusal) => Ok(format!(in alloc; "{refusal}")?),
+        },
+    }
+}
+
+/// Whether a configuration of these vdevs is allowed.
+fn is_allowed(alloc: Global, pool: u64, words: &str) -> Result<bool, Fail> {
+    let mut vdevs = Vec::new(alloc);
+    for vdev in words.split("; ") {
+        let numbers = vdev.split(" ").filter_map(|word| word.parse::<u64>().ok());
+        let numbers: Vec<u64> = numbers.collect(alloc)?;
+        let [
+            guid,
+            parity,
+            child_sectors,
+            slab_shift,
+            meta_slabs,
+            children @ ..,
+        ] = numbers.as_slice()
+        else {
+            continue;
+        };
+        vdevs.push(Vdev {
+            guid: *guid,
+            parity: *parity,
+            child_sectors: *child_sectors,
+            slab_shift: *slab_shift,
+            meta_slabs: *meta_slabs,
+            children: Vec::from_slice(alloc, children)?,
+        })?;
+    }
+    Ok(Config { vdevs }.is_allowed(alloc, pool)?)
+}
+
+/// What is read, or what a list answers to whom pushes pairs, or whether vdevs are allowed, or where a label is.
+pub(crate) fn answer(alloc: Global, line: &str) -> Result<String, Fail> {
+    let (head, rest) = line.split_once(": ").unwrap_or((line, ""));
+    let (verb, words) = head.split_once(" ").unwrap_or((head, ""));
+    let [first, second, _] = parse(head).numbers;
+    match verb {
+        "allowed" => return Ok(format!(in alloc; "{}", is_allowed(alloc, first, rest)?)?),
+        "offset" => {
+            let offset = label_offset(first.max(1_048_576), second.min(3));
+            return Ok(format!(in alloc; "{offset}")?);
+        }
+        "new" => return answers(alloc, &mut NvList::new(alloc), rest),
+        _ => {}
+    }
+    let bytes = spelled(alloc, words)?;
+    if verb != "fronts" {
+        return read(alloc, verb, &bytes, rest);
+    }
+    for len in 0..bytes.len() {
+        if nvlist::decode(alloc, &bytes[..len]).err() != Some(nvlist::Refusal::BadLabel) {
+            return Ok(format!(in alloc; "the first {len} bytes are read")?);
+        }
+    }
+    Ok(String::from_str(alloc, "each is refused")?)
 }

@@ -1,14 +1,14 @@
-ghost use Rattle.std.specs.Prelude.{◌≡◌, ◌<◌, ◌≤◌, ◌*◌, length};
-ghost use Rattle.model_disk.specs.Joint.{bytes_of};
+//! Uberblocks, and the slots that they stand in.
+ghost use Rattle.uberblock_ring.specs.Uberblock.{Fits};
 
+use crate::spelling::{parse, spelled};
 use block_pointer::{Block, Copies, Dva, Property};
-use model_disk::{DiskArray, DiskError, MemDisk};
 use std::alloc::Global;
-use std::test::*;
+use std::test::Fail;
 use uberblock_ring::*;
-use vdev_label::{LABEL_LEN, LABELS};
-use words::seal;
+use words::LAST_COUNT;
 
+/// A root in three copies, born in group 4.
 const ROOT: Block = Block {
     copies: Copies::Three(
         Dva {
@@ -37,164 +37,185 @@ const ROOT: Block = Block {
     checksum: [0xee; 32],
 };
 
-pub(crate) const UBERBLOCK: Uberblock = Uberblock {
-    group: 4,
-    guid_sum: 0x0102_0304_0506_0708,
-    timestamp: 9,
-    root: ROOT,
-    claim: 1,
-    config_digest: [0xdd; 32],
-};
+const NO_DIGEST: [u8; 32] = [0xdd; 32];
 
-#[test]
-fn slots_of_groups(rt: HostRuntime) {
-    assert!(rt; slot_of(4) == 4);
-    assert!(rt; slot_offset(4) == 135_168);
-    assert!(rt; slot_of(130) == 2);
-    assert!(rt; slot_offset(130) == 133_120);
-}
-
-/// Bytes of the slot, from a place on.
-const FIELDS: [(usize, &[u8]); 6] = [
-    (0, &[0x0c, 0xb1, 0xba, 0, 0, 0, 0, 0]),
-    (16, &[4]),
-    (40, &[12, 0, 0, 0, 0, 0, 0, 0]),
-    (168, &[1]),
-    (207, &[0xdd, 0]),
-    (984, &[0x11, 0x7a, 0x0c, 0xb1, 0x7a, 0xda, 0x10, 0x02]),
+/// What coreutils' `sha256sum` makes of the configuration that the labels have.
+const DIGEST: [u8; 32] = [
+    0x5c, 0xaf, 0xea, 0xdb, 0x29, 0xa5, 0x00, 0xca, 0xb3, 0x9c, 0xbc, 0x14, 0x49, 0x46, 0xf7, 0x48,
+    0x2a, 0x05, 0x84, 0xe2, 0x7f, 0xeb, 0xf1, 0x25, 0x06, 0xed, 0x3a, 0x8c, 0x05, 0x29, 0x00, 0x9e,
 ];
 
-#[test]
-fn an_uberblock_is_written_and_read(rt: HostRuntime) {
-    let bytes = encode_slot(&UBERBLOCK);
-    for &(place, field) in &FIELDS {
-        assert!(rt; bytes[place..].starts_with(field), "at {place}");
-    }
-    assert!(rt; decode_slot(4, &bytes) == Ok(UBERBLOCK));
-}
-
-fn is_refused(slot: usize, bytes: &[u8; 1024]) -> bool {
-    decode_slot(slot, bytes) == Err(Refusal::NoUberblock)
-}
-
-/// Whether the bytes are refused in slot 4 as they are, and under a seal of their own.
-fn are_refused(bytes: &mut [u8; 1024]) -> (bool, bool) {
-    let unsealed = is_refused(4, bytes);
-    seal(bytes);
-    (unsealed, is_refused(4, bytes))
-}
-
-#[test]
-fn another_slot_is_refused(rt: HostRuntime) {
-    let bytes = encode_slot(&UBERBLOCK);
-    assert!(rt; is_refused(5, &bytes) && is_refused(132, &bytes));
-    assert!(rt; is_refused(0, &[0; 1024]));
-}
-
-/// What a byte must not become, even under a seal of its own, and why.
-const BREACHES: [(usize, u8, &str); 14] = [
-    (0, 0x0d, "the magic is another"),
-    (8, 2, "the version is 2"),
-    (16, 0, "the group is 0"),
-    (16, 132, "the group is another than the root's birth"),
-    (23, 0x80, "the group is too great"),
-    (40, 0, "the root pointer is none"),
-    (72, 0, "a used place of the root is empty"),
-    (94, 0x0c, "the type is 12"),
-    (95, 0x81, "the level is 1"),
-    (120, 5, "the root's birth is another"),
-    (168, 0, "the claim is 0"),
-    (175, 0x80, "the claim is too great"),
-    (208, 1, "a byte behind the fields is not zero"),
-    (983, 1, "the last byte before the seal is not zero"),
+/// And of the one where each disk has one sector more.
+const LARGER: [u8; 32] = [
+    0xf1, 0xbe, 0xf6, 0xab, 0xaa, 0xd0, 0xa4, 0xdf, 0xab, 0x1c, 0x3d, 0x60, 0x47, 0x4e, 0x97, 0xf5,
+    0x47, 0x43, 0xc2, 0x92, 0x17, 0xd7, 0xd0, 0xf0, 0x83, 0x9c, 0xf7, 0xd4, 0xcb, 0x9d, 0x52, 0x63,
 ];
 
-/// Whether the slot is refused of which this byte is another, as it is and under a seal of its own.
-fn are_refused_with(place: usize, byte: u8) -> (bool, bool) {
-    let mut bytes = encode_slot(&UBERBLOCK);
-    if place < bytes.len() {
-        bytes[place] = byte;
-    }
-    are_refused(&mut bytes)
-}
+/// A sum of guids that no pool here has.
+const NO_SUM: u64 = 0x0102_0304_0506_0708;
 
-#[test]
-fn breaches_are_refused(rt: HostRuntime) {
-    for &(place, byte, why) in &BREACHES {
-        assert!(rt; are_refused_with(place, byte) == (true, true), "{why}");
-    }
-}
-
-#[test]
-fn a_hole_and_two_copies_are_no_root(rt: HostRuntime) {
-    let mut two = encode_slot(&UBERBLOCK);
-    two[72..88].fill(0);
-    let mut hole = encode_slot(&UBERBLOCK);
-    hole[40..168].fill(0);
-    assert!(rt; are_refused(&mut two) == (true, true));
-    assert!(rt; are_refused(&mut hole) == (true, true));
-}
-
-const CLAIMED: Uberblock = Uberblock {
-    claim: 2,
-    ..UBERBLOCK
-};
-
-const LATER: Uberblock = Uberblock {
-    group: 5,
-    ..UBERBLOCK
-};
-
-/// Uberblocks, and the best of them.
-const BESTS: [(&[Uberblock], Option<Uberblock>); 3] = [
-    (&[UBERBLOCK, LATER], Some(LATER)),
-    (&[LATER, UBERBLOCK, CLAIMED], Some(CLAIMED)),
-    (&[], None),
+/// The names of uberblocks here.
+const NAMES: [&str; 8] = [
+    "plain",
+    "next",
+    "first",
+    "second",
+    "larger",
+    "whole",
+    "odd-config",
+    "odd-sum",
 ];
 
-#[test]
-fn the_claim_counts_before_the_group(rt: HostRuntime) {
-    for (uberblocks, wanted) in &BESTS {
-        assert!(rt; best(uberblocks) == *wanted);
-    }
-}
+const NONE: &str = "the slot has no uberblock";
 
-/// The uberblock of the group behind.
-pub(crate) const NEXT: Uberblock = Uberblock {
-    group: 5,
-    root: Block { birth: 5, ..ROOT },
-    ..UBERBLOCK
-};
+pub(crate) const CASES: &[(&str, &str)] = &[
+    // The slot of a group, and where it begins in a label.
+    ("place 4", "4 135168"),
+    ("place 130", "2 133120"),
+    // An uberblock is read in its own slot.
+    ("read 4: SLOT", "plain/1, kept true"),
+    ("read 5: SLOT", NONE),
+    ("read 132: SLOT", NONE),
+    ("read 0: 00*1024", NONE),
+    // The magic is another; as the slot is, and under a seal of its own.
+    ("read 4: SLOT 0:0d", NONE),
+    ("read 4: SLOT 0:0d seal", NONE),
+    // The version is 2.
+    ("read 4: SLOT 8:02", NONE),
+    ("read 4: SLOT 8:02 seal", NONE),
+    // The group is 0, another than the root's birth, too great.
+    ("read 4: SLOT 16:00", NONE),
+    ("read 4: SLOT 16:00 seal", NONE),
+    ("read 4: SLOT 16:84", NONE),
+    ("read 4: SLOT 16:84 seal", NONE),
+    ("read 4: SLOT 23:80", NONE),
+    ("read 4: SLOT 23:80 seal", NONE),
+    // The root pointer is none, and a used place of it is empty.
+    ("read 4: SLOT 40:00", NONE),
+    ("read 4: SLOT 40:00 seal", NONE),
+    ("read 4: SLOT 72:00", NONE),
+    ("read 4: SLOT 72:00 seal", NONE),
+    // Its type is 12, its level 1, its birth another.
+    ("read 4: SLOT 94:0c", NONE),
+    ("read 4: SLOT 94:0c seal", NONE),
+    ("read 4: SLOT 95:81", NONE),
+    ("read 4: SLOT 95:81 seal", NONE),
+    ("read 4: SLOT 120:05", NONE),
+    ("read 4: SLOT 120:05 seal", NONE),
+    // The claim is 0, and too great.
+    ("read 4: SLOT 168:00", NONE),
+    ("read 4: SLOT 168:00 seal", NONE),
+    ("read 4: SLOT 175:80", NONE),
+    ("read 4: SLOT 175:80 seal", NONE),
+    // The first byte behind the fields, and the last before the seal, are not zero.
+    ("read 4: SLOT 208:01", NONE),
+    ("read 4: SLOT 208:01 seal", NONE),
+    ("read 4: SLOT 983:01", NONE),
+    ("read 4: SLOT 983:01 seal", NONE),
+    // The root has two copies, and is a hole.
+    ("read 4: SLOT 72:00 76:00 80:00", NONE),
+    ("read 4: SLOT 72:00 76:00 80:00 seal", NONE),
+    (
+        "read 4: 0cb1ba0000000000 0100000000000000 0400000000000000 0807060504030201 \
+        0900000000000000 00*128 01 00*7 dd*32 00*776 117a0cb17ada1002 \
+        17b6cbecc3bd226571a46cb2970116e6f4693f234a84be5c2bffb19a844e8e4c",
+        NONE,
+    ),
+    (
+        "read 4: 0cb1ba0000000000 0100000000000000 0400000000000000 0807060504030201 \
+        0900000000000000 00*128 01 00*7 dd*32 00*816 seal",
+        NONE,
+    ),
+    // Of uberblocks the best, of slots the highest, and what is so many groups before: the claim counts before the group.
+    (
+        "rank plain 1 0: plain 1, next 1",
+        "next/1, Some(1), plain/1",
+    ),
+    (
+        "rank plain 2 1: next 1, plain 1, plain 2",
+        "plain/2, Some(2), none",
+    ),
+    // What is not there is not gone back to.
+    ("rank next 1 2: none, plain 1", "plain/1, Some(1), none"),
+    ("rank next 1 0: none", "none, None, none"),
+];
 
-/// Writes the one to the last label of a disk, and the next to its second.
-fn write_two(disks: &mut DiskArray<MemDisk>) -> Result<(), DiskError>
-    requires which { 0 < length disks.old.starts }
-    requires size { LABELS * LABEL_LEN ≤ length (bytes_of disks.old.starts 0) }
-    ensures { disks.new.starts ≡ disks.old.starts }
+/// The uberblock of this name under a claim: its group, its sum of guids and the digest of its configuration.
+pub(crate) fn named(name: &str, claim: u64) -> Uberblock
+    ensures { Fits result }
 {
-    write_slot(disks, 0, 3, &UBERBLOCK)?;
-    write_slot(disks, 0, 1, &NEXT)
+    let (group, guid_sum, config_digest) = match name {
+        "next" => (5, NO_SUM, NO_DIGEST),
+        "first" => (4, NO_SUM, DIGEST),
+        "second" => (5, NO_SUM, DIGEST),
+        "larger" => (5, NO_SUM, LARGER),
+        "whole" => (4, 406, DIGEST),
+        "odd-config" => (4, 406, NO_DIGEST),
+        "odd-sum" => (4, 407, DIGEST),
+        _ => (4, NO_SUM, NO_DIGEST),
+    };
+    Uberblock {
+        group,
+        guid_sum,
+        timestamp: 9,
+        root: Block {
+            birth: group,
+            ..ROOT
+        },
+        claim: claim.clamp(1, LAST_COUNT),
+        config_digest,
+    }
 }
 
-/// How many slots a disk has, which one has the highest uberblock, and what is one group before, where
-/// the one is in its last label and the next in its second.
-fn two_slots(alloc: Global) -> Result<(usize, Option<usize>, Option<Uberblock>), Fail> {
-    let mut disks = DiskArray::in_memory(alloc, 1, 0x10_0000)?;
-    write_two(&mut disks)?;
-    let slots = read_slots(alloc, &mut disks, 0)?;
-    Ok((slots.len(), highest(&slots), rewound(&slots, &NEXT, 1)))
+/// The name of what is that uberblock in each field, and its claim.
+pub(crate) fn uberblock_text(alloc: Global, found: Option<&Uberblock>) -> Result<String, Fail> {
+    let Some(found) = found else {
+        return Ok(String::from_str(alloc, "none")?);
+    };
+    for name in &NAMES {
+        if named(name, found.claim) == *found {
+            return Ok(format!(in alloc; "{name}/{}", found.claim)?);
+        }
+    }
+    Ok(String::from_str(alloc, "another")?)
 }
 
-#[test]
-fn slots_of_a_disk_are_written_and_read(rt: HostRuntime) -> Result<(), Fail> {
-    let found = two_slots(rt.alloc())?;
-    assert!(rt; found == (512, Some(133), Some(UBERBLOCK)));
-    Ok(())
-}
-
-#[test]
-fn what_is_not_there_is_not_gone_back_to(rt: HostRuntime) {
-    let slots = [None, Some(UBERBLOCK)];
-    assert!(rt; rewound(&slots, &NEXT, 2) == None);
-    assert!(rt; highest(&slots[..1]) == None);
+/// Where the slot of a group is; or of uberblocks the best, of slots that have them the highest, and the one so many groups
+/// before another; or what the bytes of a slot are read as.
+pub(crate) fn answer(alloc: Global, line: &str) -> Result<String, Fail> {
+    let (head, words) = line.split_once(": ").unwrap_or((line, ""));
+    let step = parse(head);
+    let [number, groups, _] = step.numbers;
+    if step.verb == "place" {
+        return Ok(format!(in alloc; "{} {}", slot_of(number), slot_offset(number))?);
+    }
+    if step.verb == "rank" {
+        let mut slots = Vec::new(alloc);
+        let mut there = Vec::new(alloc);
+        for word in words.split(", ") {
+            let it = parse(word);
+            if it.verb == "none" {
+                slots.push(None)?;
+            } else {
+                slots.push(Some(named(it.verb, it.numbers[0])))?;
+                there.push(named(it.verb, it.numbers[0]))?;
+            }
+        }
+        let best = uberblock_text(alloc, best(&there).as_ref())?;
+        let before = rewound(&slots, &named(step.name, number), groups);
+        let before = uberblock_text(alloc, before.as_ref())?;
+        return Ok(format!(in alloc; "{best}, {:?}, {before}", highest(&slots))?);
+    }
+    let bytes = spelled(alloc, words)?;
+    let Some(slot) = bytes.first_chunk::<1024>() else {
+        return Ok(String::new(alloc));
+    };
+    match decode_slot((number % 256) as usize, slot) {
+        Ok(uberblock) => {
+            let is_kept = encode_slot(&uberblock) == *slot;
+            let text = uberblock_text(alloc, Some(&uberblock))?;
+            Ok(format!(in alloc; "{text}, kept {is_kept}")?)
+        }
+        Err(refusal) => Ok(format!(in alloc; "{refusal}")?),
+    }
 }

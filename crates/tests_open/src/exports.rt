@@ -3,7 +3,8 @@ use crate::pools::{
     Shown, TestDisk, blank, blocks_of, committed, fill, make, present, sync, write_block,
 };
 use model_disk::Member;
-use pool_core::{Core, Refusal};
+use pool_create::Core;
+use pool_model::Refusal;
 use pool_open::{NotExported, OpenedPool, export, open};
 use std::alloc::{AllocError, Global};
 use std::test::*;
@@ -46,7 +47,8 @@ fn blocks_in(alloc: Global, core: Core<Member<TestDisk>>) -> Result<Option<(u8, 
 type Found = (Shown, u64);
 
 fn opened(alloc: Global, disks: Vec<TestDisk>) -> Result<Found, Fail> {
-    let OpenedPool { core, uberblock } = open(alloc, disks, 0).map_err(pool_open::Refusal::from)?;
+    let (pool, _) = open(alloc, disks, 0).map_err(pool_open::Refusal::from)?;
+    let OpenedPool { core, uberblock } = pool;
     let blocks = blocks_in(alloc, core)?;
     Ok(((Some(uberblock.group), blocks), uberblock.claim))
 }

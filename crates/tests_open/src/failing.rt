@@ -1,8 +1,9 @@
 //! Pools that are opened while disks fail.
+use crate::finds::guids_of;
 use crate::opened::written;
 use crate::pools::{NEVER, Opening, TestDisk, blocks_of, failing_at, opening};
 use model_disk::{Fault, Member};
-use pool_core::Core;
+use pool_create::Core;
 use pool_open::{NotOpened, OpenedPool, Refusal, open};
 use std::alloc::{AllocError, Global};
 use std::test::*;
@@ -60,12 +61,16 @@ fn shown(alloc: Global, pool: OpenedPool<Member<TestDisk>>, dead: usize) -> Resu
     Ok(((uberblock.group, uberblock.claim), out?, blocks?, again))
 }
 
-/// Why a pool that was found is not opened, and how many disks come back.
-fn back(failed: NotOpened<TestDisk>) -> Option<(Refusal, usize)> {
-    match failed {
-        NotOpened::NotFound { .. } => None,
-        NotOpened::Refused { refusal, disks } => Some((refusal, disks.len())),
+/// Why a pool that was found is not opened, and how many disks come back, the last one of the pool first.
+fn back(alloc: Global, failed: NotOpened<TestDisk>) -> Result<Option<(Refusal, usize)>, Fail> {
+    let NotOpened::Refused { refusal, disks } = failed else {
+        return Ok(None);
+    };
+    let guids = guids_of(alloc, disks)?;
+    if guids.first() != Some(&Some(103)) {
+        return Ok(None);
     }
+    Ok(Some((refusal, guids.len())))
 }
 
 /// What is shown of a pool that is opened on disks that fail so, where it is.
@@ -75,8 +80,8 @@ fn opened(
     dead: usize,
 ) -> Result<Result<Shown, Option<(Refusal, usize)>>, Fail> {
     match open(alloc, failing(alloc, faults)?, 0) {
-        Ok(pool) => Ok(Ok(shown(alloc, pool, dead)?)),
-        Err(failed) => Ok(Err(back(failed))),
+        Ok((pool, _)) => Ok(Ok(shown(alloc, pool, dead)?)),
+        Err(failed) => Ok(Err(back(alloc, failed)?)),
     }
 }
 

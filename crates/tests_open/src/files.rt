@@ -134,10 +134,11 @@ fn first_absent(members: &[Member<FileDisk>]) -> Option<usize> {
 }
 
 fn found_on(alloc: Global, disks: Vec<FileDisk>) -> Found {
+    let (pool, _) = open(alloc, disks, 0)?;
     let OpenedPool {
         mut core,
         uberblock,
-    } = open(alloc, disks, 0)?;
+    } = pool;
     let blocks = blocks_of(alloc, &mut core, "v");
     let absent = first_absent(&core.into_disks());
     Ok(((Some(uberblock.group), blocks?), absent))

@@ -1,9 +1,9 @@
 //! Pools that are found on disks that are handed in, in any order.
 use crate::pools::{NEVER, TestDisk, failing_at, pool_disks};
-use model_disk::{DiskArray, Fault, Member};
+use model_disk::{DiskArray, Fault, FaultDisk, MemDisk, Member};
 use pool_labels::Refusal;
-use pool_open::{FoundPool, find};
-use std::alloc::Global;
+use pool_open::{FoundPool, NotOpened, find, into_disks, open};
+use std::alloc::{AllocError, Global};
 use std::test::*;
 
 type Disks = Vec<TestDisk>;
@@ -103,5 +103,47 @@ fn refused_disks_are_not_found(rt: HostRuntime) -> Result<(), Fail> {
     assert!(rt; twice == Err(Refusal::PoolMismatch));
     let alone = found(rt.alloc(), &([2, 3, 3], NEVER))?;
     assert!(rt; alone == Err(Refusal::TooManyMissing));
+    Ok(())
+}
+
+/// The disks of a pool in another order, and a small one among them that has nothing to do with it.
+fn strange_among(alloc: Global) -> Result<Disks, Fail> {
+    let mut disks = Vec::new(alloc);
+    hand_in(alloc, &mut disks, 2, NEVER)?;
+    disks.push(FaultDisk::new(MemDisk::new(alloc, 512)?, NEVER))?;
+    hand_in(alloc, &mut disks, 0, NEVER)?;
+    hand_in(alloc, &mut disks, 1, NEVER)?;
+    Ok(disks)
+}
+
+/// The last byte of the guid that each disk shows, where it is long enough for one.
+pub(crate) fn guids_of(alloc: Global, disks: Disks) -> Result<Vec<Option<u8>>, AllocError> {
+    let mut guids = Vec::new(alloc);
+    for disk in disks {
+        let bytes = disk.into_inner().into_bytes();
+        guids.push(bytes.get(GUID_AT as usize).copied())?;
+    }
+    Ok(guids)
+}
+
+/// The disks that come back of a pool that is opened, so many groups back, or of one that isn't.
+fn come_back(alloc: Global, rewind: u64) -> Result<(bool, Vec<Option<u8>>), Fail> {
+    let disks = strange_among(alloc)?;
+    let (is_opened, disks) = match open(alloc, disks, rewind.min(2)) {
+        Ok((pool, handed)) => (true, into_disks(pool, handed)),
+        Err(NotOpened::NotFound { disks, .. } | NotOpened::Refused { disks, .. }) => (false, disks),
+    };
+    Ok((is_opened, guids_of(alloc, disks)?))
+}
+
+/// All disks that are handed in come back, in that order, one that is no child's too.
+#[test]
+fn all_disks_come_back_in_order(rt: HostRuntime) -> Result<(), Fail> {
+    for (rewind, opens) in [(0, true), (1, false)] {
+        let (is_opened, guids) = come_back(rt.alloc(), rewind)?;
+        assert!(rt; is_opened == opens);
+        let wanted = [Some(103), None, Some(101), Some(102)];
+        assert!(rt; guids.as_slice() == wanted.as_slice());
+    }
     Ok(())
 }

@@ -2,6 +2,8 @@
 #![tactic(auto)]
 
 #[cfg(test)]
+mod bare;
+#[cfg(test)]
 mod configured;
 #[cfg(test)]
 mod exports;
@@ -15,3 +17,5 @@ mod finds;
 mod opened;
 #[cfg(test)]
 mod pools;
+#[cfg(test)]
+mod roots;

@@ -1,10 +1,10 @@
 //! Pools that are opened again.
 use crate::pools::{
     Opening, Shown, TestDisk, blank, blocks_of, committed, fill, made, making, opening, pool_disks,
-    present, sync, write_block,
+    present, sync, try_make, write_block,
 };
 use model_disk::Member;
-use pool_core::Core;
+use pool_create::Core;
 use pool_open::{NotOpened, OpenedPool, Refusal, open};
 use std::alloc::{AllocError, Global};
 use std::test::*;
@@ -36,10 +36,11 @@ fn opened(
     disks: Vec<TestDisk>,
     rewind: u64,
 ) -> Result<(Vec<TestDisk>, [Shown; 2]), Fail> {
+    let (pool, _) = open(alloc, disks, rewind.min(2)).map_err(Refusal::from)?;
     let OpenedPool {
         mut core,
         uberblock,
-    } = open(alloc, disks, rewind.min(2)).map_err(Refusal::from)?;
+    } = pool;
     let shown = go_on(alloc, &mut core, uberblock.group);
     let members = core.into_disks();
     Ok((present(alloc, members)?, shown?))
@@ -141,10 +142,20 @@ fn opened_behind(alloc: Global) -> Result<Option<(Refusal, Opening)>, Fail> {
     }
 }
 
+/// Why no other pool is made on the disks of one; and that it is opened on those that come back.
+fn made_behind(alloc: Global) -> Result<Option<(Refusal, Opening)>, Fail> {
+    match try_make(alloc, pool_disks(alloc, 1)?, 2)? {
+        Err((refusal, disks)) => Ok(Some((refusal, opening(alloc, disks, 0)))),
+        Ok(_) => Ok(None),
+    }
+}
+
 #[test]
 fn disks_come_back(rt: HostRuntime) -> Result<(), Fail> {
     let wanted = (Refusal::NoUberblock, Ok((3, 2)));
     assert!(rt; opened_behind(rt.alloc())? == Some(wanted));
+    let wanted = (Refusal::BadConfig, Ok((3, 2)));
+    assert!(rt; made_behind(rt.alloc())? == Some(wanted));
     Ok(())
 }
 

@@ -1,7 +1,6 @@
 //! Pools of three disks, and what is done to them.
 use model_disk::{Disk, Fault, FaultDisk, MemDisk, Member};
-use pool_core::Core;
-use pool_create::create;
+use pool_create::{Core, create};
 use pool_format::PoolIdentity;
 use pool_model::{Action, Bytes, Change, Name, Reply, Step, Write};
 use pool_open::{OpenedPool, Refusal, open};
@@ -38,15 +37,30 @@ fn config(alloc: Global, first: u64) -> Result<Config, AllocError> {
     })
 }
 
-/// Makes a pool of this guid on three disks.
+/// A pool of this guid on three disks, or why there is none, and the disks.
+pub(crate) type Making<D> = Result<OpenedPool<Member<D>>, (Refusal, Vec<D>)>;
+
+/// Makes it.
+pub(crate) fn try_make<D: Disk + Drop>(
+    alloc: Global,
+    disks: Vec<D>,
+    guid: u64,
+) -> Result<Making<D>, AllocError> {
+    let config = config(alloc, guid.saturating_mul(100))?;
+    let name = String::from_str(alloc, "pool")?;
+    Ok(create(alloc, disks, PoolIdentity { name, guid }, config))
+}
+
+/// Makes it; the disks are dropped where it isn't made.
 pub(crate) fn make<D: Disk + Drop>(
     alloc: Global,
     disks: Vec<D>,
     guid: u64,
 ) -> Result<OpenedPool<Member<D>>, Refusal> {
-    let config = config(alloc, guid.saturating_mul(100))?;
-    let name = String::from_str(alloc, "pool")?;
-    create(alloc, disks, PoolIdentity { name, guid }, config)
+    match try_make(alloc, disks, guid)? {
+        Ok(opened) => Ok(opened),
+        Err((refusal, _)) => Err(refusal),
+    }
 }
 
 /// Its core.
@@ -205,6 +219,6 @@ pub(crate) fn making(alloc: Global, disks: Vec<TestDisk>, guid: u64) -> Opening 
 
 /// Opens a pool.
 pub(crate) fn opening(alloc: Global, disks: Vec<TestDisk>, rewind: u64) -> Opening {
-    let OpenedPool { uberblock, .. } = open(alloc, disks, rewind.min(2))?;
+    let (OpenedPool { uberblock, .. }, _) = open(alloc, disks, rewind.min(2))?;
     Ok((uberblock.group, uberblock.claim))
 }

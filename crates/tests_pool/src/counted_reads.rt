@@ -1,85 +1,47 @@
 //! How many reads of disks a committed block takes, in pools of few volumes and of many.
-use crate::faulty_pool::FaultyPool;
-use crate::telling::reply_to;
-use crate::test_disk::counting;
-use block_store::VdevConfig;
-use pool_model::{Name, Reply};
-use raidz_map::Geometry;
+use crate::making::made;
+use crate::playing::wrong_replies;
 use std::alloc::{AllocError, Global};
 use std::cell::Cell;
 use std::rc::Rc;
 use std::test::Fail;
 
-/// One vdev of three disks, with one parity: three metaslabs for volumes, and two for what leads to them.
-fn pool_over(alloc: Global, reads: &Rc<Cell<u64>>) -> Result<FaultyPool, Fail> {
-    let vdev = VdevConfig {
-        geometry: Geometry::new(3, 1, 9)?,
-        metaslab_shift: 12,
-        meta_slabs: 2,
-    };
-    let disks = counting(alloc, 3, 8 << 20, reads)?;
-    FaultyPool::over(alloc, disks, vdev).map_err(Fail::from)
-}
-
-/// Group 4 makes so many volumes of 16 blocks, named v1 and so on, and group 5 writes block 1 of the last one.
+/// One vdev of three disks, with one parity: three metaslabs for volumes, and two for what leads to them. Group 4 makes so many
+/// volumes of 16 blocks, named v1 and so on, and group 5 writes block 1 of the last one.
 fn lines(alloc: Global, count: u64) -> Result<String, AllocError> {
-    let mut lines = String::new(alloc);
-    lines.push_str("hold 1\n")?;
+    let mut lines = String::from_str(alloc, "pool 1 3 8388608 12 2\nhold 1 -> held 4\n")?;
     for below in 0..count {
         let number = below.saturating_add(1);
-        lines.push_str(format!(in alloc; "create 1 {number} v{number} 8192 512\n")?.as_str())?;
+        let line = format!(in alloc; "create 1 {number} v{number} 8192 512 -> receipt 4\n")?;
+        lines.push_str(line.as_str())?;
     }
     let next = count.saturating_add(1);
-    lines.push_str("release 1\nsync\nhold 1\n")?;
-    lines.push_str(format!(in alloc; "write 1 {next} v{count} 512 512 a5\n")?.as_str())?;
-    lines.push_str("release 1\nsync\n")?;
+    let last = format!(in alloc;
+        "release 1 -> released
+sync -> committed 4
+hold 1 -> held 5
+write 1 {next} v{count} 512 512 a5 -> receipt 5
+release 1 -> released
+sync -> committed 5
+"
+    )?;
+    lines.push_str(last.as_str())?;
     Ok(lines)
 }
 
-/// Whether no line is refused.
-fn takes(alloc: Global, pool: &mut FaultyPool, lines: &str) -> Result<bool, Fail> {
-    for line in lines.lines() {
-        if let Reply::Refused(_) = reply_to(alloc, pool, line)? {
-            return Ok(false);
-        }
-    }
-    Ok(true)
-}
+/// How many volumes there are, and how many reads the block takes.
+const COUNTS: [(u64, u64); 3] = [(3, 16), (20, 20), (70, 20)];
 
-/// Whether block 1 of the volume is there under group 5.
-fn is_written(pool: &mut FaultyPool, volume: &Name) -> bool {
-    match pool.core.read_under(5, volume, 512, 512, &[]) {
-        Ok(bytes) => bytes.as_slice() == [0xa5; 512].as_slice(),
-        Err(_) => false,
-    }
-}
-
-/// How many reads that block takes once the lines are taken; none where it is not there.
-fn reads_of_block(
-    alloc: Global,
-    pool: &mut FaultyPool,
-    lines: &str,
-    volume: &Name,
-    reads: &Cell<u64>,
-) -> Result<u64, Fail> {
-    if !takes(alloc, pool, lines)? {
-        return Ok(0);
-    }
-    let before = reads.get();
-    if !is_written(pool, volume) {
-        return Ok(0);
-    }
-    Ok(reads.get().saturating_sub(before))
-}
-
-/// The same in a pool of so many volumes.
-fn reads_among(alloc: Global, count: u64) -> Result<u64, Fail> {
+/// How many reads that block takes in a pool of so many volumes, and what is replied otherwise than it is to be.
+fn reads_among(alloc: Global, count: u64) -> Result<(u64, String), Fail> {
     let reads = Rc::new(alloc, Cell::new(0u64))?;
     let lines = lines(alloc, count)?;
-    let text = format!(in alloc; "v{count}")?;
-    let volume = Name::new(Vec::from_slice(alloc, text.as_bytes())?);
-    let mut pool = pool_over(alloc, &reads)?;
-    reads_of_block(alloc, &mut pool, &lines, &volume, &reads)
+    let block = format!(in alloc; "under 5 v{count} 512 512 -> a5x512")?;
+    let mut player = made(alloc, &lines, &reads)?;
+    let mut wrong = wrong_replies(alloc, &mut player, &lines)?;
+    let before = reads.get();
+    wrong.push_str(wrong_replies(alloc, &mut player, &block)?.as_str())?;
+    Ok((reads.get().saturating_sub(before), wrong))
 }
 
 /// A block of more than one sector takes two reads of disks, and one of one sector one. They are: the root; the block of dnodes
@@ -88,9 +50,10 @@ fn reads_among(alloc: Global, count: u64) -> Result<u64, Fail> {
 /// the meta object set.
 #[test]
 fn reads_do_not_grow_with_the_volumes(rt: HostRuntime) -> Result<(), Fail> {
-    let few = reads_among(rt.alloc(), 3)?;
-    let more = reads_among(rt.alloc(), 20)?;
-    let many = reads_among(rt.alloc(), 70)?;
-    assert!(rt; [few, more, many] == [16, 20, 20]);
+    for &(count, wanted) in &COUNTS {
+        let (reads, wrong) = reads_among(rt.alloc(), count)?;
+        assert!(rt; wrong.is_empty(), "{wrong}");
+        assert!(rt; reads == wanted, "{reads} among {count}");
+    }
     Ok(())
 }

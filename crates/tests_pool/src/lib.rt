@@ -1,5 +1,5 @@
-//! Tests of the machine and the pool: schedules with their replies, over disks in memory that fail as they are told and files
-//! that are changed behind the pool's back, and what only code can say. Nothing here is proved but that it is safe.
+//! Tests of the pool: schedules with their replies, over disks in memory that fail as they are told and files that are changed
+//! behind the pool's back, and what only code can say. Nothing here is proved but that it is safe.
 #![tactic(auto)]
 
 #[cfg(test)]
@@ -7,22 +7,18 @@ mod changed_disks;
 #[cfg(test)]
 mod counted_reads;
 #[cfg(test)]
-mod faulty_pool;
+mod making;
 #[cfg(test)]
 mod many_blocks;
 #[cfg(test)]
 mod overwritten;
 #[cfg(test)]
-mod parts;
-#[cfg(test)]
-mod places;
+mod plans;
 #[cfg(test)]
 mod playing;
 #[cfg(test)]
+mod runs;
+#[cfg(test)]
 mod schedules;
-#[cfg(test)]
-mod shown_slots;
-#[cfg(test)]
-mod telling;
 #[cfg(test)]
 mod test_disk;

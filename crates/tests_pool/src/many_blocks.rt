@@ -1,203 +1,152 @@
-//! A volume of thousands of blocks, with indirect blocks below another: written by three groups,
-//! and read under each of them with disks missing.
-use crate::faulty_pool::FaultyPool;
-use crate::telling::reply_to;
-use crate::test_disk::disks;
-use block_store::VdevConfig;
-use pool_model::{Bytes, Name, Refusal, Reply};
-use raidz_map::Geometry;
+//! A volume of thousands of blocks, with indirect blocks below another: written by three groups, and read under each of them with
+//! disks missing.
+use crate::making::wrong_in;
 use std::alloc::{AllocError, Global};
-use std::process::Abort;
 use std::test::Fail;
 
-const BLOCK_BYTES: u64 = 512;
+/// A pool of one vdev over four disks, of which each block can lose two. Group 5 writes the whole volume, by two writes. An indirect
+/// block has 128 pointers: 19 of them point to the 2,432 blocks of the volume, and one to these 19.
+const WHOLE: &str = "pool 2 4 8388608 12 1
+hold 1 -> held 4
+create 1 1 v 1245184 512 -> receipt 4
+release 1 -> released
+sync -> committed 4
+hold 1 -> held 5
+write 1 2 v 0 1048576 51 -> receipt 5
+write 1 3 v 1048576 196608 52 -> receipt 5
+release 1 -> released
+sync -> committed 5
+hold 1 -> held 6
+";
 
-/// An indirect block has so many pointers: 19 of them point to the 2,432 blocks of the volume,
-/// and one to these 19.
-const POINTERS: u64 = 128;
-
-/// Group 5 writes the whole volume, by two writes: the bytes up to here, and those behind.
-const LONGEST_WRITE: u64 = 0x100000;
-
-/// Which blocks a later group writes, each by a write of its own: the group, the first block, how
-/// many there are from it on, and below how many indirect blocks. Group 6 writes over the border
-/// of each two indirect blocks and more at one, group 7 there too, between borders, and up to the
-/// end.
-const WRITTEN: [(u64, u64, u64, u64); 5] = [
-    (6, 127, 2, 18),
-    (6, 1021, 5, 1),
-    (7, 1023, 2, 1),
-    (7, 60, 3, 1),
-    (7, 2430, 2, 1),
+/// Which blocks the later groups write, each by a write of its own: the group, the block, and what all its bytes are. Group 6 writes
+/// over the border of each two indirect blocks and more at one, group 7 there too, between borders, and up to the end.
+const WRITTEN: [(u64, u64, u8); 48] = [
+    (6, 127, 133),
+    (6, 128, 134),
+    (6, 255, 20),
+    (6, 256, 21),
+    (6, 383, 148),
+    (6, 384, 149),
+    (6, 511, 35),
+    (6, 512, 36),
+    (6, 639, 163),
+    (6, 640, 164),
+    (6, 767, 50),
+    (6, 768, 51),
+    (6, 895, 178),
+    (6, 896, 179),
+    (6, 1023, 65),
+    (6, 1024, 66),
+    (6, 1151, 193),
+    (6, 1152, 194),
+    (6, 1279, 80),
+    (6, 1280, 81),
+    (6, 1407, 208),
+    (6, 1408, 209),
+    (6, 1535, 95),
+    (6, 1536, 96),
+    (6, 1663, 223),
+    (6, 1664, 224),
+    (6, 1791, 110),
+    (6, 1792, 111),
+    (6, 1919, 238),
+    (6, 1920, 239),
+    (6, 2047, 125),
+    (6, 2048, 126),
+    (6, 2175, 12),
+    (6, 2176, 13),
+    (6, 2303, 140),
+    (6, 2304, 141),
+    (6, 1021, 63),
+    (6, 1022, 64),
+    (6, 1023, 65),
+    (6, 1024, 66),
+    (6, 1025, 67),
+    (7, 1023, 66),
+    (7, 1024, 67),
+    (7, 60, 67),
+    (7, 61, 68),
+    (7, 62, 69),
+    (7, 2430, 27),
+    (7, 2431, 28),
 ];
 
-/// The bytes that are read, by the first and how many there are: over the borders at blocks 1024,
-/// 128 and 2048, of which the last begins what the second write wrote, between borders, and up to
-/// the end.
-const RANGES: [(u64, u64); 5] = [
-    (1022 * BLOCK_BYTES + 100, 1000),
-    (127 * BLOCK_BYTES + 300, 600),
-    (2048 * BLOCK_BYTES - 1, 500),
-    (62 * BLOCK_BYTES + 12, 1000),
-    (2430 * BLOCK_BYTES + 10, 1014),
+const NEXT: &str = "release 1 -> released
+sync -> committed 6
+hold 1 -> held 7
+";
+
+/// With three disks missing a read is refused: so those that are named are missing.
+const END: &str = "missing 0 1 2
+under 7 v 0 1 -> refused 2 DiskFault
+";
+
+/// Reads under each group: over the borders at blocks 1024, 128 and 2048, of which the last begins what the second write wrote, between
+/// borders, and up to the end. Each reads other ranges.
+const READS: [&str; 5] = [
+    "under 5 v 523364 1000 -> 51x1000
+under 6 v 65324 600 -> 85x212 86x388
+under 7 v 1048575 500 -> 7dx1 7ex499
+",
+    "under 5 v 65324 600 -> 51x600
+under 6 v 1048575 500 -> 7dx1 7ex499
+under 7 v 31756 1000 -> 45x500 51x500
+",
+    "under 5 v 1048575 500 -> 51x1 52x499
+under 6 v 31756 1000 -> 51x1000
+under 7 v 1244170 1014 -> 1bx502 1cx512
+",
+    "under 5 v 31756 1000 -> 51x1000
+under 6 v 1244170 1014 -> 52x1014
+under 7 v 523364 1000 -> 40x412 42x512 43x76
+",
+    "under 5 v 1244170 1014 -> 52x1014
+under 6 v 523364 1000 -> 40x412 41x512 42x76
+under 7 v 65324 600 -> 85x212 86x388
+",
 ];
 
-const ONE_MISSING: [&[usize]; 5] = [&[], &[0], &[1], &[2], &[3]];
+/// The disks that are missing.
+const MISSING: [&str; 11] = [
+    "", "0", "1", "2", "3", "0 1", "0 2", "0 3", "1 2", "1 3", "2 3",
+];
 
-const TWO_MISSING: [&[usize]; 6] = [&[0, 1], &[0, 2], &[0, 3], &[1, 2], &[1, 3], &[2, 3]];
-
-/// What all bytes of a block are that a group writes.
-fn value(group: u64, block: u64) -> u8 {
-    (block % 241) as u8 + (group % 15) as u8
-}
-
-/// The byte that the volume has at a place under a group from 5 on: that of the last group up to
-/// it that writes there.
-fn byte_at(group: u64, at: u64) -> u8 {
-    let block = at / BLOCK_BYTES;
-    let mut byte = if at < LONGEST_WRITE { 0x51 } else { 0x52 };
-    for &(writing, first, blocks, count) in &WRITTEN {
-        let behind = block.saturating_sub(first);
-        let is_written = first <= block && behind % POINTERS < blocks && behind / POINTERS < count;
-        if writing <= group && is_written {
-            byte = value(writing, block);
+/// The lines that write the volume.
+fn writes(alloc: Global) -> Result<String, AllocError> {
+    let mut text = String::from_str(alloc, WHOLE)?;
+    let mut open = 6u64;
+    for (index, &(group, block, value)) in WRITTEN.iter().enumerate() {
+        if group != open {
+            text.push_str(NEXT)?;
+            open = group;
         }
+        let (number, offset) = (index.saturating_add(4), block.saturating_mul(512));
+        let line = format!(in alloc;
+            "write 1 {number} v {offset} 512 {value:02x} -> receipt {group}\n"
+        )?;
+        text.push_str(line.as_str())?;
     }
-    byte
-}
-
-fn write_line(alloc: Global, number: u64, group: u64, block: u64) -> Result<String, AllocError> {
-    let offset = block.saturating_mul(BLOCK_BYTES);
-    format!(in alloc;
-        "write 1 {number} v {offset} 512 {:02x}\n",
-        value(group, block)
-    )
-}
-
-/// Adds the lines that write single blocks. Of those of all groups the first has number 4.
-fn add_writes(alloc: Global, group: u64, lines: &mut String) -> Result<(), AllocError> {
-    let mut number = 4u64;
-    for &(writing, first, blocks, count) in &WRITTEN {
-        for below in 0..count {
-            let start = first.saturating_add(below.saturating_mul(POINTERS));
-            for place in 0..blocks {
-                if writing == group {
-                    let block = start.saturating_add(place);
-                    lines.push_str(write_line(alloc, number, group, block)?.as_str())?;
-                }
-                number = number.saturating_add(1);
-            }
-        }
-    }
-    Ok(())
-}
-
-/// The lines of a group. Group 4 makes the volume.
-fn lines(alloc: Global, group: u64) -> Result<String, AllocError> {
-    let mut lines = String::new(alloc);
-    lines.push_str("hold 1\n")?;
-    if group == 4 {
-        lines.push_str("create 1 1 v 1245184 512\n")?;
-    }
-    if group == 5 {
-        lines.push_str("write 1 2 v 0 1048576 51\nwrite 1 3 v 1048576 196608 52\n")?;
-    }
-    add_writes(alloc, group, &mut lines)?;
-    lines.push_str("release 1\nsync\n")?;
-    Ok(lines)
-}
-
-/// Whether no line of a group is refused.
-fn takes(alloc: Global, pool: &mut FaultyPool, group: u64) -> Result<bool, Fail> {
-    let lines = lines(alloc, group)?;
-    for line in lines.lines() {
-        if let Reply::Refused(_) = reply_to(alloc, pool, line)? {
-            return Ok(false);
-        }
-    }
-    Ok(true)
-}
-
-/// Whether a read found the bytes that the volume has there under a group.
-fn is_right(read: &Result<Bytes, Refusal>, group: u64, (offset, len): (u64, u64)) -> bool {
-    let Ok(bytes) = read else {
-        return false;
-    };
-    let mut at = offset;
-    for byte in bytes.as_slice() {
-        if *byte != byte_at(group, at) {
-            return false;
-        }
-        at = at.saturating_add(1);
-    }
-    at == offset.saturating_add(len)
-}
-
-/// Under which groups, and with which disks missing, something else is read than was written.
-/// Each has another of the ranges.
-fn misread(alloc: Global, pool: &mut FaultyPool, sets: &[&[usize]]) -> Result<String, Fail> {
-    let volume = Name::new(Vec::from_slice(alloc, b"v")?);
-    let mut text = String::new(alloc);
-    for (place, missing) in sets.iter().enumerate() {
-        for group in 5..8 {
-            let range = RANGES[(place % 5 + group as usize) % 5];
-            let read = pool
-                .core
-                .read_under(group, &volume, range.0, range.1, missing);
-            if !is_right(&read, group, range) {
-                text.push_str(format!(in alloc; "{group} {range:?} {missing:?}\n")?.as_str())?;
-            }
-        }
-    }
+    text.push_str("release 1 -> released\nsync -> committed 7\n")?;
     Ok(text)
 }
 
-/// The cause for which a read with these disks missing is refused.
-fn cause(
-    alloc: Global,
-    pool: &mut FaultyPool,
-    missing: &[usize],
-) -> Result<Option<Refusal>, AllocError> {
-    let volume = Name::new(Vec::from_slice(alloc, b"v")?);
-    Ok(pool.core.read_under(7, &volume, 0, 1, missing).err())
-}
-
-/// What is told of the volume once its groups are committed.
-fn told(alloc: Global, pool: &mut FaultyPool, sets: &[&[usize]]) -> Result<String, Fail> {
-    for group in 4..8 {
-        if !takes(alloc, pool, group)? {
-            return Err(Fail::from(Refusal::NotNow));
-        }
+/// The lines that read it under each group, with disks missing.
+fn reads(alloc: Global) -> Result<String, AllocError> {
+    let mut text = String::new(alloc);
+    for (place, missing) in MISSING.iter().enumerate() {
+        let reads = READS[place % 5];
+        text.push_str(format!(in alloc; "missing {missing}\n{reads}")?.as_str())?;
     }
-    let cause = cause(alloc, pool, &[0, 1, 2])?;
-    let misread = misread(alloc, pool, sets)?;
-    Ok(format!(in alloc; "{misread}{cause:?}")?)
+    text.push_str(END)?;
+    Ok(text)
 }
 
-/// The same of a pool of one vdev over four disks, of which each block can lose two.
-fn told_of_pool(alloc: Global, sets: &[&[usize]]) -> Result<String, Fail> {
-    let vdev = VdevConfig {
-        geometry: Geometry::new(4, 2, 9)?,
-        metaslab_shift: 12,
-        meta_slabs: 1,
-    };
-    let mut pool = FaultyPool::over(alloc, disks(alloc, 4, 0x800000)?, vdev)?;
-    told(alloc, &mut pool, sets)
-}
-
-// With three disks missing the read at the end is refused: so those that are named are missing.
-fn read_all<R: Abort>(rt: &R, alloc: Global, sets: &[&[usize]]) -> Result<(), Fail> {
-    let told = told_of_pool(alloc, sets)?;
-    assert!(rt; told.as_str() == "Some(DiskFault)", "{told}");
+#[test]
+fn many_blocks_are_read_with_disks_missing(rt: HostRuntime) -> Result<(), Fail> {
+    let (writes, reads) = (writes(rt.alloc())?, reads(rt.alloc())?);
+    let text = format!(in rt.alloc(); "{writes}{reads}")?;
+    let wrong = wrong_in(rt.alloc(), &[text.as_str()])?;
+    assert!(rt; wrong.is_empty(), "{wrong}");
     Ok(())
-}
-
-#[test]
-fn many_blocks_are_read_with_one_disk_missing(rt: HostRuntime) -> Result<(), Fail> {
-    read_all(&rt, rt.alloc(), &ONE_MISSING)
-}
-
-#[test]
-fn many_blocks_are_read_with_two_disks_missing(rt: HostRuntime) -> Result<(), Fail> {
-    read_all(&rt, rt.alloc(), &TWO_MISSING)
 }

@@ -1,132 +1,144 @@
-//! Schedules with faults, played against a pool over disks.
+//! Schedules, played against a pool.
 //!
-//! A schedule's text has lines `LINE -> REPLY`, where LINE is one of a schedule as `poolrun` runs
-//! it; `times NUMBER LINE` takes it so often, with the same reply each time. Lines without an
-//! arrow are for the player: `fault DISK KIND NUMBER` is a call that fails (of the kinds `at`,
-//! `from`, `read`, `write` and `flush`), `pool ..` makes the pool behind the faults, and `missing
-//! DISK ..` names the disks that are missing for reads under a group from then on.
-use crate::faulty_pool::{DiskFault, FaultyPool};
-use crate::telling::reply_to;
-use model_disk::Fault;
-use pool_model::Refusal;
+//! A schedule's text has lines `LINE -> REPLY`, where LINE is one of a schedule as `poolrun` runs it; `times NUMBER LINE` takes it
+//! so often, with the same reply each time. Of the lines without an arrow, `missing DISK ..` names the disks that are missing for
+//! reads under a group from then on; `pool ..` and `fault ..` are for whoever makes the pool.
+use model_disk::Disk;
+use pool_core::Core;
+use pool_model::{Action, Bytes, Change, Reply, Step, Write};
 use schedule_lines::{Command, Line, parse, reply_text};
 use std::alloc::Global;
 use std::test::Fail;
 
-fn number(word: &str) -> u64 {
-    word.parse().unwrap_or(u64::MAX)
+/// A pool, and the disks that are missing for reads under a group.
+#[derive(Drop)]
+pub(crate) struct Player<D: Disk + Drop> {
+    pub(crate) core: Core<D>,
+    pub(crate) missing: Vec<usize>,
 }
 
-fn fault_of(kind: &str, number: u64) -> Fault {
-    match kind {
-        "from" => Fault::From(number),
-        "read" => Fault::Read(number),
-        "write" => Fault::Write(number),
-        "flush" => Fault::Flush(number),
-        _ => Fault::At(number),
+/// The first step of a line, and whether all steps follow that bring its group on.
+pub(crate) fn step_in(alloc: Global, line: &str) -> Result<(Step, bool), Fail> {
+    let Line::Command(command) = parse(alloc, line.as_bytes())? else {
+        return Err(Fail::new("no command"));
+    };
+    let goes_on = matches!(command, Command::Commit | Command::Sync);
+    let step = match command {
+        Command::Hold { writer } => Step::Hold(writer),
+        Command::Release { writer } => Step::Release(writer),
+        Command::Write(line) => Step::Write(Write {
+            writer: line.writer,
+            number: line.number,
+            volume: line.volume,
+            offset: line.offset,
+            bytes: Bytes::new(vec![in alloc; line.byte; line.len as usize]?),
+        }),
+        Command::Create(line) => Step::Act(Action {
+            writer: line.writer,
+            number: line.number,
+            change: Change::Create {
+                name: line.volume,
+                size: line.size,
+                block_size: line.block_size,
+            },
+        }),
+        Command::Close | Command::Sync => Step::Close,
+        Command::Quiesced => Step::Quiesce,
+        Command::Plan | Command::Commit => Step::Plan { timestamp: 0 },
+        Command::Device => Step::Device,
+        Command::Read(line) => Step::Read {
+            name: line.name,
+            offset: line.offset,
+            len: line.len,
+        },
+        Command::Under(line) => Step::ReadUnder {
+            group: line.group,
+            name: line.name,
+            offset: line.offset,
+            len: line.len,
+        },
+        _ => return Err(Fail::new("no step of a pool")),
+    };
+    Ok((step, goes_on))
+}
+
+impl<D: Disk + Drop> Player<D> {
+    fn step(&mut self, step: Step) -> Reply {
+        match step {
+            Step::ReadUnder {
+                group,
+                name,
+                offset,
+                len,
+            } => match self
+                .core
+                .read_under(group, &name, offset, len, &self.missing)
+            {
+                Ok(bytes) => Reply::Bytes(bytes),
+                Err(refusal) => Reply::Refused(refusal),
+            },
+            other => self.core.step(other),
+        }
+    }
+
+    /// Takes a step, and each one that brings its group on: the last reply.
+    fn run_on(&mut self, step: Step) -> Reply {
+        let mut reply = self.step(step);
+        for _ in 0..u64::MAX {
+            let next = match &reply {
+                Reply::Closed(_) => Step::Quiesce,
+                Reply::Quiesced(_) | Reply::Replan(_) => Step::Plan { timestamp: 0 },
+                Reply::Planned(_) | Reply::Moved(_) => Step::Device,
+                _ => return reply,
+            };
+            reply = self.step(next);
+        }
+        reply
+    }
+
+    /// What a line is replied, each time that it is taken. What is the same again is not told again.
+    pub(crate) fn replied(&mut self, alloc: Global, front: &str) -> Result<String, Fail> {
+        let (count, line) = match front.strip_prefix("times ") {
+            Some(rest) => rest.split_once(" ").unwrap_or(("0", rest)),
+            None => ("1", front),
+        };
+        let count: u64 = count.parse().unwrap_or(0);
+        let mut replied = String::new(alloc);
+        for _ in 0..count {
+            let (step, goes_on) = step_in(alloc, line)?;
+            let reply = if goes_on {
+                self.run_on(step)
+            } else {
+                self.step(step)
+            };
+            let text = reply_text(alloc, &reply)?;
+            if text != replied {
+                replied.push_str(text.as_str())?;
+            }
+        }
+        Ok(replied)
     }
 }
 
-// The faults that the lines of a schedule tell.
-fn faults_in(alloc: Global, text: &str) -> Result<Vec<DiskFault>, Fail> {
-    let mut faults = Vec::new(alloc);
+/// The lines of a schedule that a pool replies to otherwise, with its replies.
+pub(crate) fn wrong_replies<D: Disk + Drop>(
+    alloc: Global,
+    player: &mut Player<D>,
+    text: &str,
+) -> Result<String, Fail> {
+    let mut wrong = String::new(alloc);
     for line in text.lines() {
-        let mut words = line.split(' ');
-        if words.next() == Some("fault") {
-            let disk = number(words.next().unwrap_or("")) as usize;
-            let kind = words.next().unwrap_or("");
-            let fault = fault_of(kind, number(words.next().unwrap_or("")));
-            faults.push(DiskFault { disk, fault })?;
+        if let Some((front, wanted)) = line.split_once(" -> ") {
+            let replied = player.replied(alloc, front)?;
+            if replied.as_str() != wanted {
+                wrong.push_str(format!(in alloc; "{front} -> {replied}\n")?.as_str())?;
+            }
+        } else if let Some(disks) = line.strip_prefix("missing") {
+            player.missing = disks
+                .split_whitespace()
+                .map(|disk| disk.parse().unwrap_or(usize::MAX))
+                .collect(alloc)?;
         }
     }
-    Ok(faults)
-}
-
-// What the first line that makes a pool says.
-fn pool_in(alloc: Global, text: &str) -> Result<Line, Fail> {
-    for line in text.lines() {
-        if line.starts_with("pool ") {
-            return Ok(parse(alloc, line.as_bytes())?);
-        }
-    }
-    Ok(Line::Skipped)
-}
-
-fn made(alloc: Global, text: &str) -> Result<FaultyPool, Fail> {
-    let Line::Command(Command::Pool(pool)) = pool_in(alloc, text)? else {
-        return Err(Fail::from(Refusal::BadConfig));
-    };
-    let faults = faults_in(alloc, text)?;
-    FaultyPool::with_faults(alloc, &pool, faults.as_slice()).map_err(Fail::from)
-}
-
-// A line that is for the player.
-fn note(alloc: Global, pool: &mut FaultyPool, line: &str) -> Result<(), Fail> {
-    let mut words = line.split(' ');
-    if words.next() == Some("missing") {
-        let mut missing = Vec::new(alloc);
-        for word in words {
-            missing.push(number(word) as usize)?;
-        }
-        pool.miss(missing);
-    }
-    Ok(())
-}
-
-// How often a line is taken, and the line.
-fn often(front: &str) -> (u64, &str) {
-    let Some((word, rest)) = front.split_once(" ") else {
-        return (1, front);
-    };
-    let Some((count, line)) = rest.split_once(" ") else {
-        return (1, front);
-    };
-    if word == "times" {
-        (number(count), line)
-    } else {
-        (1, front)
-    }
-}
-
-// The text of the pool's reply.
-fn said(alloc: Global, pool: &mut FaultyPool, line: &str) -> Result<String, Fail> {
-    let reply = reply_to(alloc, pool, line)?;
-    Ok(reply_text(alloc, &reply)?)
-}
-
-// The reply of the pool each time; where one is another than those before, both.
-fn replied(alloc: Global, pool: &mut FaultyPool, front: &str) -> Result<String, Fail> {
-    let (count, line) = often(front);
-    let first = said(alloc, pool, line)?;
-    for _ in 1..count {
-        let next = said(alloc, pool, line)?;
-        if next.as_str() != first.as_str() {
-            return Ok(format!(in alloc; "{first}, {next}")?);
-        }
-    }
-    Ok(first)
-}
-
-// The line again, with the reply of the pool.
-fn row(alloc: Global, pool: &mut FaultyPool, line: &str) -> Result<String, Fail> {
-    let Some((front, _)) = line.split_once(" -> ") else {
-        note(alloc, pool, line)?;
-        return Ok(format!(in alloc; "{line}\n")?);
-    };
-    let reply = replied(alloc, pool, front)?;
-    Ok(format!(in alloc; "{front} -> {reply}\n")?)
-}
-
-fn rows(alloc: Global, pool: &mut FaultyPool, text: &str) -> Result<String, Fail> {
-    let mut rows = String::new(alloc);
-    for line in text.lines() {
-        rows.push_str(row(alloc, pool, line)?.as_str())?;
-    }
-    Ok(rows)
-}
-
-/// A schedule's text as the pool makes it: each line with the reply that the pool gives.
-pub fn played(alloc: Global, text: &str) -> Result<String, Fail> {
-    let mut pool = made(alloc, text)?;
-    rows(alloc, &mut pool, text)
+    Ok(wrong)
 }

@@ -1,7 +1,6 @@
 //! Schedules over disks that fail, and what is read with disks missing.
-use crate::playing::played;
+use crate::making::wrong_in;
 use std::alloc::Global;
-use std::process::Abort;
 use std::test::Fail;
 
 /// Blocks of two sectors, partly written by two groups, with each disk missing in turn, and with
@@ -485,66 +484,37 @@ under 14 v 131072 512 -> refused 17 GroupGone
 read v 785920 512 -> aax512
 ";
 
-/// The schedules that have other replies than these, or nothing.
-fn changed_in(alloc: Global, texts: &[&str]) -> Result<String, Fail> {
-    let mut changed = String::new(alloc);
-    for text in texts {
-        let row = played(alloc, text)?;
-        if row.as_str() != *text {
-            changed.push_str(row.as_str())?;
-        }
-    }
-    Ok(changed)
-}
-
-/// Plays schedules, which are to have the replies that they tell.
-fn play<R: Abort>(rt: &R, alloc: Global, texts: &[&str]) -> Result<(), Fail> {
-    let changed = changed_in(alloc, texts)?;
-    assert!(rt; changed.as_str() == "", "{changed}");
+#[test]
+fn groups_have_their_replies(rt: HostRuntime) -> Result<(), Fail> {
+    let wrong = wrong_in(
+        rt.alloc(),
+        &[
+            VOLUMES_OF_GROUPS,
+            KEPT_GROUPS,
+            PENDING_WRITES,
+            PARTS_OF_BLOCKS,
+            FIVE_DISKS,
+        ],
+    )?;
+    assert!(rt; wrong.is_empty(), "{wrong}");
     Ok(())
 }
 
 #[test]
-fn groups_have_their_replies(rt: HostRuntime) -> Result<(), Fail> {
-    play(
-        &rt,
-        rt.alloc(),
-        &[VOLUMES_OF_GROUPS, KEPT_GROUPS, PENDING_WRITES],
-    )
-}
-
-#[test]
-fn missing_disks_have_their_replies(rt: HostRuntime) -> Result<(), Fail> {
-    play(&rt, rt.alloc(), &[PARTS_OF_BLOCKS, FIVE_DISKS])
-}
-
-#[test]
 fn failing_disks_have_their_replies(rt: HostRuntime) -> Result<(), Fail> {
-    play(
-        &rt,
-        rt.alloc(),
-        &[LEFT_OUT, SUSPENDED, TOO_FEW_SLOTS, COVERED],
-    )
+    let wrong = wrong_in(rt.alloc(), &[LEFT_OUT, SUSPENDED, TOO_FEW_SLOTS, COVERED])?;
+    assert!(rt; wrong.is_empty(), "{wrong}");
+    Ok(())
 }
 
 #[test]
 fn a_full_pool_has_its_replies(rt: HostRuntime) -> Result<(), Fail> {
-    play(&rt, rt.alloc(), &[FULL, ONE_VOLUME])
-}
-
-#[test]
-fn a_pool_with_just_room_has_its_replies(rt: HostRuntime) -> Result<(), Fail> {
-    play(&rt, rt.alloc(), &[JUST_ROOM])
-}
-
-#[test]
-fn a_volume_that_is_written_twice_has_its_replies(rt: HostRuntime) -> Result<(), Fail> {
-    play(&rt, rt.alloc(), &[WRITTEN_TWICE])
-}
-
-#[test]
-fn room_is_given_back(rt: HostRuntime) -> Result<(), Fail> {
-    play(&rt, rt.alloc(), &[ROOM_GIVEN_BACK])
+    let wrong = wrong_in(
+        rt.alloc(),
+        &[FULL, ONE_VOLUME, JUST_ROOM, WRITTEN_TWICE, ROOM_GIVEN_BACK],
+    )?;
+    assert!(rt; wrong.is_empty(), "{wrong}");
+    Ok(())
 }
 
 /// Behind a schedule, that disk 0 is out: with another one missing nothing is read.
@@ -560,27 +530,19 @@ const NO_DISK_2: &str = "missing 0
 under 5 v 510 4 -> refused 2 DiskFault
 ";
 
-/// One write of blocks of one disk fails. For group 4 the disks have 33 of these each, for group 5 21, 22 and 21, behind four of
-/// slots, of which six are for two space maps: the first on disk 0, one in the middle on disk 1, and the last on disk 2, of each
-/// group.
-const WRITE_FAULTS: [(&str, &str); 6] = [
+/// One call of one disk fails, and what is missing then. A write of blocks: for group 4 the disks have 33 of these each, for group 5
+/// 21, 22 and 21, behind four of slots, of which six are for two space maps: the first on disk 0, one in the middle on disk 1, and
+/// the last on disk 2, of each group. A write of a slot: the first on disk 0 for group 4, or the last on disk 2 for group 5. A flush:
+/// the first for group 4, which is the call behind the writes of blocks, or the one behind its slots, or one of those for group 5.
+const CALL_FAULTS: &[(&str, &str)] = &[
     ("fault 0 at 0\n", NO_DISK_0),
     ("fault 1 write 16\n", NO_DISK_1),
     ("fault 2 write 32\n", NO_DISK_2),
     ("fault 0 write 37\n", NO_DISK_0),
     ("fault 1 write 47\n", NO_DISK_1),
     ("fault 2 write 57\n", NO_DISK_2),
-];
-
-/// One write of a slot fails: the first on disk 0 for group 4, or the last on disk 2 for group 5.
-const SLOT_FAULTS: [(&str, &str); 2] = [
     ("fault 0 write 33\n", NO_DISK_0),
     ("fault 2 write 61\n", NO_DISK_2),
-];
-
-/// One flush of one disk fails: the first for group 4, which is the call behind the writes of blocks, or the one behind its slots, or
-/// one of those for group 5.
-const FLUSH_FAULTS: [(&str, &str); 6] = [
     ("fault 0 at 33\n", NO_DISK_0),
     ("fault 1 at 33\n", NO_DISK_1),
     ("fault 2 at 33\n", NO_DISK_2),
@@ -592,7 +554,7 @@ const FLUSH_FAULTS: [(&str, &str); 6] = [
 /// One read of one disk fails. The disks have 3, 4 and 6 reads for what is pending, then 15, 8 and 22 for the plan of group 5, of which
 /// 10, 1 and 11 are for the space maps, then 7, 6 and 4 under it, and 3, 4 and 6 under group 4: so each of these faults comes, the
 /// first on the first read of a disk, and the last on the last. Those of number 16 are for the maps.
-const READ_FAULTS: [(&str, &str); 8] = [
+const READ_FAULTS: &[(&str, &str)] = &[
     ("fault 0 read 0\n", ""),
     ("fault 1 read 3\n", ""),
     ("fault 2 read 6\n", ""),
@@ -620,42 +582,20 @@ under 5 v 510 4 -> 07x2 08x2
 under 4 v 510 4 -> 00x4
 ";
 
-/// The schedules that end otherwise behind a fault, or nothing.
-fn changed_by(alloc: Global, faults: &[(&str, &str)]) -> Result<String, Fail> {
-    let mut changed = String::new(alloc);
+/// What is replied otherwise in the schedule behind each fault, with its own end.
+fn wrong_behind(alloc: Global, faults: &[(&str, &str)]) -> Result<String, Fail> {
+    let mut wrong = String::new(alloc);
     for (fault, end) in faults {
         let text = format!(in alloc; "{fault}{COMMITTED_IN_SPITE}{end}")?;
-        let row = played(alloc, text.as_str())?;
-        if row.as_str() != text.as_str() {
-            changed.push_str(row.as_str())?;
-        }
+        wrong.push_str(wrong_in(alloc, &[text.as_str()])?.as_str())?;
     }
-    Ok(changed)
+    Ok(wrong)
 }
 
-/// Plays the schedule behind each fault, with its own end.
-fn play_with<R: Abort>(rt: &R, alloc: Global, faults: &[(&str, &str)]) -> Result<(), Fail> {
-    let changed = changed_by(alloc, faults)?;
-    assert!(rt; changed.as_str() == "", "{changed}");
+#[test]
+fn a_call_of_a_disk_may_fail(rt: HostRuntime) -> Result<(), Fail> {
+    let mut wrong = wrong_behind(rt.alloc(), CALL_FAULTS)?;
+    wrong.push_str(wrong_behind(rt.alloc(), READ_FAULTS)?.as_str())?;
+    assert!(rt; wrong.is_empty(), "{wrong}");
     Ok(())
-}
-
-#[test]
-fn a_write_of_a_disk_may_fail(rt: HostRuntime) -> Result<(), Fail> {
-    play_with(&rt, rt.alloc(), &WRITE_FAULTS)
-}
-
-#[test]
-fn a_slot_of_a_disk_may_fail(rt: HostRuntime) -> Result<(), Fail> {
-    play_with(&rt, rt.alloc(), &SLOT_FAULTS)
-}
-
-#[test]
-fn a_flush_of_a_disk_may_fail(rt: HostRuntime) -> Result<(), Fail> {
-    play_with(&rt, rt.alloc(), &FLUSH_FAULTS)
-}
-
-#[test]
-fn a_read_of_a_disk_may_fail(rt: HostRuntime) -> Result<(), Fail> {
-    play_with(&rt, rt.alloc(), &READ_FAULTS)
 }

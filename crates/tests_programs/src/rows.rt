@@ -2,7 +2,7 @@
 use crate::telling::{all_ran_otherwise, expect_none};
 use model_disk::MemDisk;
 use plain_machine::Machine;
-use pool_core::Core;
+use programs::Core;
 use std::test::Fail;
 
 /// The pool's core over disks in memory.
@@ -475,13 +475,15 @@ const OVER_DISKS: [&[&str]; 8] = [
 ];
 
 /// Pools that are made over disks, and those that are not.
-const POOLS: [&[&str]; 6] = [
+const POOLS: [&[&str]; 8] = [
     &["pool 1 2 8388608 12 2 -> pool 3 claim 1\n"],
     &["pool 1 1 8388608 12 2 -> refused 24 BadConfig\n"],
     &["pool 3 5 8388608 12 2 -> refused 24 BadConfig\n"],
     &["pool 1 3 8388607 12 2 -> refused 24 BadConfig\n"],
     &["pool 1 3 8388608 12 0 -> refused 24 BadConfig\n"],
     &["pool 1 3 8388608 12 5 -> refused 24 BadConfig\n"],
+    &["pool 1 3 8796093022208 20 2 -> refused 24 BadConfig\n"],
+    &["pool 1 3 8796093022209 12 2 -> refused 24 BadConfig\n"],
 ];
 
 #[test]

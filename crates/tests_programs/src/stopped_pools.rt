@@ -38,7 +38,7 @@ stop slots 0 -> stop
 close -> closed 9
 quiesced -> quiesced 9
 commit -> stopped
-reopen 0 9 -> opened 8 claim 2
+reopen 0 -> opened 8 claim 2
 reopen 0 0 1 -> refused 22 TooManyMissing
 reopen 0 -> opened 8 claim 3";
 
@@ -202,8 +202,20 @@ fn claims_are_stopped_and_groups_gone_back(rt: HostRuntime) -> Result<(), Fail> 
     )
 }
 
-/// What can't stand behind a stop, or at all.
-const MISPLACED: [(&str, &str); 4] = [
+/// What can't stand behind a stop, or at all: a disk that isn't there can't be left out.
+const MISPLACED: [(&str, &str); 7] = [
+    (
+        "pool 1 3 8388608 12 2\nreopen 0 7\n",
+        "pool 3 claim 1\npoolrun: line 2\n2",
+    ),
+    (
+        "pool 1 3 8388608 12 2\nreopen 0 2\nreopen 0 1 3\nreopen 0\n",
+        "pool 3 claim 1\nopened 3 claim 2\npoolrun: line 3\n2",
+    ),
+    (
+        "pool 1 3 8388608 12 2\nreopen 0 0 1 2\nreopen 0\n",
+        "pool 3 claim 1\nrefused 18 BadLabel tail\nopened 3 claim 2\n0",
+    ),
     (
         "pool 1 3 8388608 12 2\nstop blocks\nsync\nstop blocks\nhold 1\n",
         "pool 3 claim 1\nstop\nstopped\nstop\npoolrun: line 5\n2",

@@ -1,8 +1,7 @@
 //! Tests of the space maps of a vdev's metaslabs: what they leave without a plan and with it, and maps that are loaded.
 ghost use Rattle.std.specs.Prelude.{◌<◌};
 
-use metaslab::Refusal;
-use metaslab_group::MetaslabGroup;
+use metaslab::{MetaslabGroup, Refusal};
 use space_map::{FreeSet, Kind, Run, append_update};
 use std::alloc::{AllocError, Global};
 use std::test::*;

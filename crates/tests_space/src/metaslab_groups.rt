@@ -1,7 +1,6 @@
 ghost use Rattle.std.specs.Prelude.{◌<◌};
 
-use metaslab::Refusal;
-use metaslab_group::MetaslabGroup;
+use metaslab::{MetaslabGroup, Refusal};
 use space_map::Run;
 use std::alloc::Global;
 use std::test::*;

@@ -7,17 +7,18 @@ use Rattle.block_store.specs.Opened.{MayBeOpened}
 use Rattle.block_store.specs.Store.{is_out}
 use Rattle.block_store.specs.declared.shape.VdevShape.{VdevShape}
 use Rattle.uberblock_ring.specs.declared.uberblock.Uberblock.{Uberblock}
-use Rattle.pool_core.specs.State.{CoreState, disks_of}
+use Rattle.pool_create.specs.CoreState.{CoreState, disks_of}
 use Rattle.pool_create.specs.Planning.{nobody}
 use Rattle.pool_model.specs.Pools.{PlainPool}
 use Rattle.pool_model.specs.View.{View}
-use Rattle.pool_open.specs.Opens.{OpenRefuses, refusal_of}
-use Rattle.pool_open.specs.declared.handed_in.NotOpened.{NotOpened}
-use Rattle.pool_open.specs.declared.handed_in.NotOpened.TheVariants.{NotFound, Refused}
-use Rattle.pool_open.specs.Retried.{IsNotOpenedAtLast}
-use Rattle.pool_open.specs.Stops.{fresh}
-use Rattle.pool_open.specs.declared.refusal.Refusal.{Refusal}
-use Rattle.pool_open.specs.declared.refusal.Refusal.TheVariants.{NoMemory}
+use Rattle.pool_create.specs.Opens.{OpenRefuses, refusal_of}
+use Rattle.pool_create.specs.NotOpened.{NotOpened}
+use Rattle.pool_create.specs.NotOpened.TheVariants.{NotFound, Refused}
+use Rattle.pool_create.specs.Retried.{IsNotOpenedAtLast}
+use Rattle.pool_create.specs.OpenStops.{fresh}
+use Rattle.pool_create.specs.Trees.{NamesConfigOf}
+use Rattle.pool_create.specs.OpenRefusal.{Refusal}
+use Rattle.pool_create.specs.OpenRefusal.TheVariants.{NoMemory}
 use Rattle.pool_slots.specs.Opens.{AreKnown}
 use Rattle.pool_slots.specs.Possible.{Possible}
 use Rattle.pool_stops.specs.OneConfig.{IsRunningAs}
@@ -36,11 +37,12 @@ pub record AreSound (old new : Disks) : Type 0 where
 abbrev pub RunsAtFirst : Disks → Uberblock → CoreState → Type 0
 RunsAtFirst old u core = AreKnown (nobody old.starts) old → AreSound old (disks_of core) → (v : View) × IsRunningAs u.config_digest core v u []
 
--- one that was opened with all its disks has the pool of an uberblock that they led to, and runs on
+-- one that was opened with all its disks, and keeps the configuration that the claimed uberblock names, has the pool of an uberblock that they led to,
+-- and runs on
 abbrev pub OpensWell : Disks → List VdevShape → List Bool → Uberblock → CoreState → Type 0
 OpensWell old shapes out claimed core =
     (p : Possible) (pools : Uberblock → PlainPool) → LeadToPools old shapes out p pools → core.commit.store.out ≡ out
-    → ((disk : ℕ) → is_out out disk ≡ false) → AreSound old (disks_of core) → IsOpenedWell p pools shapes out 0 claimed core
+    → ((disk : ℕ) → is_out out disk ≡ false) → NamesConfigOf claimed core → AreSound old (disks_of core) → IsOpenedWell p pools shapes out 0 claimed core
 
 -- one that was not, and that nothing hindered, lacked memory, if its disks led to whole pools
 abbrev pub IsRefusedWell : Disks → List VdevShape → List Bool → Disks → Refusal → Type 0

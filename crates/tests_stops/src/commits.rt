@@ -4,7 +4,7 @@ use crate::judging::{Outcome, Part, failure_after, first_failure, judge};
 use crate::runs::Run;
 use crate::stages::{LATER_GROUPS, first_run, next_run};
 use crate::stopping::{Away, Stop};
-use pool_open::Refusal;
+use pool_create::Refusal;
 use std::alloc::Global;
 use std::test::*;
 

@@ -3,7 +3,7 @@ use crate::history::is_possible;
 use crate::reopening::{Seen, reopened};
 use crate::runs::Run;
 use crate::stopping::{Away, Stop, stop_at};
-use pool_open::Refusal;
+use pool_create::Refusal;
 use std::alloc::{AllocError, Global};
 use std::process::Abort;
 use std::test::*;

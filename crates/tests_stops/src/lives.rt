@@ -1,14 +1,16 @@
 //! Pools that run, by what the calls promise that make and open them.
 ghost use Rattle.std.specs.Prelude.{◌≡◌, length, IfErr, IfOk};
-ghost use Rattle.pool_core.specs.StateOf.{state_of};
+ghost use Rattle.pool_create.specs.CoreStateOf.{state_of};
 ghost use Rattle.tests_stops.specs.Lives.{IsRefusedAgain, IsRefusedWell, OpensWell, RunsAtFirst};
 
 use crate::pools::{DISK_BYTES, config};
 use block_store::VdevShape;
 use model_disk::{Disk, DiskArray, MemDisk, Member};
-use pool_create::create_over;
+use pool_create::{
+    NotOpened, OpenedPool, Refusal, create_over, open, open_over, unfailing_opens_claim_once,
+};
 use pool_format::PoolIdentity;
-use pool_open::{NotOpened, OpenedPool, Refusal, open, open_over, unfailing_opens_claim_once};
+use pool_members::HandedIn;
 use pool_stops::{
     created_pools_run_as, found_disks_may_be_opened, led_disks_open, own_pools_open_again,
     unhindered_opens_are_done,
@@ -16,6 +18,7 @@ use pool_stops::{
 use raidz_io::Vdev;
 use raidz_map::Geometry;
 use std::alloc::Global;
+use std::sync::Arc;
 use std::test::*;
 use vdev_label::Config;
 
@@ -25,7 +28,7 @@ fn created(
     disks: DiskArray<MemDisk>,
     pool: PoolIdentity,
     config: Config,
-) -> Result<OpenedPool<MemDisk>, Refusal>
+) -> Result<OpenedPool<MemDisk>, (Refusal, DiskArray<MemDisk>)>
     ensures { IfOk result (λ opened. RunsAtFirst disks opened.uberblock (state_of opened.core)) }
 {
     created_pools_run_as();
@@ -38,6 +41,7 @@ fn reopened(
     disks: DiskArray<MemDisk>,
     shapes: &[VdevShape],
     out: Vec<bool>,
+    config: &Arc<Config, Global>,
 ) -> Result<OpenedPool<MemDisk>, (Refusal, DiskArray<MemDisk>)>
     requires out { length out.items ≡ length disks.starts }
     ensures opened { IfOk result (λ opened.
@@ -48,7 +52,7 @@ fn reopened(
     unfailing_opens_claim_once();
     led_disks_open();
     unhindered_opens_are_done();
-    open_over(alloc, disks, shapes, out, 0)
+    open_over(alloc, disks, shapes, out, 0, config)
 }
 
 /// Opens it on its disks, in any order. Where nothing hinders it, it isn't refused but for want of memory, and never for the vdevs of
@@ -56,7 +60,7 @@ fn reopened(
 fn opened_again<D: Disk + Drop>(
     alloc: Global,
     disks: Vec<D>,
-) -> Result<OpenedPool<Member<D>>, NotOpened<D>>
+) -> Result<(OpenedPool<Member<D>>, HandedIn<D>), NotOpened<D>>
     ensures { IfErr result (IsRefusedAgain D.Disk disks.items) }
 {
     own_pools_open_again::<D>();
@@ -83,16 +87,13 @@ fn claims(alloc: Global) -> Result<[u64; 2], Refusal> {
     let name = String::from_str(alloc, "pool")?;
     let config = config(alloc)?;
     let shapes = vec![in alloc; shape()?]?;
+    let kept = Arc::new(alloc, crate::pools::config(alloc)?)?;
     let disks = DiskArray::new(MemDisk::several(alloc, 3, DISK_BYTES)?);
-    let OpenedPool { core, uberblock } = created(
-        alloc,
-        disks,
-        PoolIdentity { name, guid: 1 },
-        config,
-    )?;
+    let made = created(alloc, disks, PoolIdentity { name, guid: 1 }, config);
+    let OpenedPool { core, uberblock } = made.map_err(|(refusal, _)| refusal)?;
     let disks = core.into_array();
     let out = vec![in alloc; false; disks.len()]?;
-    match reopened(alloc, disks, &shapes, out) {
+    match reopened(alloc, disks, &shapes, out, &kept) {
         Ok(again) => Ok([uberblock.claim, again.uberblock.claim]),
         Err((refusal, _)) => Err(refusal),
     }
@@ -103,11 +104,12 @@ fn claim_in_any_order(alloc: Global) -> Result<u64, Refusal> {
     let name = String::from_str(alloc, "pool")?;
     let config = config(alloc)?;
     let disks = DiskArray::new(MemDisk::several(alloc, 3, DISK_BYTES)?);
-    let made = created(alloc, disks, PoolIdentity { name, guid: 1 }, config)?;
+    let made = created(alloc, disks, PoolIdentity { name, guid: 1 }, config);
+    let made = made.map_err(|(refusal, _)| refusal)?;
     let mut disks = made.core.into_array().into_disks();
     disks.reverse();
     match opened_again(alloc, disks) {
-        Ok(again) => Ok(again.uberblock.claim),
+        Ok((again, _)) => Ok(again.uberblock.claim),
         Err(failed) => Err(failed.refusal()),
     }
 }

@@ -1,10 +1,8 @@
 //! Pools of three disks with two volumes, and what they show.
 use model_disk::{Disk, MemDisk, Member};
-use pool_core::Core;
-use pool_create::create;
+use pool_create::{Core, OpenedPool, Refusal, create, open};
 use pool_format::PoolIdentity;
 use pool_model::{Action, Bytes, Change, Name, Reply, Step, Write};
-use pool_open::{OpenedPool, Refusal, open};
 use std::alloc::{AllocError, Global};
 use vdev_label::{Config, Vdev};
 
@@ -132,8 +130,10 @@ pub(crate) fn made(alloc: Global) -> Result<Vec<Vec<u8>>, Refusal> {
     let name = String::from_str(alloc, "pool")?;
     let config = config(alloc)?;
     let disks = MemDisk::several(alloc, 3, DISK_BYTES)?;
-    let OpenedPool { core, .. } = create(alloc, disks, PoolIdentity { name, guid: 1 }, config)?;
-    Ok(bytes_of(alloc, core.into_disks())?)
+    match create(alloc, disks, PoolIdentity { name, guid: 1 }, config) {
+        Ok(OpenedPool { core, .. }) => Ok(bytes_of(alloc, core.into_disks())?),
+        Err((refusal, _)) => Err(refusal),
+    }
 }
 
 /// Opens the pool on these disks.
@@ -141,7 +141,7 @@ pub(crate) fn opened<D: Disk + Drop>(
     alloc: Global,
     disks: Vec<D>,
 ) -> Result<OpenedPool<Member<D>>, Refusal> {
-    Ok(open(alloc, disks, 0)?)
+    Ok(open(alloc, disks, 0)?.0)
 }
 
 fn name_of(alloc: Global, which: Which) -> Result<Name, AllocError> {

@@ -1,9 +1,8 @@
 //! Pools that are opened after a stop, without one of their disks and then with all.
 use crate::pools::{Doing, Shown, Volume, Which, do_all, opened, plan, shown_in};
 use model_disk::{MemDisk, Member};
-use pool_core::Core;
+use pool_create::{Core, OpenedPool, Refusal};
 use pool_model::{Reply, Step};
-use pool_open::{OpenedPool, Refusal};
 use std::alloc::{AllocError, Global};
 
 /// What is shown when a pool is opened, and what by its last opening.

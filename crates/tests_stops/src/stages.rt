@@ -5,7 +5,7 @@ use crate::runs::{Run, recorded};
 use crate::stopping::Stop;
 use Doing::{Fills, Makes};
 use Which::{V, W};
-use pool_open::Refusal;
+use pool_create::Refusal;
 use std::alloc::Global;
 
 /// What a new pool shows.

@@ -3,14 +3,14 @@ ghost use Rattle.std.specs.Prelude.{◌≡◌, ◌+◌, ◌*◌, ◌<◌, ◌≤
 ghost use Rattle.dnode.specs.Dnode.{FitsDnode};
 ghost use Rattle.dnode.specs.Node.{FitsNode};
 ghost use Rattle.dnode.specs.ObjectSet.{FitsObjectSet};
-ghost use Rattle.dnode_slots.specs.Writes.{AreNodeWrites};
+ghost use Rattle.objset.specs.NodeWrites.{AreNodeWrites};
 
 use crate::stores::{Store, new_store, store_plan};
 use block_pointer::{Block, BlockPtr};
 use block_store::CopyCount;
 use dnode::{Dnode, ObjectNode, ObjectSet, ObjectSetKind};
-use dnode_slots::{FoundDnode, NodeWrite, Refusal, SetRewrite, get, plan_set, put_many, read_set};
 use dnode_tree::{BlockWrite, CopyCounts, free_blocks};
+use objset::{FoundDnode, NodeWrite, Refusal, SetRewrite, get_node, plan_set, put_many, read_set};
 use std::alloc::{AllocError, Global};
 use std::test::Fail;
 
@@ -125,7 +125,7 @@ fn are_at(
 {
     let mut same = true;
     for (number, sectors) in wanted {
-        let dnode = get(set, store, alloc, *number, birth, missing);
+        let dnode = get_node(set, store, alloc, *number, birth, missing);
         same = same && sectors_of(dnode) == *sectors;
     }
     same
@@ -222,7 +222,7 @@ fn the_set_before_stays(rt: HostRuntime) -> Result<(), Fail> {
 fn set_block(store: &mut Store, alloc: Global) -> Result<(u8, bool, bool), Refusal> {
     let set = put(&EMPTY, store, alloc, &first_writes(), 1)?.set;
     store.drop_plan(2);
-    let block = plan_set(&set, store, alloc, 2, CopyCount::Three)?;
+    let block = plan_set(&set, store, alloc, 2)?;
     store_plan(store);
     let found = read_set(store, alloc, &block, 2, &[])? == set;
     let early = read_set(store, alloc, &block, 1, &[]) == Err(Refusal::BadPointer);

@@ -8,10 +8,9 @@ use crate::nodes::COPIES;
 use crate::stores::{Store, new_store, store_plan};
 use block_pointer::BlockPtr;
 use dnode::{ObjectNode, ObjectSet, ObjectSetKind};
-use dnode_slots::NodeWrite;
 use objset::{
-    BlockWrite, Change, ObjectChange, Refusal, SetCopies, SetRewrite, change, get, get_many, walk,
-    walk_within,
+    BlockWrite, Change, NodeWrite, ObjectChange, Refusal, SetCopies, SetRewrite, change, get,
+    get_many, walk, walk_within,
 };
 use std::alloc::{AllocError, Global};
 use std::test::Fail;
@@ -429,13 +428,13 @@ fn late_object(store: &mut Store, alloc: Global) -> Result<ObjectSet, Refusal>
 {
     let set = two_objects(store, alloc)?.set;
     let later = write_and_free(&set, store, alloc)?.set;
-    let found = dnode_slots::get(&later, store, alloc, 3, 2, &[])?;
+    let found = objset::get_node(&later, store, alloc, 3, 2, &[])?;
     let writes = [NodeWrite {
         number: 3,
         node: found.dnode,
     }];
     store.drop_plan(1);
-    let done = dnode_slots::put_many(&EMPTY, store, alloc, &writes, 1, COPIES, &[])?;
+    let done = objset::put_many(&EMPTY, store, alloc, &writes, 1, COPIES, &[])?;
     store_plan(store);
     Ok(done.set)
 }

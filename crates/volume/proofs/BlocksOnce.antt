@@ -6,7 +6,7 @@ use Rattle.block_pointer.specs.declared.block.Block.{Block}
 use Rattle.block_store.specs.Blocks.{Contents}
 use Rattle.dnode.specs.declared.dnode.Dnode.{Dnode}
 use Rattle.dnode.specs.declared.object_set.ObjectSet.{ObjectSet}
-use Rattle.dnode_slots.specs.Nodes.{birth_of}
+use Rattle.objset.specs.Nodes.{birth_of}
 use Rattle.dnode_tree.proofs.Exchanging.{count_by-append}
 use Rattle.dnode_tree.proofs.SameBlocks.{same_as, counted, once_counted, distinct_counted}
 use Rattle.dnode_tree.specs.Rewriting.{AreDistinct}

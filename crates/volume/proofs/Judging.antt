@@ -4,7 +4,7 @@ use Rattle.std.specs.Prelude.{IsSomeAnd}
 use Rattle.block_store.specs.Spaces.{VdevSpace}
 use Rattle.dnode.specs.declared.object_set.ObjectSet.{ObjectSet}
 use Rattle.dnode.specs.declared.object_set.ObjectSetKind.TheVariants as kinds
-use Rattle.dnode_slots.specs.Sets.{IsSetFound}
+use Rattle.objset.specs.Sets.{IsSetFound}
 use Rattle.objset.specs.declared.shape.ObjectShape.{ObjectShape}
 use Rattle.objset.specs.Objects.{Object}
 use Rattle.objset.specs.Shapes.{HasShape}

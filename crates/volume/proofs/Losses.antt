@@ -8,7 +8,7 @@ use Rattle.block_store.specs.declared.refusal.Refusal.TheVariants.{DiskFault}
 use Rattle.block_store.specs.Losses.{IsBlockLost}
 use Rattle.block_store.specs.Store.{Store}
 use Rattle.dnode.specs.declared.object_set.ObjectSet.{ObjectSet}
-use Rattle.dnode_slots.proofs.Losses.{node_lost, set_lost}
+use Rattle.objset.proofs.NodeLosses.{node_lost, set_lost}
 use Rattle.dnode_tree.specs.declared.writes.BlockWrite.{BlockWrite}
 use Rattle.objset.proofs.Losses.{change_lost, data_lost}
 use Rattle.objset.specs.declared.changes.Change.{Change}

@@ -12,7 +12,7 @@ use Rattle.block_store.specs.Steps.{OnlyReadsAndPlans}
 use Rattle.block_store.specs.Store.{Store}
 use Rattle.dnode.specs.declared.object_set.ObjectSet.{ObjectSet}
 use Rattle.dnode.specs.declared.object_set.ObjectSetKind.TheVariants as kinds
-use Rattle.dnode_slots.specs.Sets.{IsSetBlock}
+use Rattle.objset.specs.Sets.{IsSetBlock}
 use Rattle.dnode_tree.specs.declared.writes.BlockWrite.{BlockWrite}
 use Rattle.dnode_tree.specs.Writes.{written}
 use Rattle.objset.specs.declared.changes.Change.{Change}

@@ -3,7 +3,7 @@ use Rattle.std.proofs.Common.{ℕ, inl, inr, List}
 use Rattle.block_store.specs.declared.refusal.Refusal.{Refusal}
 use Rattle.block_store.specs.Store.{Store}
 use Rattle.dnode.specs.declared.object_set.ObjectSet.{ObjectSet}
-use Rattle.dnode_slots.proofs.ReadRefusals.{node_read, set_read}
+use Rattle.objset.proofs.NodeReadRefusals.{node_read, set_read}
 use Rattle.dnode_tree.proofs.ReadRefusals.{bad_read}
 use Rattle.dnode_tree.specs.ReadRefusals.{IsForRead}
 use Rattle.objset.proofs.ReadRefusals.{data_read, set_walk_read}

@@ -3,7 +3,7 @@ use Rattle.std.proofs.Common.{◌≡◌, ℕ, ◌+◌, ◌*◌, ◌/◌, ◌%◌
 use Rattle.std.proofs.lemmas.List.{same_lists}
 use Rattle.std.proofs.lemmas.List.Edits.{get_or-between}
 use Rattle.dnode.specs.declared.object_set.ObjectSet.{ObjectSet}
-use Rattle.dnode_slots.proofs.Readings.{set_block_once}
+use Rattle.objset.proofs.NodeReadings.{set_block_once}
 use Rattle.objset.proofs.Readings.{objects_are_one}
 use Rattle.objset.specs.Objects.{Object, AreObjects}
 use Rattle.volume.specs.Laws.{VolumesReadAsOne}

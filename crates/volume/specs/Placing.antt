@@ -8,8 +8,8 @@ use Rattle.block_store.specs.Steps.{HasNoRoomFor}
 use Rattle.block_store.specs.Store.{Store}
 use Rattle.dnode.specs.declared.object_set.ObjectSet.{ObjectSet}
 use Rattle.dnode.specs.ObjectSet.{object_set_bytes}
-use Rattle.dnode_slots.specs.declared.writes.SetRewrite.{SetRewrite}
-use Rattle.dnode_slots.specs.Sets.{IsSetBlock}
+use Rattle.objset.specs.declared.node_writes.SetRewrite.{SetRewrite}
+use Rattle.objset.specs.Sets.{IsSetBlock}
 use Rattle.dnode_tree.specs.declared.writes.BlockWrite.{BlockWrite}
 use Rattle.objset.specs.declared.changes.Change.{Change}
 use Rattle.objset.specs.declared.changes.Change.TheVariants.{Create, Put}

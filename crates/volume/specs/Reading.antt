@@ -7,8 +7,8 @@ use Rattle.block_store.specs.Steps.{OnlyReadsBlocks}
 use Rattle.block_store.specs.Store.{Store}
 use Rattle.dnode.specs.declared.object_set.ObjectSet.{ObjectSet}
 use Rattle.dnode.specs.declared.object_set.ObjectSetKind.TheVariants as kinds
-use Rattle.dnode_slots.specs.Found.{IsNodeRefused}
-use Rattle.dnode_slots.specs.Sets.{IsSetFound, IsSetRefused}
+use Rattle.objset.specs.NodesFound.{IsNodeRefused}
+use Rattle.objset.specs.Sets.{IsSetFound, IsSetRefused}
 use Rattle.objset.specs.declared.shape.ObjectShape.{ObjectShape}
 use Rattle.objset.specs.Found.{IsDataFound, IsDataRefused}
 use Rattle.objset.specs.Shapes.{IsShapeFound}

@@ -4,7 +4,7 @@ use Rattle.block_pointer.specs.declared.block.Block.{Block}
 use Rattle.block_store.specs.Blocks.{Contents}
 use Rattle.dnode.specs.declared.object_set.ObjectSet.{ObjectSet}
 use Rattle.dnode.specs.declared.object_set.ObjectSetKind.TheVariants as kinds
-use Rattle.dnode_slots.specs.Sets.{IsSetBlock}
+use Rattle.objset.specs.Sets.{IsSetBlock}
 use Rattle.objset.specs.Objects.{Object, AreObjects}
 use Rattle.volume.specs.declared.volume.VolumeSet.{VolumeSet}
 

@@ -8,7 +8,7 @@ use Rattle.block_store.specs.Steps.{OnlyReadsBlocks}
 use Rattle.block_store.specs.Store.{Store}
 use Rattle.dnode.specs.declared.object_set.ObjectSet.{ObjectSet}
 use Rattle.dnode.specs.declared.object_set.ObjectSetKind.TheVariants as kinds
-use Rattle.dnode_slots.specs.Sets.{IsSetFound, IsSetRefused}
+use Rattle.objset.specs.Sets.{IsSetFound, IsSetRefused}
 use Rattle.dnode_tree.specs.Rewriting.{AreDistinct}
 use Rattle.objset.specs.Within.{blocks_of_objects, blocks_of_set, reads_of, IsSetWalked, IsSetWalkRefused}
 use Rattle.volume.specs.declared.volume.VolumeSet.{VolumeSet}

@@ -12,9 +12,8 @@ ghost use Rattle.volume.specs.Volume.{Spells};
 use crate::volume::{DATA, VOLUME_TYPE, VolumeSet};
 use block_store::{BlockStore, Refusal};
 use dnode::{ObjectSet, ObjectSetKind};
-use dnode_slots::read_set;
 use model_disk::Disk;
-use objset::ObjectShape;
+use objset::{ObjectShape, read_set};
 use std::alloc::Global;
 
 impl VolumeSet {

@@ -18,8 +18,8 @@ use crate::volume::VolumeSet;
 use block_pointer::Block;
 use block_store::{BlockStore, Refusal};
 use dnode::ObjectSet;
-use dnode_slots::read_set;
 use model_disk::Disk;
+use objset::read_set;
 use std::alloc::{AllocError, Global};
 
 impl VolumeSet {

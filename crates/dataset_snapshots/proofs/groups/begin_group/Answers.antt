@@ -3,7 +3,7 @@ use Rattle.std.specs.List.{AllZip}
 use Rattle.std.specs.List.Sorted.{IsStrictlyIncreasing}
 use Rattle.block_store.proofs.Steps.{reads_on}
 use Rattle.block_store.specs.Spaces.{VdevSpace}
-use Rattle.dataset_changes.specs.States.{set_of}
+use Rattle.dataset_groups.specs.States.{set_of}
 use Rattle.dataset_groups.specs.declared.datasets.GroupDatasets.{GroupDatasets}
 use Rattle.dataset_groups.specs.declared.datasets.NumberBounds.{NumberBounds}
 use Rattle.dataset_groups.specs.Names.{NamesPool}

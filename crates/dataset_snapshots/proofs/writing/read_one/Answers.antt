@@ -1,7 +1,7 @@
 use Rattle.std.proofs.Common.{ℕ, refl, subst, sym}
 use Rattle.block_store.proofs.Steps.{reads_on}
-use Rattle.dataset_changes.specs.Over.{HasRecordNow}
-use Rattle.dataset_changes.specs.States.{birth_of, set_of}
+use Rattle.dataset_groups.specs.Over.{HasRecordNow}
+use Rattle.dataset_groups.specs.States.{birth_of, set_of}
 use Rattle.dataset_groups.specs.declared.datasets.GroupDatasets.{GroupDatasets}
 use Rattle.dnode_tree.proofs.FurtherReads.{true_before, true_after}
 use Rattle.dnode_tree.proofs.Refusing.{passed_on}

@@ -4,8 +4,8 @@ use Rattle.block_pointer.specs.declared.block.Block.{Block}
 use Rattle.block_store.specs.Blocks.{Contents}
 use Rattle.block_store.specs.Steps.{OnlyReadsBlocks, AnswersAreTrue}
 use Rattle.block_store.specs.Store.{Holds}
-use Rattle.dataset_changes.specs.Over.{AreOver}
-use Rattle.dataset_changes.specs.States.{record_at, set_of}
+use Rattle.dataset_groups.specs.Over.{AreOver}
+use Rattle.dataset_groups.specs.States.{record_at, set_of}
 use Rattle.dataset_groups.specs.Writing.{FitsHead, numbers_of}
 use Rattle.objset.specs.Objects.{Object, AreObjects}
 use Rattle.dataset_snapshots.specs.Opening.{IsWrittenOf}

@@ -1,7 +1,7 @@
 use Rattle.std.proofs.Common.{List, inl, refl, subst, sym}
 use Rattle.block_pointer.specs.declared.block.Block.{Block}
-use Rattle.dnode_slots.specs.declared.writes.NodeWrite.{NodeWrite}
-use Rattle.dnode_slots.specs.Writes.{AreNodesRewritten, IsGrownSet, numbers_of, written_nodes, births_written}
+use Rattle.objset.specs.declared.node_writes.NodeWrite.{NodeWrite}
+use Rattle.objset.specs.NodeWrites.{AreNodesRewritten, IsGrownSet, numbers_of, written_nodes, births_written}
 use Rattle.dnode_tree.proofs.Refusing.{passed_on}
 use Rattle.block_store.proofs.Steps.{steps_none, steps_on}
 use Rattle.dnode_tree.proofs.Steps.{true_sooner, true_later}

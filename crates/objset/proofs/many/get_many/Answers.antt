@@ -7,8 +7,8 @@ use Rattle.std.proofs.lemmas.List.Elements.{Contains-get_or}
 use Rattle.std.proofs.lemmas.Result.{IfOk-weaker, IfErr-weaker}
 use Rattle.block_store.proofs.Steps.{reads_on}
 use Rattle.dnode.specs.declared.dnode.Dnode.{Dnode}
-use Rattle.dnode_slots.specs.Found.{found_dnode, IsNodeFound}
-use Rattle.dnode_slots.specs.Nodes.{birth_of}
+use Rattle.objset.specs.NodesFound.{found_dnode, IsNodeFound}
+use Rattle.objset.specs.Nodes.{birth_of}
 use Rattle.dnode_tree.specs.Many.{FoundBlocks}
 use Rattle.dnode_tree.specs.Ways.{bytes_of, IsFound}
 use Rattle.dnode_tree.proofs.FurtherReads.{true_before, true_after}

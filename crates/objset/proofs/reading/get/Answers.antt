@@ -6,8 +6,8 @@ use Rattle.dnode_tree.proofs.Refusing.{passed_on}
 use Rattle.objset.proofs.Kept.{no_object, used, object_there, some_and}
 use Rattle.dnode.specs.declared.dnode.Dnode.{Dnode}
 use Rattle.dnode_tree.specs.Ways.{bytes_of, IsFound}
-use Rattle.dnode_slots.specs.Found.{found_dnode, IsNodeFound}
-use Rattle.dnode_slots.specs.Nodes.{birth_of}
+use Rattle.objset.specs.NodesFound.{found_dnode, IsNodeFound}
+use Rattle.objset.specs.Nodes.{birth_of}
 use Rattle.objset.specs.Objects.{IsObject}
 use Rattle.objset.proofs.reading.get.Goals as goal
 

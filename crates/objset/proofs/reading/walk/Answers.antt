@@ -5,8 +5,8 @@ use Rattle.dnode_tree.proofs.FurtherReads.{true_before, true_after}
 use Rattle.dnode_tree.proofs.Refusing.{passed_on}
 use Rattle.objset.proofs.Kept.{no_object, used, object_there}
 use Rattle.dnode.specs.declared.dnode.Dnode.{Dnode}
-use Rattle.dnode_slots.specs.Found.{found_dnode, IsNodeFound}
-use Rattle.dnode_slots.specs.Nodes.{birth_of}
+use Rattle.objset.specs.NodesFound.{found_dnode, IsNodeFound}
+use Rattle.objset.specs.Nodes.{birth_of}
 use Rattle.objset.specs.Objects.{Object, IsObject}
 use Rattle.objset.proofs.reading.walk.Goals as goal
 

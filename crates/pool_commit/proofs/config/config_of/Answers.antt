@@ -11,7 +11,7 @@ use Rattle.pool_model.specs.View.{counted}
 use Rattle.vdev_label.specs.Config.{FitsConfig, config_bytes}
 use Rattle.vdev_label.specs.Plain.{PlainVdev, vdev_view}
 use Rattle.vdev_label.specs.Room.{IsSmallVdev, SmallConfigsFit}
-use Rattle.pool_commit.specs.Configs.{vdev_with, configs_from}
+use Rattle.pool_commit.specs.Configs.{FitsTable, configs_from, vdev_with}
 use Rattle.pool_commit.proofs.config.config_of.Goals as goal
 
 -- ---- one vdev more
@@ -97,6 +97,19 @@ has_encoding spaces vdevs i guid count law is few end are =
     let eight : length shapes ≤ 8 = omega (arith, is, few, length-map spaces (λ (space : VdevSpace). space.shape)) in
     subst HasEncoding (sym (made spaces vdevs i guid (omega (arith, is, end)) are))
     (law (configs_from 100 shapes) (omega (arith, eight, vdevs_length 100 shapes)) (vdevs_small 100 shapes (omega (arith, eight))))
+
+has_table : (spaces : List VdevSpace) (vdevs : List PlainVdev) (i guid count : ℕ) → count ≡ length spaces → count ≤ 8 → count ≤ i
+    → vdevs ++ configs_from guid (drop i (shapes_of spaces)) ≡ configs_from 100 (shapes_of spaces) → FitsTable vdevs
+has_table spaces vdevs i guid count is few end are =
+    let shapes = shapes_of spaces in
+    let eight : length shapes ≤ 8 = omega (arith, is, few, length-map spaces (λ (space : VdevSpace). space.shape)) in
+    subst FitsTable (sym (made spaces vdevs i guid (omega (arith, is, end)) are))
+    (record { few = omega (arith, eight, vdevs_length 100 shapes); each = vdevs_small 100 shapes (omega (arith, eight)) })
+
+pub returns-clause-table : goal.returns-clause-table
+returns-clause-table g c =
+    has_table c.args.store.now.spaces (map vdev_view c.loop-index.vdevs.items) c.loop-index.index c.loop-index.guid c.vdev_count-index-end.result
+    c.vdev_count-index-end.ensures.count c.vdev_count-index-end.ensures.few c.loop-index-test.false c.loop-index.invariant.0
 
 pub returns-clause-fits : goal.returns-clause-fits
 returns-clause-fits g c =

@@ -1,4 +1,4 @@
-use Rattle.std.proofs.Common.{ℕ, ◌≡◌, ◌-◌, ◌∙◌, List, [], Option, Some, ap, refl, sym, subst}
+use Rattle.std.proofs.Common.{ℕ, ◌≡◌, ◌-◌, ◌∙◌, List, [], Option, Some, ap, arith, refl, sym, subst}
 use Rattle.block_pointer.specs.declared.block.Block.{Block}
 use Rattle.block_store.proofs.Steps.{steps_none}
 use Rattle.dataset_snapshots.proofs.GoodNames.{good_changes_may_be_made}
@@ -11,22 +11,26 @@ use Rattle.dataset_snapshots.proofs.Readings.{roots_spell_one_pool}
 use Rattle.dataset_snapshots.specs.Groups.{IsReachExchanged}
 use Rattle.dataset_snapshots.specs.Reach.{reach_of}
 use Rattle.meta_objset.specs.declared.directory.DirectoryRow.{DirectoryRow}
+use Rattle.pool_commit.specs.Configs.{HasConfigAs}
+use Rattle.objset.specs.Objects.{Object}
+use Rattle.vdev_label.specs.Plain.{PlainVdev, config_view}
+use Rattle.vdev_label.specs.declared.label.Config.{Config}
 use Rattle.volume_rules.proofs.PartActions.{parted_good}
 use Rattle.volume_rules.specs.GoodChanges.{MakesGoodVolumes}
 use Rattle.volume_rules.specs.Parting.{Parted, made_by, parted_of, with_made}
 use Rattle.pool_commit.specs.Backs.{BeginsWithMaps, LeadsTo, LeavesMaps, SpellsRoot}
 use Rattle.pool_commit.specs.Directories.{SpellsBy}
-use Rattle.pool_commit.proofs.Directories.{first_refused, later_refused, rows_led}
+use Rattle.pool_commit.proofs.Directories.{config_led, first_refused, later_refused, rows_led}
 use Rattle.pool_commit.proofs.Parted.{first_parted, may_parted, same_parted}
 use Rattle.pool_commit.proofs.plan.root_after.Given as given
 use Rattle.pool_commit.proofs.plan.root_after.Goals as goal
 
 -- a root was planned that spells this pool
-abbrev IsNext : List VdevSpace → Contents → Contents → ℕ → Block → List DirectoryRow → List Block → List Block → PlainPool → Type 0
-IsNext spaces planned later group root rows before gone pool =
+abbrev IsNext : List VdevSpace → Contents → Contents → ℕ → Block → List DirectoryRow → List PlainVdev → List Block → List Block → PlainPool → Type 0
+IsNext spaces planned later group root rows vdevs before gone pool =
     SpellsRoot later group (Some root) pool
     × (reach : List Block) × LeadsTo later group (Some root) pool reach × IsReachExchanged group planned later before reach gone
-    × SpellsBy later group (Some root) pool rows × LeavesMaps spaces gone later group root pool
+    × SpellsBy later group (Some root) pool rows vdevs × LeavesMaps spaces gone later group root pool
 
 good_parted : (items : Entry) (parted : Parted) → parted ≡ parted_of items.actions → MakesGoodVolumes items → AreGoodChanges parted.made
 good_parted items parted is good = subst (λ (p : Parted). AreGoodChanges p.made) (sym is) (good_changes_may_be_made (made_by items) (parted_good items good))
@@ -47,14 +51,18 @@ returns-in-Some-clause-value g c = λ stored planned pool before plans spells le
     let same : applied c.args.group (all_destroyed (c.in_ok-parted.parted).destroyed pool) (with_made items c.in_ok-parted.parted) ≡ applied c.args.group pool items =
     ap (λ (p : Parted). applied c.args.group (all_destroyed p.destroyed pool) (with_made items p)) parted ∙ same_parted stored (c.args.group - 1) c.args.group c.args.last.now pool items spells effects in
     let there = c.in_ok-next-in-Some.ensures.value stored planned pool plans is by maps may honest in
-    let next : IsNext c.after_group.new.store.spaces planned there.0 c.args.group c.in_ok-next-in-Some.next.root c.in_ok-next-in-Some.next.directory before c.in_ok-next-in-Some.next.replaced.items (applied c.args.group pool items) =
-    subst (IsNext c.after_group.new.store.spaces planned there.0 c.args.group c.in_ok-next-in-Some.next.root c.in_ok-next-in-Some.next.directory before c.in_ok-next-in-Some.next.replaced.items) same (
+    let vdevs : List PlainVdev = config_view c.args.last.now.config.value in
+    let config : HasConfigAs (there.3.objects 2) vdevs =
+    subst (λ (o : Option Object). HasConfigAs o vdevs) (sym (there.4 2 (omega arith) (omega arith)))
+    (config_led stored (c.args.group - 1) c.args.last.now pool c.in-Some.root is spells c.in-Some.is) in
+    let next : IsNext c.after_group.new.store.spaces planned there.0 c.args.group c.in_ok-next-in-Some.next.root c.in_ok-next-in-Some.next.directory vdevs before c.in_ok-next-in-Some.next.replaced.items (applied c.args.group pool items) =
+    subst (IsNext c.after_group.new.store.spaces planned there.0 c.args.group c.in_ok-next-in-Some.next.root c.in_ok-next-in-Some.next.directory vdevs before c.in_ok-next-in-Some.next.replaced.items) same (
       there.3,
       reach_of there.3,
       (there.3, refl),
       subst (λ (blocks : List Block). IsReachExchanged c.args.group planned there.0 blocks (reach_of there.3) c.in_ok-next-in-Some.next.replaced.items)
           (sym one.1 ∙ led.1) there.5,
-      (there.3, there.6),
+      (there.3, there.6, config),
       (there.3, there.7),
     ) in (there.0, there.1, there.2, next.0, next.1, next.2, next.3, next.4, next.5)
 
@@ -83,8 +91,11 @@ returns-clause-value g c = λ stored planned pool before plans spells leads begi
     ap (λ (p : Parted). applied c.args.group no_volumes (with_made items p)) parted
     ∙ first_parted c.args.group pool items (same_parted stored (c.args.group - 1) c.args.group c.args.last.now pool items spells effects) empty in
     let there = c.in_ok-first-in-None.ensures.value stored planned plans unused honest in
-    let first : IsNext c.first_root.new.store.spaces planned there.0 c.args.group root rows [] [] (applied c.args.group pool items) =
-    subst (IsNext c.first_root.new.store.spaces planned there.0 c.args.group root rows [] []) same (there.3, there.4, there.5, there.6, there.7, there.8) in (
+    let vdevs : List PlainVdev = config_view c.args.last.now.config.value in
+    let by = subst (λ (config : Config). SpellsBy there.0 c.args.group (Some root) (applied c.args.group no_volumes (with_made items c.in_ok-parted.parted)) rows (config_view config))
+    c.config.ensures there.7 in
+    let first : IsNext c.first_root.new.store.spaces planned there.0 c.args.group root rows vdevs [] [] (applied c.args.group pool items) =
+    subst (IsNext c.first_root.new.store.spaces planned there.0 c.args.group root rows vdevs [] []) same (there.3, there.4, there.5, there.6, by, there.8) in (
       there.0,
       there.1,
       there.2,
@@ -107,8 +118,8 @@ returns-in_err-first-in-None-clause-known g c =
 pub returns-in_err-first-in-None-clause-refused : goal.returns-in_err-first-in-None-clause-refused
 returns-in_err-first-in-None-clause-refused g c =
     passed_on _ _ _ c.from_residual-in_err-first-in-None.ensures.1
-    (first_refused c.args.store.now c.first_root.new.store c.args.last.now c.args.group c.args.items.now c.in_ok-parted.parted _ (c.in_ok-parted.ensures ∙ ap parted_of c.actions.ensures) c.in-None.is
-    c.in_err-first-in-None.ensures.refused)
+    (first_refused c.args.store.now c.first_root.new.store c.args.last.now c.args.group c.args.items.now c.in_ok-parted.parted _ _
+    (c.in_ok-parted.ensures ∙ ap parted_of c.actions.ensures) c.in-None.is c.config.ensures c.in_err-first-in-None.ensures.refused)
 
 pub returns-in_err-next-in-Some-clause-refused : goal.returns-in_err-next-in-Some-clause-refused
 returns-in_err-next-in-Some-clause-refused g c =

@@ -1,5 +1,5 @@
 use Rattle.std.proofs.Common.{inl, inr, sym, ap, ◌∙◌}
-use Rattle.pool_core.specs.StateOf.{state_of}
+use Rattle.pool_open.specs.CoreStateOf.{state_of}
 use Rattle.pool_create.specs.FirstGroup.{cause_in}
 use Rattle.pool_create.proofs.FirstGroup.{done_of, tested_of}
 use Rattle.pool_create.proofs.first_group.commit_first.Goals as goal
@@ -15,7 +15,9 @@ returns-then-not-is_done-clause-refused g c =
           let yes = c.is_done.ensures.1 (tested_of c.args.pool.now new replies c.deref.result.now c.in_ok-shapes.shapes.items c.deref-2.result.now c.deref-3.result.now
           c.deref.ensures.value c.deref-2.ensures.value c.deref-3.ensures.value c.in_ok-shapes.ensures done) in
           let fails = c.if-not-is_done.true in cc);
-      cause_is = c.cause_of.ensures ∙ ap cause_in c.deref-then-not-is_done.ensures.value;
+      whole = c.is_whole-whole.result;
+      is_whole = c.is_whole-whole.ensures;
+      cause_is = c.cause_of.ensures ∙ ap (λ them. cause_in them c.is_whole-whole.result) c.deref-then-not-is_done.ensures.value;
     })
 
 pub returns-in-Some-clause-committed : goal.returns-in-Some-clause-committed
@@ -36,5 +38,7 @@ returns-clause-refused g c =
       replies = c.in_ok-replies.replies.items;
       ran = c.in_ok-replies.ensures.ran;
       uncommitted = inr (sym c.last_root.ensures ∙ c.in-None.is);
-      cause_is = c.cause_of-in-None.ensures ∙ ap cause_in c.deref-in-None.ensures.value;
+      whole = c.is_whole-whole.result;
+      is_whole = c.is_whole-whole.ensures;
+      cause_is = c.cause_of-in-None.ensures ∙ ap (λ them. cause_in them c.is_whole-whole.result) c.deref-in-None.ensures.value;
     })

@@ -1,12 +1,8 @@
-use Rattle.std.proofs.Common.{◌≡◌, ◌⊎◌, ◌∙◌, Bool, List, subst, sym}
+use Rattle.std.proofs.Common.{◌∙◌, Bool, List, subst}
 use Rattle.block_store.specs.Opened.{MayBeOpened}
 use Rattle.block_store.specs.declared.shape.VdevShape.{VdevShape}
-use Rattle.pool_open.specs.Causes.{of_store}
 use Rattle.pool_open.specs.Held.{IsStoreOver}
-use Rattle.pool_open.specs.declared.refusal.Refusal.{Refusal}
-use Rattle.pool_open.specs.declared.refusal.Refusal.TheVariants.{NoMemory, BadConfig}
 use Rattle.pool_open.proofs.Stages.{laid_of}
-use Rattle.pool_create.proofs.Causes.{of_store_fits}
 use Rattle.pool_create.proofs.labeling.fitting.Goals as goal
 
 pub returns-in-Ok-clause-may : goal.returns-in-Ok-clause-may
@@ -25,13 +21,3 @@ returns-in-Ok-clause-laid g c =
     let may = subst (λ (o : List Bool). MayBeOpened c.args.disks.starts c.args.pool.now.shapes.items o) c.deref-2.ensures.value
     (subst (λ (s : List VdevShape). MayBeOpened c.args.disks.starts s c.deref-2.result.now) c.deref.ensures.value c.in-Ok.ensures.may) in
     laid_of c.labels_of_opened_lie.ensures c.args.disks c.args.pool.now.shapes.items c.args.pool.now.out.items c.in-Ok.store over may
-
-pub returns-clause-refused : goal.returns-clause-refused
-returns-clause-refused g c =
-    let cause = c.in-Err.refusal in
-    let starts = c.args.disks.starts in
-    let W : List VdevShape → List Bool → Type 0 = λ s o. (of_store cause ≡ NoMemory) ⊎ ((of_store cause ≡ BadConfig) × ¬ MayBeOpened starts s o) in
-    subst (λ (refusal : Refusal). (refusal ≡ NoMemory) ⊎ ((refusal ≡ BadConfig) × ¬ MayBeOpened starts c.args.pool.now.shapes.items c.args.pool.now.out.items)) (sym c.from.ensures)
-    (subst (λ (o : List Bool). W c.args.pool.now.shapes.items o) c.deref-2.ensures.value
-    (subst (λ (s : List VdevShape). W s c.deref-2.result.now) c.deref.ensures.value
-    (of_store_fits cause (¬ MayBeOpened starts c.deref.result.now c.deref-2.result.now) c.in-Err.ensures.refused)))

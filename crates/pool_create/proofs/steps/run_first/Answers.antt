@@ -1,8 +1,13 @@
 use Rattle.std.proofs.Common.{List, subst}
-use Rattle.pool_core.specs.Runs.{Ran}
-use Rattle.pool_core.specs.StateOf.{state_of}
+use Rattle.pool_open.proofs.CommitMade.{GrewTo-none}
+use Rattle.pool_open.specs.CoreRuns.{Ran}
+use Rattle.pool_open.specs.CoreState.{disks_of}
+use Rattle.pool_open.specs.CoreStateOf.{state_of}
 use Rattle.pool_model.specs.declared.step.Reply.{Reply}
 use Rattle.pool_create.proofs.steps.run_first.Goals as goal
+
+pub returns-in_err-steps-clause-grew : goal.returns-in_err-steps-clause-grew
+returns-in_err-steps-clause-grew g c = GrewTo-none (disks_of (state_of c.args.core.now))
 
 pub returns-in-Ok-clause-ran : goal.returns-in-Ok-clause-ran
 returns-in-Ok-clause-ran g c = record {
@@ -10,3 +15,6 @@ returns-in-Ok-clause-ran g c = record {
   are = c.in_ok-steps.ensures;
   ran = subst (λ (xs : List Reply). Ran (state_of c.args.core.now) c.in_ok-steps.steps.items xs (state_of c.run.new.core) c.run.new.replies.items) c.new-replies.ensures.items c.in-Ok.ensures.all;
 }
+
+pub returns-in-Ok-clause-grew : goal.returns-in-Ok-clause-grew
+returns-in-Ok-clause-grew g c = c.in-Ok.ensures.all.2

@@ -1,6 +1,7 @@
 use Rattle.std.proofs.Common.{◌≡◌, List, length, map, inl, refl, sym, ap, subst}
 use Rattle.model_disk.specs.Member.{calls_of, disk_of, start_of}
 use Rattle.pool_members.specs.Arranged.{AreArranged, AreEachOnce, disk_for}
+use Rattle.pool_members.specs.HandedIn.{AreHandedIn}
 use Rattle.pool_members.specs.declared.arranging.Child.{Child}
 use Rattle.pool_open.specs.Finding.{IsArrayOf}
 use Rattle.pool_open.proofs.Once.{layout_once}
@@ -32,19 +33,24 @@ returns-in-Ok-arrange-clause-found g c =
     let P : List Child → Type 0 = λ them. map disk_of c.in-Ok-arrange.field-0.disks.items ≡ map (disk_for after) them in
     let Q : List Child → Type 0 = λ them. AreArranged (map g.D.Disk.start after) (map g.D.Disk.calls after) them (map (start_of g.D.Disk) c.in-Ok-arrange.field-0.disks.items)
     (map (calls_of g.D.Disk) c.in-Ok-arrange.field-0.disks.items) c.in-Ok-arrange.field-0.out.items in
+    let H : List Child → Type 0 = λ them. AreHandedIn after them c.in-Ok-arrange.field-0.handed in
     record {
-      old = c.new-array.result;
-      new = c.lay_out.new.disks;
-      read = record { before = (c.new-array.ensures.starts, c.new-array.ensures.calls); only = c.lay_out.ensures.only };
-      layout = c.in-Ok.layout;
-      laid_out = c.in-Ok.ensures.laid_out;
-      highest_is = refl;
-      taken_is = refl;
-      shapes_are = refl;
-      after = after;
-      array = (sym c.into_disks-2.ensures.starts, λ which. sym (c.into_disks-2.ensures.calls which));
-      members_are = subst P c.deref.ensures.value c.in-Ok-arrange.ensures.disks;
-      arranged = subst Q c.deref.ensures.value c.in-Ok-arrange.ensures.arranged;
+      found = record {
+        old = c.new-array.result;
+        new = c.lay_out.new.disks;
+        read = record { before = (c.new-array.ensures.starts, c.new-array.ensures.calls); only = c.lay_out.ensures.only };
+        layout = c.in-Ok.layout;
+        laid_out = c.in-Ok.ensures.laid_out;
+        highest_is = refl;
+        taken_is = refl;
+        shapes_are = refl;
+        config_is = refl;
+        after = after;
+        array = (sym c.into_disks-2.ensures.starts, λ which. sym (c.into_disks-2.ensures.calls which));
+        members_are = subst P c.deref.ensures.value c.in-Ok-arrange.ensures.disks;
+        arranged = subst Q c.deref.ensures.value c.in-Ok-arrange.ensures.arranged;
+      };
+      handed = subst H c.deref.ensures.value c.in-Ok-arrange.ensures.handed;
     }
 
 pub unreachable-requires : goal.unreachable-requires

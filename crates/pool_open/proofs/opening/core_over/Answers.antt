@@ -6,6 +6,10 @@ use Rattle.pool_core.specs.Represents.{Represents}
 use Rattle.pool_core.specs.StateOf.{state_of}
 use Rattle.pool_model.specs.View.{opened_as}
 use Rattle.pool_open.specs.Held.{IsStoreOver}
+use Rattle.pool_open.specs.Words.{stamp_of}
+use Rattle.pool_core.specs.Slots.{IsStampOf}
+use Rattle.vdev_label.specs.Plain.{config_view}
+use Rattle.vdev_label.specs.declared.label.Config.{Config}
 use Rattle.pool_open.specs.Words.{vdevs_in}
 use Rattle.pool_open.proofs.Stages.{lies_of}
 use Rattle.pool_open.proofs.opening.core_over.Goals as goal
@@ -21,7 +25,7 @@ opened-requires-2-clause-labels g c =
     lies_of c.labels_of_opened_lie.ensures c.args.disks c.args.shapes.now c.args.out.now c.in-Ok.store over c.requires.may
 
 pub returns-in-Ok-opened-clause-represents : goal.returns-in-Ok-opened-clause-represents
-returns-in-Ok-opened-clause-represents g c stored pool hold are spells made =
+returns-in-Ok-opened-clause-represents g c stored pool hold are spells made configured named =
     let over : IsStoreOver c.args.disks c.args.shapes.now c.args.out.now c.in-Ok.store = record {
       disks_are = c.in-Ok.ensures.disks;
       shapes_are = c.in-Ok.ensures.shapes;
@@ -32,7 +36,9 @@ returns-in-Ok-opened-clause-represents g c stored pool hold are spells made =
     subst (λ (s : List VdevShape). S s c.args.out.now) c.in-Ok.ensures.shapes
     (subst (λ (o : List Bool). S (shapes_of c.in-Ok.store.spaces) o) c.in-Ok.ensures.out
     (c.in-Ok-opened.ensures.represents stored pool (hold c.in-Ok.store over) (are c.in-Ok.store.spaces c.in-Ok.ensures.shapes)
-    (spells.0, spells.1 c.in-Ok.store.spaces c.in-Ok.ensures.shapes) made))
+    (spells.0, spells.1 c.in-Ok.store.spaces c.in-Ok.ensures.shapes) made
+    configured
+    (subst (λ (kept : Config). IsStampOf (config_view kept) c.args.claimed.now.claim (stamp_of c.args.claimed.now)) c.in-Ok-opened.ensures.config named)))
 
 pub returns-in-Err-opened-clause-refused : goal.returns-in-Err-opened-clause-refused
 returns-in-Err-opened-clause-refused g c =

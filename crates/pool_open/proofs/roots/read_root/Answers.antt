@@ -1,6 +1,6 @@
 use Rattle.std.proofs.Common.{subst, sym, ◌∙◌}
 use Rattle.model_disk.specs.Joint.{Disks}
-use Rattle.pool_maps.proofs.ReadSets.{sets_stay}
+use Rattle.pool_core.proofs.MapsReadSets.{sets_stay}
 use Rattle.space_map_objects.specs.declared.refusal.Refusal.{Refusal}
 use Rattle.pool_open.specs.Held.{IsStoreOver}
 use Rattle.pool_open.specs.Roots.{IsRootNotRead}

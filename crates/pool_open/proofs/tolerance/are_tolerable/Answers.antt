@@ -1,8 +1,8 @@
 use Rattle.std.proofs.Common.{rules, ◌≡◌, ◌<◌, ◌≤◌, ℕ, true, take, sym, refl, subst}
 use Rattle.std.proofs.lemmas.Option.{slice_get_read}
 use Rattle.block_store.specs.Store.{is_out}
-use Rattle.pool_commit.specs.Config.{shown}
-use Rattle.pool_commit.proofs.Disks.{intolerable_at, suc_is, tolerable_more}
+use Rattle.pool_core.specs.Config.{shown}
+use Rattle.pool_core.proofs.CommitDisks.{intolerable_at, suc_is, tolerable_more}
 use Rattle.pool_model.specs.View.{is_tolerable, lost_in}
 use Rattle.pool_open.specs.Words.{vdevs_in}
 use Rattle.pool_open.proofs.Counting.{vdev_at}

@@ -1,6 +1,6 @@
 use Rattle.std.proofs.Common.{◌≡◌, ◌*◌, ◌-◌, ◌^◌, ◌∙◌, ℕ, min, take, ap, sym, refl, subst}
 use Rattle.std.proofs.lemmas.Option.{slice_get_read}
-use Rattle.pool_commit.proofs.Disks.{suc_is}
+use Rattle.pool_core.proofs.CommitDisks.{suc_is}
 use Rattle.pool_open.specs.Words.{sectors_in}
 use Rattle.pool_open.proofs.Counting.{min_more, sectors_next}
 use Rattle.pool_open.proofs.tolerance.count_sectors.Goals as goal

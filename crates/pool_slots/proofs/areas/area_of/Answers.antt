@@ -1,33 +1,26 @@
-use Rattle.std.proofs.Common.{Err, refl, sym, subst}
+use Rattle.std.proofs.Common.{Result, refl}
 use Rattle.pool_slots.specs.LabelReads.{MakesArea}
-use Rattle.pool_slots.specs.Reads.{OnlyReads, is_fault}
-use Rattle.pool_slots.specs.Slots.{is_disk}
+use Rattle.pool_slots.specs.declared.labeled.Area.{Area}
 use Rattle.pool_slots.specs.declared.refusal.Refusal.{Refusal}
-use Rattle.pool_slots.proofs.LabelAreas.{label_read, label_not_read}
 use Rattle.pool_slots.proofs.LabelPlans.{area_made, area_unmade}
-use Rattle.pool_slots.proofs.ReadRuns.{reads_any}
+use Rattle.pool_slots.proofs.ReadRuns.{reads_any, reads_err}
+use Rattle.pool_slots.proofs.Results.{err_use}
 use Rattle.pool_slots.proofs.areas.area_of.Goals as goal
 
-pub returns-in-Err-clause-only : goal.returns-in-Err-clause-only
-returns-in-Err-clause-only g c =
-    let old = c.args.disks.now in
-    let new = c.read_label.new.disks in
-    let P : Refusal → Type 0 = λ refusal. OnlyReads (is_disk c.args.which) (is_fault refusal) old new in
-    subst P (sym c.label_unread.ensures) (label_not_read old new c.args.which c.args.labeled.now.source c.in-Err.cause c.read_label.ensures.starts c.in-Err.ensures.calls)
+pub returns-in_err-label-clause-only : goal.returns-in_err-label-clause-only
+returns-in_err-label-clause-only g c = reads_err c.from_residual.result c.in_err-label.field-0.0 c.from_residual.ensures.1 c.in_err-label.ensures.only
 
-pub returns-in-Err-clause-area : goal.returns-in-Err-clause-area
-returns-in-Err-clause-area g c =
-    let P : Refusal → Type 0 = λ refusal. MakesArea c.args.labeled.now c.args.uberblock.now c.args.disks.now c.read_label.new.disks c.args.which (Err refusal) in
-    subst P (sym c.label_unread.ensures)
-    (area_unmade c.args.labeled.now c.args.uberblock.now c.args.disks.now c.read_label.new.disks c.args.which c.in-Err.cause c.requires.room c.requires.source c.read_label.ensures.starts c.in-Err.ensures.calls)
+pub returns-in_err-label-clause-area : goal.returns-in_err-label-clause-area
+returns-in_err-label-clause-area g c =
+    let P : Result Area Refusal → Type 0 = MakesArea c.args.labeled.now c.args.donor c.args.uberblock.now c.args.disks.now c.new_label.new.disks c.args.which in
+    let cause = c.in_err-label.field-0.0 in
+    err_use c.from_residual.result cause P c.from_residual.ensures.1
+    (area_unmade c.args.labeled.now c.args.donor c.args.uberblock.now c.args.disks.now c.new_label.new.disks c.args.which cause c.in_err-label.ensures.label)
 
 pub returns-in_err-bytes-clause-only : goal.returns-in_err-bytes-clause-only
-returns-in_err-bytes-clause-only g c = reads_any (label_read c.args.disks.now c.read_label.new.disks c.args.which c.args.labeled.now.source c.in-Ok.label c.read_label.ensures.starts c.in-Ok.ensures.calls)
-
-pub returns-clause-only : goal.returns-clause-only
-returns-clause-only g c = label_read c.args.disks.now c.read_label.new.disks c.args.which c.args.labeled.now.source c.in-Ok.label c.read_label.ensures.starts c.in-Ok.ensures.calls
+returns-in_err-bytes-clause-only g c = reads_any c.in_ok-label.ensures.only
 
 pub returns-clause-area : goal.returns-clause-area
 returns-clause-area g c =
-    area_made c.args.labeled.now c.args.uberblock.now c.args.disks.now c.read_label.new.disks c.args.which c.in-Ok.label (record { first = c.args.labeled.now.first; bytes = c.in_ok-bytes.bytes })
-    c.requires.room c.requires.first c.requires.source c.requires.fits c.read_label.ensures.starts c.in-Ok.ensures.calls refl c.in_ok-bytes.ensures
+    area_made c.args.labeled.now c.args.donor c.args.uberblock.now c.args.disks.now c.new_label.new.disks c.args.which c.in_ok-label.label (record { first = c.args.labeled.now.first; bytes = c.in_ok-bytes.bytes })
+    c.requires.first c.requires.fits c.in_ok-label.ensures.label refl c.in_ok-bytes.ensures

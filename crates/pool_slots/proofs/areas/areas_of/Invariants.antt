@@ -10,5 +10,5 @@ invariant-loop-which g l = record {
   only : OnlyReads (HasLabeled l.labels) nowhere l.fn.disks l.disks;
   count : length l.all.items ≡ l.which;
   made : AreMadeTo l.labels l.uberblock l.all.items;
-  sources : AreHonestSince (length l.fn.disks.calls) l.disks.starts l.disks.calls → AreFromSources l.labels l.uberblock l.fn.disks l.all.items;
+  sources : AreHonestSince (length l.fn.disks.calls) l.disks.starts l.disks.calls → AreFromSources l.labels l.donor l.uberblock l.fn.disks l.all.items;
 }

@@ -1,16 +1,16 @@
-use Rattle.std.proofs.Common.{inr, ◌∙◌, ◌++◌, List, true, false, refl, sym, ap, subst, append_assoc, arith}
+use Rattle.std.proofs.Common.{inr, length, ◌∙◌, ◌++◌, List, true, false, refl, sym, ap, subst, append_assoc, arith}
 use Rattle.model_disk.specs.Joint.{JointCall, content}
 use Rattle.pool_slots.specs.Failures.{IsFailure}
 use Rattle.pool_slots.proofs.Failing.{failure_later, fails_later}
-use Rattle.pool_slots.specs.Labels.{AreClaimed, AreasStand, InAreaTurn, IsAreaWrite, IsClaimWrite}
-use Rattle.pool_slots.specs.Configs.{LeavesConfigured}
+use Rattle.pool_slots.specs.Labels.{AreClaimed, AreSlotted, AreasStand, InAreaTurn, IsAreaWrite, IsClaimWrite}
+use Rattle.pool_slots.specs.Configs.{LeavesConfiguredOn, ShowsConfig}
 use Rattle.pool_slots.specs.Opens.{ClaimGives, ClaimsAt}
 use Rattle.pool_slots.specs.Relabels.{AreFirst, InAllLabels, of_areas}
 use Rattle.pool_slots.specs.Slots.{AreSettled, HaveLabels, InUse}
 use Rattle.pool_slots.specs.Writes.{IsSlotWrite, in_use}
 use Rattle.pool_slots.specs.Commits.{AreOffLabels}
 use Rattle.std.proofs.Common.{ℕ}
-use Rattle.pool_slots.proofs.LabelPhases.{FirstStands, all_claimed, all_stand, are_whole, areas_alone, areas_made, at_later, each_joined, first_claims, first_configured, first_stays, may_later, others_claim, others_configured, slots_alone, slots_claim, slots_configured, slots_made}
+use Rattle.pool_slots.proofs.LabelPhases.{FirstStands, all_claimed, all_stand, are_whole, areas_alone, areas_made, at_later, each_joined, fewer_configured, first_claims, first_configured, first_stays, may_later, others_claim, others_configured, slots_alone, slots_claim, slots_configured, slots_made, slotted_later}
 use Rattle.model_disk.proofs.RunLemmas.{Makes-more}
 use Rattle.pool_slots.proofs.Phases.{MakesOn-more}
 use Rattle.pool_slots.proofs.Reading.{longer}
@@ -166,9 +166,10 @@ returns-in_err-claim_slots-clause-configured g c = λ digest may.
     let there = are_there out old.starts c.requires.out in
     let wrote = c.claim_slots.new.disks in
     let first : FirstStands out old mid u areas = record { starts = c.settle_areas.ensures.makes.makes.starts; stand = c.in_ok-settle_areas.ensures.stand; settled = c.in_ok-settle_areas.ensures.settled } in
-    each_joined (LeavesConfigured out old.starts digest) (IsSlotWrite mid.starts u (in_use out)) old mid wrote c.claim_slots.ensures.makes.makes
+    each_joined (LeavesConfiguredOn (ShowsConfig out old digest) old.starts digest) (IsSlotWrite mid.starts u (in_use out)) old mid wrote c.claim_slots.ensures.makes.makes
     (first_configured out old mid areas digest there c.requires.labels (whole true) c.requires.on may c.settle_areas.ensures.makes.makes)
-    (slots_configured out old mid wrote u areas digest there c.requires.labels c.requires.fits c.requires.on c.requires.areas may first c.claim_slots.ensures.makes.makes)
+    (fewer_configured out old digest (length mid.calls) wrote.calls
+    (slots_configured out old mid wrote u areas digest there c.requires.labels c.requires.fits c.requires.on c.requires.areas may first c.claim_slots.ensures.makes.makes))
 
 pub returns-clause-configured : goal.returns-clause-configured
 returns-clause-configured g c = λ digest may.
@@ -183,11 +184,13 @@ returns-clause-configured g c = λ digest may.
     let first : FirstStands out old mid u areas = record { starts = c.settle_areas.ensures.makes.makes.starts; stand = c.in_ok-settle_areas.ensures.stand; settled = c.in_ok-settle_areas.ensures.settled } in
     let new = c.settle_areas-2.new.disks in
     let second = first_stays out old mid wrote u areas c.requires.labels (omega (arith, c.requires.count)) c.requires.fits first c.claim_slots.ensures.makes.makes c.in_ok-claim_slots.ensures.settled in
-    each_joined (LeavesConfigured out old.starts digest) (IsAreaWrite wrote.starts (InAreaTurn areas false)) old wrote new c.settle_areas-2.ensures.makes.makes
-    (each_joined (LeavesConfigured out old.starts digest) (IsSlotWrite mid.starts u (in_use out)) old mid wrote c.claim_slots.ensures.makes.makes
+    each_joined (LeavesConfiguredOn (ShowsConfig out old digest) old.starts digest) (IsAreaWrite wrote.starts (InAreaTurn areas false)) old wrote new c.settle_areas-2.ensures.makes.makes
+    (each_joined (LeavesConfiguredOn (ShowsConfig out old digest) old.starts digest) (IsSlotWrite mid.starts u (in_use out)) old mid wrote c.claim_slots.ensures.makes.makes
     (first_configured out old mid areas digest there c.requires.labels (whole true) c.requires.on may c.settle_areas.ensures.makes.makes)
-    (slots_configured out old mid wrote u areas digest there c.requires.labels c.requires.fits c.requires.on c.requires.areas may first c.claim_slots.ensures.makes.makes))
-    (others_configured out old wrote new u areas digest there c.requires.labels (whole false) c.requires.on c.requires.areas may second c.settle_areas-2.ensures.makes.makes)
+    (fewer_configured out old digest (length mid.calls) wrote.calls
+    (slots_configured out old mid wrote u areas digest there c.requires.labels c.requires.fits c.requires.on c.requires.areas may first c.claim_slots.ensures.makes.makes)))
+    (fewer_configured out old digest (length wrote.calls) new.calls
+    (others_configured out old wrote new u areas digest there c.requires.labels (whole false) c.requires.on c.requires.areas may second c.settle_areas-2.ensures.makes.makes))
 
 pub returns-clause-claimed : goal.returns-clause-claimed
 returns-clause-claimed g c =
@@ -210,6 +213,20 @@ returns-clause-claimed g c =
     let O : List (List ℕ) → Type 0 = AreOffLabels trees out in
     at_later trees out wrote new (InAreaTurn areas false) u (subst R (sym second.starts) c.requires.labels) (whole false) (subst O (sym second.starts) may.off_labels) c.settle_areas-2.ensures.makes.makes settled
     (c.in_ok-claim_slots.ensures.claimed trees p may').0)
+    c.settle_areas-2.ensures.settled
+
+pub returns-clause-slotted : goal.returns-clause-slotted
+returns-clause-slotted g c =
+    let out = c.args.out.now in
+    let areas = c.args.areas.now in
+    let u = c.args.uberblock.now in
+    let wrote = c.claim_slots.new.disks in
+    let new = c.settle_areas-2.new.disks in
+    let same = c.claim_slots.ensures.makes.makes.starts ∙ c.settle_areas.ensures.makes.makes.starts in
+    let R : List (List ℕ) → Type 0 = HaveLabels in
+    on_ok_use c.settle_areas-2.result (AreSettled out new.calls) (AreSlotted out new u)
+    (λ settled. slotted_later out wrote new (InAreaTurn areas false) u c.requires.fits (subst R (sym same) c.requires.labels) (are_whole u areas c.requires.areas false)
+    c.settle_areas-2.ensures.makes.makes c.in_ok-claim_slots.ensures.slotted)
     c.settle_areas-2.ensures.settled
 
 pub returns-clause-labeled : goal.returns-clause-labeled

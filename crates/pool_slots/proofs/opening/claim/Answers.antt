@@ -1,17 +1,10 @@
 use Rattle.std.proofs.Common.{◌∙◌, List, Option, sym, ap, subst}
 use Rattle.uberblock_ring.specs.declared.uberblock.Uberblock.{Uberblock}
-use Rattle.pool_slots.specs.Labels.{AreasFit, AreasOn, AreClaimed}
-use Rattle.pool_slots.specs.Opens.{AreOn}
+use Rattle.pool_slots.specs.Labels.{AreasFit, AreasOn, AreClaimed, AreSlotted}
 use Rattle.pool_slots.specs.Surveys.{Surveyed}
-use Rattle.pool_slots.specs.declared.found.Found.{Found}
 use Rattle.pool_slots.specs.declared.labeled.Area.{Area}
 use Rattle.pool_slots.proofs.ClaimSteps.{claim_configures, claim_gives, claim_keeps, claim_marks, claim_marks_first, claim_relabels, claim_rewrites}
 use Rattle.pool_slots.proofs.opening.claim.Goals as goal
-
-pub write_claim-requires-clause-used : goal.write_claim-requires-clause-used
-write_claim-requires-clause-used g c =
-    let P : List (Option Found) → Type 0 = AreOn c.args.out.now in
-    subst P (sym (c.deref.ensures.value ∙ ap (λ (s : Surveyed). s.found) c.survey.view_is)) c.requires.whole.found_on
 
 pub write_claim-requires-clause-on : goal.write_claim-requires-clause-on
 write_claim-requires-clause-on g c =
@@ -59,6 +52,11 @@ returns-clause-configured_any_moment g c =
 pub returns-clause-opened : goal.returns-clause-opened
 returns-clause-opened g c =
     claim_gives c.args.out.now c.args.disks.now c.write_claim.new.disks c.args.survey.now c.claimed-claimed.result c.deref.result.now c.requires.whole c.claimed-claimed.ensures (c.deref.ensures.value ∙ ap (λ (s : Surveyed). s.found) c.survey.view_is) c.write_claim.ensures.makes.makes c.in_ok-write_claim.ensures.claimed
+
+pub returns-clause-slotted : goal.returns-clause-slotted
+returns-clause-slotted g c =
+    let P : Uberblock → Type 0 = AreSlotted c.args.out.now c.write_claim.new.disks in
+    subst P c.claimed-claimed.ensures c.in_ok-write_claim.ensures.slotted
 
 pub returns-clause-labeled : goal.returns-clause-labeled
 returns-clause-labeled g c =

@@ -1,6 +1,6 @@
 use Rattle.std.proofs.Common.{inl, inr, sym, subst}
 use Rattle.uberblock_ring.specs.declared.uberblock.Uberblock.{Uberblock}
-use Rattle.pool_slots.specs.Labels.{AreClaimed}
+use Rattle.pool_slots.specs.Labels.{AreClaimed, AreSlotted}
 use Rattle.pool_slots.specs.OpenRefusals.{OpenRefuses}
 use Rattle.pool_slots.specs.Opens.{OpenGives, OpenTakes}
 use Rattle.pool_slots.specs.Relabels.{OpenMarksFirst, OpenRelabels}
@@ -84,6 +84,11 @@ pub returns-clause-taken : goal.returns-clause-taken
 returns-clause-taken g c =
     let P : Uberblock → Type 0 = λ u. OpenTakes c.args.out.now c.args.rewind c.args.disks.now u c.claim.new.disks in
     subst P (sym c.in_ok-claimed.ensures.answer) (opened_from c.args.out.now c.args.rewind c.args.disks.now c.survey.new.disks c.claim.new.disks c.in_ok-found.found c.in_ok-found.ensures.whole.found_on c.in_ok-found.ensures.surveyed c.claim.ensures.makes.makes)
+
+pub returns-clause-slotted : goal.returns-clause-slotted
+returns-clause-slotted g c =
+    let P : Uberblock → Type 0 = λ u. AreSlotted c.args.out.now c.claim.new.disks u in
+    subst P (sym c.in_ok-claimed.ensures.answer) c.in_ok-claimed.ensures.slotted
 
 pub returns-clause-labeled : goal.returns-clause-labeled
 returns-clause-labeled g c =

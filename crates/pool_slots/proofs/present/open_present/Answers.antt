@@ -3,7 +3,7 @@ use Rattle.model_disk.specs.Runs.{no_write}
 use Rattle.uberblock_ring.specs.declared.uberblock.Uberblock.{Uberblock}
 use Rattle.pool_slots.specs.Configs.{OpenConfigures}
 use Rattle.pool_slots.specs.Failures.{HasFailedOn}
-use Rattle.pool_slots.specs.Labels.{AreClaimed, IsClaimWrite}
+use Rattle.pool_slots.specs.Labels.{AreClaimed, AreSlotted, IsClaimWrite}
 use Rattle.pool_slots.specs.OpenRefusals.{OpenRefuses}
 use Rattle.pool_slots.specs.Opens.{OpenGives, OpenKeeps, OpenMarks, OpenTakes}
 use Rattle.pool_slots.specs.Present.{IsClaimFault}
@@ -142,6 +142,12 @@ returns-clause-taken g c =
     let P : List Bool → Type 0 = λ xs. MakesOn (InUse xs) (IsClaimWrite c.survey_present.new.disks.starts xs c.in_ok-found.found.claimed) c.survey_present.new.disks c.claim.new.disks in
     subst U (sym c.in_ok-claimed.ensures.answer)
     (opened_from c.survey_present.new.out.items c.args.rewind c.args.disks.now c.survey_present.new.disks c.claim.new.disks c.in_ok-found.found c.in_ok-found.ensures.whole.found_on c.in_ok-found.ensures.surveyed (subst P c.deref.ensures.value c.claim.ensures.makes).makes)
+
+pub returns-clause-slotted : goal.returns-clause-slotted
+returns-clause-slotted g c =
+    let U : Uberblock → Type 0 = λ u. AreSlotted c.survey_present.new.out.items c.claim.new.disks u in
+    let P : List Bool → Type 0 = λ xs. AreSlotted xs c.claim.new.disks c.in_ok-found.found.claimed in
+    subst U (sym c.in_ok-claimed.ensures.answer) (subst P c.deref.ensures.value c.in_ok-claimed.ensures.slotted)
 
 pub returns-clause-labeled : goal.returns-clause-labeled
 returns-clause-labeled g c =

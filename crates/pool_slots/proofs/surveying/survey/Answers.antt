@@ -6,7 +6,7 @@ use Rattle.pool_slots.specs.Surveys.{SurveyRefuses}
 use Rattle.pool_slots.specs.declared.found.Found.{Found}
 use Rattle.pool_slots.proofs.ReadRuns.{reads_err, reads_failed, reads_made, reads_then}
 use Rattle.pool_slots.proofs.Results.{if_err_is}
-use Rattle.pool_slots.proofs.SurveySteps.{plan_refuses, scan_refuses, surveyed_by, taken_refuses}
+use Rattle.pool_slots.proofs.SurveySteps.{highest_refuses, plan_refuses, scan_refuses, surveyed_by, taken_refuses}
 use Rattle.pool_slots.proofs.surveying.survey.Goals as goal
 
 pub returns-in_err-found-clause-refused : goal.returns-in_err-found-clause-refused
@@ -21,6 +21,14 @@ pub highest_of-requires : goal.highest_of-requires
 highest_of-requires g c =
     let P : List (Option Found) → Type 0 = AreFitting in
     record { fits = subst P (sym c.deref.ensures.value) c.in_ok-found.ensures.finds.2 }
+
+pub returns-in_err-highest-clause-refused : goal.returns-in_err-highest-clause-refused
+returns-in_err-highest-clause-refused g c =
+    let old = c.args.disks.now in
+    let new = c.find_all.new.disks in
+    let cause = c.in_err-highest.field-0.0 in
+    if_err_is c.from_residual-in_err-highest.result cause (SurveyRefuses c.args.out.now c.args.rewind old new) c.from_residual-in_err-highest.ensures.1
+    (highest_refuses c.args.out.now c.args.rewind old new c.in_ok-found.found.items c.deref.result.now cause c.in_ok-found.ensures.finds.3 c.deref.ensures.value c.in_err-highest.ensures.finds)
 
 pub returns-in_err-taken-clause-only : goal.returns-in_err-taken-clause-only
 returns-in_err-taken-clause-only g c =

@@ -18,11 +18,14 @@ returns g c =
       out = found.out.items;
       ordered = record {
         members = found.disks.items;
+        config = found.config.value;
         highest = found.highest;
         taken = found.taken;
-        found = c.in-Ok.ensures.found;
+        found = c.in-Ok.ensures.found.found;
         starts = c.new.ensures.starts;
         calls = c.new.ensures.calls;
+        places = found.handed;
+        handed = c.in-Ok.ensures.found.handed;
       };
       new = ends.0;
       fails = ends.1;

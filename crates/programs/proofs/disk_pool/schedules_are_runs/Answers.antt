@@ -1,4 +1,4 @@
-use Rattle.pool_core.specs.StateOf.{state_of}
+use Rattle.pool_create.specs.CoreStateOf.{state_of}
 use Rattle.programs.proofs.Chains.{plays_run}
 use Rattle.programs.proofs.disk_pool.schedules_are_runs.Goals as goal
 

@@ -1,5 +1,5 @@
 use Rattle.std.proofs.Common.{inr}
-use Rattle.pool_core.specs.StateOf.{state_of}
+use Rattle.pool_create.specs.CoreStateOf.{state_of}
 use Rattle.programs.proofs.MadeOn.{is_made}
 use Rattle.programs.proofs.making.made.Goals as goal
 
@@ -10,8 +10,8 @@ returns-in-Ok-create-clause-made c =
     (record { count = disks.count; sizes = disks.sizes; zeros = disks.zeros; fresh = disks.fresh }) c.in-Ok.ensures c.in-Ok-create.ensures.created
     (λ old. c.answers_are_true.ensures old)
 
-pub returns-in-Err-clause-refused : goal.returns-in-Err-clause-refused
-returns-in-Err-clause-refused c =
+pub returns-clause-refused : goal.returns-clause-refused
+returns-clause-refused c =
     let disks = c.in-Ok-several.ensures in
     inr (record {
       disks = c.in-Ok-several.disks.items;
@@ -20,6 +20,7 @@ returns-in-Err-clause-refused c =
       config = c.in-Ok.config;
       asked = c.in-Ok.ensures;
       refusal = c.in-Err.refusal;
+      back = c.in-Err.field-0-1.items;
       refused = c.in-Err.ensures.refused;
       same = c.cause_of.ensures;
     })

@@ -1,4 +1,4 @@
-use Rattle.pool_core.specs.StateOf.{state_of}
+use Rattle.pool_create.specs.CoreStateOf.{state_of}
 use Rattle.pool_create.specs.Creating.{IsCreated}
 use Rattle.tests_stops.specs.Lives.{RunsAtFirst}
 use Rattle.tests_stops.proofs.Opened.{if_ok}

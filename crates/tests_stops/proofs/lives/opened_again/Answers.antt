@@ -1,9 +1,9 @@
 use Rattle.std.proofs.Common.{List}
 use Rattle.model_disk.specs.declared.disk.Disk as disk
 use Rattle.pool_stops.specs.Found.{FoundDisksMayBeOpened}
-use Rattle.pool_open.specs.declared.handed_in.NotOpened.{NotOpened}
-use Rattle.pool_open.specs.declared.handed_in.NotOpened.TheVariants.{NotFound, Refused}
-use Rattle.pool_open.specs.Opens.{OpenRefuses}
+use Rattle.pool_create.specs.NotOpened.{NotOpened}
+use Rattle.pool_create.specs.NotOpened.TheVariants.{NotFound, Refused}
+use Rattle.pool_create.specs.Opens.{OpenRefuses}
 use Rattle.tests_stops.specs.Lives.{FitsFound, IsRefusedAgain}
 use Rattle.tests_stops.proofs.Opened.{if_err}
 use Rattle.tests_stops.proofs.lives.opened_again.Goals as goal

@@ -1,6 +1,6 @@
 use Rattle.std.proofs.Common.{◌∙◌, sym}
-use Rattle.pool_core.specs.StateOf.{state_of}
-use Rattle.pool_open.specs.Retried.{IsNotOpenedAtLast, IsOpenedAtLast}
+use Rattle.pool_create.specs.CoreStateOf.{state_of}
+use Rattle.pool_create.specs.Retried.{IsNotOpenedAtLast, IsOpenedAtLast}
 use Rattle.tests_stops.specs.Lives.{IsRefusedWell, OpensWell}
 use Rattle.tests_stops.proofs.Opened.{if_err, if_ok}
 use Rattle.tests_stops.proofs.lives.reopened.Goals as goal
@@ -11,9 +11,9 @@ returns-clause-opened c =
     let out = c.args.out.items in
     if_ok c.open_over.result (λ pool. IsOpenedAtLast c.args.disks shapes out 0 pool.uberblock (state_of pool.core))
     (λ pool. OpensWell c.args.disks shapes out pool.uberblock (state_of pool.core))
-    (λ pool is p pools led same none sound.
+    (λ pool is p pools led same none named sound.
     let once = c.unfailing_opens_claim_once.ensures.opened c.args.disks shapes out 0 pool.uberblock (state_of pool.core) is (sym is.last.outs ∙ same) in
-    c.led_disks_open.ensures c.args.disks shapes out 0 p pools pool.uberblock (state_of pool.core) led once.0 once.1 none sound.few sound.honest)
+    c.led_disks_open.ensures c.args.disks shapes out 0 p pools pool.uberblock (state_of pool.core) led once.0 once.1 none sound.few named sound.honest)
     c.open_over.ensures.opened
 
 pub returns-clause-refused : goal.returns-clause-refused

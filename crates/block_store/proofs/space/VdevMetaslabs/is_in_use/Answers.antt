@@ -1,7 +1,7 @@
 use Rattle.std.proofs.Common.{◌≡◌, ◌<◌, length, sym, ap, subst, ◌∙◌}
 use Rattle.std.specs.Prelude.{◌↔◌, IsTrue}
 use Rattle.space_map.specs.declared.entry.Run.{Run}
-use Rattle.metaslab_group.specs.Spaces.{IsInUseIn}
+use Rattle.metaslab.specs.Spaces.{IsInUseIn}
 use Rattle.block_store.specs.declared.shape.VdevShape.{VdevShape}
 use Rattle.block_store.specs.Places.{run_at, EachSector}
 use Rattle.block_store.specs.Shapes.{metaslab_of, IsPlace}

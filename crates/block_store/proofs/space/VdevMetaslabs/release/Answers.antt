@@ -3,7 +3,7 @@ use Rattle.std.specs.Prelude.{OnOk}
 use Rattle.std.proofs.lemmas.Result.{on_err_weaker}
 use Rattle.space_map.specs.declared.entry.Run.{Run}
 use Rattle.metaslab.specs.State.{InUse, Released}
-use Rattle.metaslab_group.specs.Spaces.{GroupSpaces, ChangesIn, IsInUseIn}
+use Rattle.metaslab.specs.Spaces.{GroupSpaces, ChangesIn, IsInUseIn}
 use Rattle.block_store.specs.declared.shape.VdevShape.{VdevShape}
 use Rattle.block_store.specs.Places.{run_at, EachSector}
 use Rattle.block_store.specs.Shapes.{metaslab_of, IsPlace}

@@ -1,6 +1,6 @@
 use Rattle.std.proofs.Common.{List, sym, subst}
 use Rattle.metaslab.specs.Space.{Space}
-use Rattle.metaslab_group.specs.Spaces.{AreSettledInPart}
+use Rattle.metaslab.specs.Spaces.{AreSettledInPart}
 use Rattle.block_store.specs.Spaces.{VdevSpace, AreMetaslabsOf}
 use Rattle.block_store.proofs.Slots.{still_settled, settled_in_part}
 use Rattle.block_store.proofs.space.VdevMetaslabs.settle.Goals as goal

@@ -2,7 +2,7 @@ use Rattle.std.proofs.Common.{◌≡◌, ◌<◌, ◌≤◌, ◌+◌, ◌*◌, �
 use Rattle.block_pointer.specs.declared.dva.Dva.{Dva}
 use Rattle.raidz_map.specs.Layout.{asize}
 use Rattle.metaslab.specs.State.{Free, InUse}
-use Rattle.metaslab_group.specs.Spaces.{GroupSpaces, ChangesIn}
+use Rattle.metaslab.specs.Spaces.{GroupSpaces, ChangesIn}
 use Rattle.block_store.specs.declared.shape.VdevShape.{VdevShape}
 use Rattle.block_store.specs.Spaces.{VdevSpace, AreMetaslabsOf}
 use Rattle.block_store.specs.Places.{run_at}

@@ -1,6 +1,6 @@
 use Rattle.std.proofs.Common.{IfOk, subst}
 use Rattle.std.specs.Prelude.{◌↔◌, IsTrue}
-use Rattle.metaslab_group.specs.Spaces.{GroupSpaces, IsFreeIn}
+use Rattle.metaslab.specs.Spaces.{GroupSpaces, IsFreeIn}
 use Rattle.block_store.specs.declared.shape.VdevShape.{VdevShape}
 use Rattle.block_store.specs.Places.{run_at, EachSector, IsFree}
 use Rattle.block_store.specs.Shapes.{metaslab_of, IsPlace}

@@ -3,7 +3,7 @@ use Rattle.std.specs.Prelude.{slice_set, IsTrue}
 use Rattle.std.specs.Bool.{OnTrue}
 use Rattle.std.specs.List.{slice_get}
 use Rattle.std.proofs.lemmas.Option.{slice_get_within}
-use Rattle.metaslab_group.specs.Maps.{AreWhollyFreeOf}
+use Rattle.metaslab.specs.Maps.{AreWhollyFreeOf}
 use Rattle.block_store.specs.Maps.{HasMetaslab, HoldsIn, LoadsIn}
 use Rattle.block_store.specs.Spaces.{VdevSpace}
 use Rattle.block_store.specs.Store.{Store}

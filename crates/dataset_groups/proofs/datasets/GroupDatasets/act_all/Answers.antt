@@ -2,7 +2,7 @@ use Rattle.std.proofs.Common.{◌≡◌, ◌≤◌, [], List, inr, refl, sym, su
 use Rattle.std.specs.Prelude.{fold, take}
 use Rattle.std.proofs.lemmas.List.{take_all}
 use Rattle.block_store.proofs.Steps.{steps_none, steps_on, true_after, true_before}
-use Rattle.dataset_chains.proofs.Chained.{objects_on, one_set_on}
+use Rattle.dataset_destroys.proofs.ChainChained.{objects_on, one_set_on}
 use Rattle.dnode_tree.proofs.Refusing.{passed_on}
 use Rattle.pool_model.specs.declared.item.Action.{Action}
 use Rattle.pool_model.specs.Pools.{PlainPool, changed}

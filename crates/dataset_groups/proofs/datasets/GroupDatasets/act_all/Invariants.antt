@@ -4,8 +4,8 @@ use Rattle.block_pointer.specs.declared.block.Block.{Block}
 use Rattle.block_store.specs.Blocks.{Contents, Extends}
 use Rattle.block_store.specs.Plans.{Plans}
 use Rattle.block_store.specs.Steps.{OnlyReadsAndPlans, AnswersAreTrue}
-use Rattle.dataset_chains.specs.Chains.{Reading}
-use Rattle.dataset_changes.specs.States.{AreOfOneSet, birth_of, set_of}
+use Rattle.dataset_destroys.specs.Chains.{Reading}
+use Rattle.dataset_destroys.specs.States.{AreOfOneSet, birth_of, set_of}
 use Rattle.dead_list.specs.Datasets.{Pool}
 use Rattle.objset.specs.Objects.{AreObjects, Object}
 use Rattle.pool_model.specs.Pools.{PlainPool, changed}

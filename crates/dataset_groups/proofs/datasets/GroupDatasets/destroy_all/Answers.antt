@@ -2,7 +2,7 @@ use Rattle.std.proofs.Common.{◌≡◌, ◌↔◌, [], ◌∷◌, ◌++◌, ◌
 use Rattle.std.specs.Prelude.{IsTrue, take}
 use Rattle.std.proofs.lemmas.List.{take_all}
 use Rattle.block_store.proofs.Steps.{reads_none, reads_on, true_after, true_before}
-use Rattle.dataset_chains.proofs.Chained.{objects_on, one_set_on}
+use Rattle.dataset_destroys.proofs.ChainChained.{objects_on, one_set_on}
 use Rattle.dnode_tree.proofs.Refusing.{passed_on}
 use Rattle.pool_model.specs.Pools.{MayBeDestroyed, PlainPool, all_destroyed}
 use Rattle.dataset_groups.specs.Destroys.{AreDestroyed, DestroysAll}

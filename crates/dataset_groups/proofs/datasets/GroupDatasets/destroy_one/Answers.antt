@@ -1,7 +1,7 @@
 use Rattle.std.proofs.Common.{◌≡◌, [], inr, refl, sym, subst}
 use Rattle.block_store.proofs.Steps.{reads_none}
-use Rattle.dataset_chains.specs.Chains.{SpellsChains}
-use Rattle.dataset_changes.specs.declared.changes.DatasetChanges.{DatasetChanges}
+use Rattle.dataset_destroys.specs.Chains.{SpellsChains}
+use Rattle.dataset_destroys.specs.DatasetChanges.{DatasetChanges}
 use Rattle.dataset_destroys.specs.Touched.{IsDestroyTouched, TouchesOwnLists}
 use Rattle.dnode_tree.proofs.Refusing.{passed_on}
 use Rattle.meta_objset.specs.declared.directory.DirectoryRow.{DirectoryRow}

@@ -3,7 +3,7 @@ use Rattle.std.proofs.lemmas.List.{append-nil}
 use Rattle.std.proofs.lemmas.List.Elements.{All-head, All-tail}
 use Rattle.block_pointer.specs.declared.block.Block.{Block}
 use Rattle.block_store.proofs.Steps.{steps_none, steps_on, true_after, true_before}
-use Rattle.dataset_chains.proofs.Chained.{objects_on, one_set_on}
+use Rattle.dataset_destroys.proofs.ChainChained.{objects_on, one_set_on}
 use Rattle.dead_list.specs.Datasets.{updated}
 use Rattle.dnode_tree.proofs.Refusing.{passed_on}
 use Rattle.txg_pipeline.proofs.Running.{drops_nothing}
@@ -12,8 +12,8 @@ use Rattle.dataset_groups.specs.Demands.{HasHeadDemands, HavePlacesFor}
 use Rattle.dataset_groups.specs.Heads.{IsHeadRefused, reading_with}
 use Rattle.block_store.specs.Store.{Store}
 use Rattle.block_store.specs.declared.refusal.Refusal.{Refusal}
-use Rattle.dataset_changes.specs.States.{AreOfOneSet}
-use Rattle.dataset_changes.specs.declared.changes.DatasetChanges.{DatasetChanges}
+use Rattle.dataset_destroys.specs.States.{AreOfOneSet}
+use Rattle.dataset_destroys.specs.DatasetChanges.{DatasetChanges}
 use Rattle.dataset_groups.specs.Touched.{TouchesHeads}
 use Rattle.dataset_groups.specs.Writing.{FitsHead, numbers_of}
 use Rattle.dataset_groups.proofs.Asking.{no_places, places_more, volume_demands_in}

@@ -3,11 +3,11 @@ use Rattle.std.specs.Prelude.{Any}
 use Rattle.std.proofs.lemmas.List.{take_all}
 use Rattle.block_store.specs.declared.refusal.Refusal.{Refusal}
 use Rattle.block_store.specs.declared.refusal.Refusal.TheVariants.{BadPointer, DiskFault}
-use Rattle.dnode_slots.specs.declared.writes.NodeWrite.{NodeWrite}
+use Rattle.objset.specs.declared.node_writes.NodeWrite.{NodeWrite}
 use Rattle.dnode_tree.proofs.Refusing.{passed_on}
 use Rattle.block_store.proofs.Steps.{steps_on}
 use Rattle.dnode_tree.specs.Writes.{IsForRoom}
-use Rattle.dnode_slots.specs.Writes.{numbers_of}
+use Rattle.objset.specs.NodeWrites.{numbers_of}
 use Rattle.objset.specs.declared.changes.ObjectChange.{ObjectChange}
 use Rattle.objset.specs.Changes.{MayChange}
 use Rattle.objset.specs.Objects.{Object}

@@ -82,7 +82,7 @@ returns-in-Err-clause-goes g c v backs low =
     (failed_tail store mid (flushes_left phases.BlocksFlush plan.behind.flushes.items) tail phases.BlocksFlush c.in-Err.failed.disk
     (c.in-Err.ensures.failed phases.BlocksFlush (λ disk number. refl)).0))
     (none_due (AreFrom phases.BlocksFlush) counts slot_counts store plan.behind c.requires.written (behind_from slot_counts plan.behind)) (λ enough. refl)
-    c.drop_plan.ensures.store c.drop_plan.ensures.kept (c.drop_plan.ensures.planned ∙ c.requires.none))
+    c.drop_plan.ensures.store c.drop_plan.ensures.kept (c.drop_plan.ensures.planned ∙ c.requires.none) c.drop_plan.ensures.stamp)
 
 pub invariant_of-self-in-Err : goal.invariant_of-self-in-Err
 invariant_of-self-in-Err g c =

@@ -1,6 +1,7 @@
-use Rattle.std.proofs.Common.{List, ap, arith, subst, sym, ◌∙◌}
+use Rattle.std.proofs.Common.{◌≡◌, List, refl, ap, arith, subst, sym, ◌∙◌}
 use Rattle.pool_model.specs.Pools.{no_volumes}
-use Rattle.vdev_label.specs.Plain.{PlainVdev}
+use Rattle.vdev_label.specs.Plain.{PlainVdev, config_view}
+use Rattle.vdev_label.specs.declared.label.Config.{Config}
 use Rattle.volume_rules.specs.Index.{Knows}
 use Rattle.pool_commit.specs.declared.kept.KeptGroup.{KeptGroup}
 use Rattle.pool_commit.specs.Slots.{IsStampOf}
@@ -17,7 +18,15 @@ returns-clause-backs g c =
       names = subst (λ (kept : KeptGroup). Knows kept.names.value no_volumes) (sym c.new-3.ensures.last) c.in_ok-no_names.ensures;
       before = c.new-3.ensures.before;
       earliest = c.new-3.ensures.earliest;
-    })
+    }) stamped
+  where
+    last_config : (c.new-3.result).last.config.value ≡ c.in_ok-config.config
+    last_config = ap (λ (kept : KeptGroup). kept.config.value) c.new-3.ensures.last ∙ c.in_ok-shared.ensures.value
+
+    stamped : IsStampOf (config_view (c.new-3.result).last.config.value) (c.in_ok-stamp.stamp).claim c.in_ok-stamp.stamp
+    stamped =
+        subst (λ (config : Config). IsStampOf (config_view config) (c.in_ok-stamp.stamp).claim c.in_ok-stamp.stamp) (sym last_config)
+        (record { claim_is = refl; guids = c.in_ok-stamp.ensures.guids; digest = c.in_ok-stamp.ensures.digest })
 
 pub returns-clause-stamp : goal.returns-clause-stamp
 returns-clause-stamp g c = subst (λ (vdevs : List PlainVdev). IsStampOf vdevs 1 c.in_ok-stamp.stamp) c.in_ok-config.ensures.is c.in_ok-stamp.ensures

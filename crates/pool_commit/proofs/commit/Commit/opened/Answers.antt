@@ -4,7 +4,7 @@ use Rattle.block_store.specs.Opened.{CannotTakeIn}
 use Rattle.block_store.specs.Releases.{copies_of_all}
 use Rattle.block_store.specs.Store.{Store}
 use Rattle.model_disk.specs.Joint.{Disks}
-use Rattle.pool_maps.proofs.Opened.{empty_is_free}
+use Rattle.dataset_snapshots.proofs.MapsOpened.{empty_is_free}
 use Rattle.pool_commit.specs.Causes.{of_store}
 use Rattle.pool_commit.proofs.Labels.{labels_still}
 use Rattle.pool_commit.proofs.Reopened.{AreTaken, backs_opened}
@@ -35,7 +35,7 @@ returns-in-Ok-group_of-clause-backs g c stored pool =
     let of_blocks : AreTaken c.args.store c.load_maps.new.store c.take_in.new.self c.args.contents.maps.items c.args.contents.blocks.items =
     subst (λ (blocks : List Block). AreTaken c.args.store c.load_maps.new.store c.take_in.new.self c.args.contents.maps.items blocks) c.deref.ensures.value of_slice in
     backs_opened c.found_in_use_are_stored.ensures c.args.store c.load_maps.new.store c.take_in.new.self c.args.stamp c.args.group c.args.root c.args.contents
-    c.in-Ok-group_of.last _ of_blocks c.in-Ok-group_of.ensures c.of_group.ensures c.requires.plans c.requires.empty stored pool
+    c.in-Ok-group_of.last _ of_blocks c.args.config.value c.in-Ok-group_of.ensures c.of_group.ensures c.requires.plans c.requires.empty stored pool
 
 pub returns-then-not-load_maps-clause-refused : goal.returns-then-not-load_maps-clause-refused
 returns-then-not-load_maps-clause-refused g c =

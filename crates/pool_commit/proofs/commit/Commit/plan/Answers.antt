@@ -1,4 +1,4 @@
-use Rattle.std.proofs.Common.{ℕ, suc, ◌≡◌, ◌≤◌, ⊎_elim, inl, inr, ◌-◌, ◌++◌, List, [], length, Some, None, refl, sym, ap, ◌∙◌, subst, arith}
+use Rattle.std.proofs.Common.{ℕ, suc, ◌≡◌, ◌≤◌, ⊎_elim, inl, inr, ◌-◌, ◌++◌, List, [], length, Option, Some, None, refl, sym, ap, ◌∙◌, subst, arith}
 use Rattle.block_pointer.specs.declared.block.Block.{Block}
 use Rattle.model_disk.specs.Joint.{Disks}
 use Rattle.raidz_io.specs.Reads.{AreUntouched, IsHonestSince}
@@ -6,12 +6,14 @@ use Rattle.block_store.specs.declared.refusal.Refusal.{Refusal as StoreRefusal}
 use Rattle.block_store.specs.Store.{outs}
 use Rattle.pool_model.specs.View.{Unplanned}
 use Rattle.volume_rules.specs.Effects.{GroupTakesEffect}
+use Rattle.uberblock_ring.specs.declared.uberblock.Uberblock.{Uberblock}
 use Rattle.pool_commit.specs.declared.kept.KeptGroup.{KeptGroup}
 use Rattle.pool_commit.specs.declared.kept.Planned.{Planned}
 use Rattle.pool_commit.specs.Backs.{BeginsWithMaps, SpellsGroup}
 use Rattle.pool_commit.proofs.PlanMaps.{begins_with_maps}
 use Rattle.pool_commit.specs.Reading.{IsFaultIn}
 use Rattle.pool_commit.specs.Room.{IsNextRefused, IsPlanRefused}
+use Rattle.vdev_label.specs.Plain.{config_view}
 use Rattle.pool_commit.specs.Space.{GivesBack}
 use Rattle.pool_commit.specs.State.{State}
 use Rattle.pool_commit.specs.StateOf.{state_of}
@@ -151,6 +153,7 @@ returns-else-is_err-clause-planned g c = λ v backs none few items effects hones
     (was_ok c.give_back.result _ (sym c.is_err.ensures.value ∙ c.if-is_err.false) c.give_back.ensures.whole)
     (subst (λ gone. AreGivenBack c.group_after.new.store c.give_back.new.store gone c.saturating_add-group.result) c.deref.ensures.value
     (was_ok c.give_back.result _ (sym c.is_err.ensures.value ∙ c.if-is_err.false) c.give_back.ensures.released))
+    c.in-Ok.ensures.config
 
 pub returns-in-Err-clause-unplanned : goal.returns-in-Err-clause-unplanned
 returns-in-Err-clause-unplanned g c = λ v backs none.
@@ -181,7 +184,7 @@ refused g c = record {
       c.in_ok-begin_plan.ensures.settled c.begin_plan.ensures.free;
   group = c.saturating_add-group.result;
   is_next = λ few. let same = c.committed.ensures in omega arith;
-  why = subst (λ (kept : KeptGroup). IsNextRefused c.begin_plan.new.self c.group_after.new.store kept.root kept.directory.value c.saturating_add-group.result c.args.items.now c.in-Err.refusal)
+  why = subst (λ (kept : KeptGroup). IsNextRefused c.begin_plan.new.self c.group_after.new.store kept.root kept.directory.value (config_view kept.config.value) c.saturating_add-group.result c.args.items.now c.in-Err.refusal)
       c.last-last.ensures c.in-Err.ensures.refused;
 }
 
@@ -311,3 +314,33 @@ returns-in-Err-clause-from g c =
     let none = c.requires.unplanned in
     let begun = from_begun s c.begin_plan.new.self c.saturating_add-group.result none c.begin_plan.ensures.out c.begin_plan.ensures.shapes c.begin_plan.ensures.some in
     stepped s c.begin_plan.new.self c.group_after.new.store c.saturating_add-group.result none begun c.in-Err.ensures.steps
+
+-- ---- the timestamp of the plan
+
+untimed : (timestamp : ℕ) (o : Option Planned) → o ≡ None → (plan : Planned) → o ≡ Some plan → plan.uberblock.timestamp ≡ timestamp
+untimed timestamp None none plan is = absurd (cc)
+untimed timestamp (Some there) none plan is = absurd (cc)
+
+pub returns-then-group-gt-LAST_COUNT-clause-timed : goal.returns-then-group-gt-LAST_COUNT-clause-timed
+returns-then-group-gt-LAST_COUNT-clause-timed g c = untimed c.args.timestamp c.args.self.now.planned c.requires.unplanned
+
+pub returns-in_err-begin_plan-clause-timed : goal.returns-in_err-begin_plan-clause-timed
+returns-in_err-begin_plan-clause-timed g c = untimed c.args.timestamp c.args.self.now.planned c.requires.unplanned
+
+pub returns-in_err-behind-clause-timed : goal.returns-in_err-behind-clause-timed
+returns-in_err-behind-clause-timed g c = untimed c.args.timestamp c.args.self.now.planned c.requires.unplanned
+
+pub returns-then-not-makes_good_volumes-clause-timed : goal.returns-then-not-makes_good_volumes-clause-timed
+returns-then-not-makes_good_volumes-clause-timed g c = untimed c.args.timestamp c.args.self.now.planned c.requires.unplanned
+
+pub returns-then-is_err-clause-timed : goal.returns-then-is_err-clause-timed
+returns-then-is_err-clause-timed g c = untimed c.args.timestamp c.args.self.now.planned c.requires.unplanned
+
+pub returns-in-Err-clause-timed : goal.returns-in-Err-clause-timed
+returns-in-Err-clause-timed g c = untimed c.args.timestamp c.args.self.now.planned c.requires.unplanned
+
+pub returns-else-is_err-clause-timed : goal.returns-else-is_err-clause-timed
+returns-else-is_err-clause-timed g c plan is =
+    let planned : Planned = record { after = c.in-Ok.next.after; uberblock = c.uberblock-uberblock.result; behind = c.in_ok-behind.behind } in
+    let one : planned ≡ plan = cc in
+    subst (λ (p : Planned). p.uberblock.timestamp ≡ c.args.timestamp) one (ap (λ (u : Uberblock). u.timestamp) c.uberblock-uberblock.ensures.is)

@@ -9,7 +9,7 @@ use Rattle.pool_commit.specs.Backs.{SpellsGroup}
 use Rattle.block_store.specs.Places.{shapes_of}
 use Rattle.block_store.specs.Store.{Store}
 use Rattle.pool_commit.specs.HasDisks.{HasDisks}
-use Rattle.pool_commit.specs.Reading.{IsUnreadOf}
+use Rattle.pool_commit.specs.Reading.{IsUnreadAt, IsUnreadOf}
 use Rattle.pool_commit.specs.State.{group_at}
 use Rattle.pool_commit.specs.StateOf.{state_of}
 use Rattle.pool_commit.proofs.Backing.{last_at, last_spelled, only_reads}
@@ -67,3 +67,15 @@ returns-clause-refused g c = IfErr-weaker c.read_of.result _ _ (λ refusal known
     (subst (λ (kept : KeptGroup). SpellsGroup backs.blocks.stored c.committed-committed.result kept (v.pools v.committed)) (sym c.last-last.ensures)
     (subst (λ (group : ℕ). SpellsGroup backs.blocks.stored group c.args.self.now.kept.last (v.pools v.committed)) (sym group)
     (last_spelled (state_of c.args.self.now) v backs))))) c.read_of.ensures.refused
+
+pub returns-clause-unread : goal.returns-clause-unread
+returns-clause-unread g c = IfErr-weaker c.read_of.result _ _ (λ refusal known fault.
+    let after = record (state_of c.args.self.now) { store = c.read_of.new.store } in
+    subst (λ (name : Option (List ℕ)). IsUnreadAt (state_of c.args.self.now) after c.args.self.now.kept.committed name c.args.offset c.args.len refusal) (sym (ap option_copied c.in-Some.is))
+    (record {
+      under = c.args.self.now.kept.last;
+      kept = last_at c.args.self.now.kept;
+      unread = subst (λ (group : ℕ). IsUnreadOf c.args.self.now.store c.read_of.new.store c.args.self.now.kept.last group c.in-Some.name.now c.args.offset c.args.len [] refusal) c.committed-committed.ensures
+          (subst (λ (kept : KeptGroup). IsUnreadOf c.args.self.now.store c.read_of.new.store kept c.committed-committed.result c.in-Some.name.now c.args.offset c.args.len [] refusal)
+          c.last-last.ensures (known fault));
+    })) c.read_of.ensures.unread

@@ -54,7 +54,7 @@ returns-in-Err-clause-goes g c v backs low =
     (failed_tail c.args.self.now.store c.make_writes.new.store (writes_left counts c.args.self.now.store.due) (behind_left slot_counts c.args.planned.behind) phases.Blocks c.in-Err.failed.disk
     (c.in-Err.ensures.failed counts))
     (all_from_first (left_calls counts slot_counts c.args.self.now.store.due c.args.planned.behind)) (λ enough. refl)
-    c.drop_plan.ensures.store c.drop_plan.ensures.kept (c.drop_plan.ensures.planned ∙ c.requires.none))
+    c.drop_plan.ensures.store c.drop_plan.ensures.kept (c.drop_plan.ensures.planned ∙ c.requires.none) c.drop_plan.ensures.stamp)
 
 pub invariant_of-self-in-Err : goal.invariant_of-self-in-Err
 invariant_of-self-in-Err g c =

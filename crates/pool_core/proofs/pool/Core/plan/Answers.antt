@@ -69,7 +69,7 @@ pub plan-requires : goal.plan-requires
 plan-requires g c = record { unplanned = not_some c.args.self.now.commit.planned (sym c.is_planned.ensures.planned ∙ c.if-is_planned.false) }
 
 pub returns-in-Ok-plan-clause-moves : goal.returns-in-Ok-plan-clause-moves
-returns-in-Ok-plan-clause-moves g c = inr (record { unplanned = not_some c.args.self.now.commit.planned (sym c.is_planned.ensures.planned ∙ c.if-is_planned.false); reads = c.in-Ok-plan.ensures.reads; from = c.in-Ok-plan.ensures.from })
+returns-in-Ok-plan-clause-moves g c = inr (record { unplanned = not_some c.args.self.now.commit.planned (sym c.is_planned.ensures.planned ∙ c.if-is_planned.false); reads = c.in-Ok-plan.ensures.reads; from = c.in-Ok-plan.ensures.from; timed = c.in-Ok-plan.ensures.timed })
 
 pub returns-in-Err-plan-clause-moves : goal.returns-in-Err-plan-clause-moves
-returns-in-Err-plan-clause-moves g c = inr (record { unplanned = not_some c.args.self.now.commit.planned (sym c.is_planned.ensures.planned ∙ c.if-is_planned.false); reads = c.in-Err-plan.ensures.reads; from = c.in-Err-plan.ensures.from })
+returns-in-Err-plan-clause-moves g c = inr (record { unplanned = not_some c.args.self.now.commit.planned (sym c.is_planned.ensures.planned ∙ c.if-is_planned.false); reads = c.in-Err-plan.ensures.reads; from = c.in-Err-plan.ensures.from; timed = c.in-Err-plan.ensures.timed })

@@ -1,5 +1,5 @@
 use Rattle.std.proofs.Common.{true, refl}
-use Rattle.pool_core.specs.StateOf.{state_of}
+use Rattle.pool_create.specs.CoreStateOf.{state_of}
 use Rattle.programs.proofs.making.CoreMemberMemDiskStepMachine.step.Goals as goal
 
 pub returns : goal.returns

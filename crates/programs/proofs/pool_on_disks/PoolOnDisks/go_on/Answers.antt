@@ -1,6 +1,6 @@
 use Rattle.std.proofs.Common.{inl, inr, refl, sym, ◌∙◌}
 use Rattle.std.proofs.lemmas.Result.{IfOk-weaker}
-use Rattle.pool_core.specs.StateOf.{state_of as core_state}
+use Rattle.pool_create.specs.CoreStateOf.{state_of as core_state}
 use Rattle.programs.specs.OnDisks.{GoesOn, KeepsClaim, state_of}
 use Rattle.programs.proofs.pool_on_disks.PoolOnDisks.go_on.Goals as goal
 

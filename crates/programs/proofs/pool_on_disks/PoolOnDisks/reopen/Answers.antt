@@ -1,6 +1,6 @@
 use Rattle.std.proofs.Common.{◌⊎◌, option_map, inl, subst}
 use Rattle.std.proofs.lemmas.Result.{IfOk-weaker}
-use Rattle.pool_core.specs.StateOf.{state_of as core_state}
+use Rattle.pool_create.specs.CoreStateOf.{state_of as core_state}
 use Rattle.programs.specs.DisksKept.{AreCopies, present}
 use Rattle.programs.specs.OnDisks.{GoesOn, PoolState, Reopens, StopsInClaim, state_of}
 use Rattle.programs.proofs.Reopening.{AreHandedIn, reopened, unopened}
@@ -23,11 +23,11 @@ returns-in-Ok c =
     } in
     IfOk-weaker c.go_on.result (λ outcome. GoesOn before (core_state c.in-Ok.opened.core) c.in-Ok.opened.uberblock c.args.line.rewind outcome (state_of c.go_on.new.self))
     (λ outcome. Reopens old c.args.line outcome (state_of c.go_on.new.self) ⊎ StopsInClaim old c.args.line outcome (state_of c.go_on.new.self))
-    (λ outcome goes. reopened old before (state_of c.go_on.new.self) c.args.line handed_in (core_state c.in-Ok.opened.core) c.in-Ok.opened.uberblock outcome are c.in-Ok.ensures.opened goes)
+    (λ outcome goes. reopened old before (state_of c.go_on.new.self) c.args.line handed_in (core_state c.in-Ok.opened.core) c.in-Ok.opened.uberblock outcome are c.in-Ok.ensures.opened.0 goes)
     c.go_on.ensures
 
-pub returns-in-Err : goal.returns-in-Err
-returns-in-Err c =
+pub returns : goal.returns
+returns c =
     let old = state_of c.args.self.now in
     let handed_in = c.in_ok-handed_in.handed_in.items in
     let disks = c.close.new.self.disks.items in

@@ -1,5 +1,5 @@
 use Rattle.std.proofs.Common.{◌≡◌, None, option_map, inl, inr, refl, ap}
-use Rattle.pool_core.specs.StateOf.{state_of as core_state}
+use Rattle.pool_create.specs.CoreStateOf.{state_of as core_state}
 use Rattle.programs.specs.Answers.{Begins}
 use Rattle.programs.specs.Runs.{StepsTruly}
 use Rattle.programs.specs.Stops.{FallsShort, StopsAt}

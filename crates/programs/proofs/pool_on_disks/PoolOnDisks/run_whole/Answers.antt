@@ -1,5 +1,5 @@
 use Rattle.std.proofs.Common.{◌≡◌, option_map, refl, ap}
-use Rattle.pool_core.specs.StateOf.{state_of as core_state}
+use Rattle.pool_create.specs.CoreStateOf.{state_of as core_state}
 use Rattle.programs.specs.Answers.{Answers}
 use Rattle.programs.specs.Runs.{StepsTruly}
 use Rattle.programs.proofs.StatesOf.{Shown, answers_shown}

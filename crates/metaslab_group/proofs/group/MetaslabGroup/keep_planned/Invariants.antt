@@ -1,9 +1,0 @@
-use Rattle.std.proofs.Common.{◌≡◌}
-use Rattle.metaslab_group.proofs.Elements.{HasBecome}
-use Rattle.metaslab_group.proofs.Groups.{IsKept}
-use Rattle.metaslab_group.proofs.group.MetaslabGroup.keep_planned.Given as goal
-
--- the metaslabs so far, and the rest as they were
-abbrev pub invariant-loop-metaslab : goal.invariant-loop-metaslab
-invariant-loop-metaslab l =
-    HasBecome IsKept l.initial.self-inside.metaslabs.items l.self-inside.metaslabs.items l.metaslab × (l.self-inside.pins ≡ l.initial.self-inside.pins)

@@ -1,2 +1,0 @@
-pub mod Spaces
-pub mod Maps

@@ -1,0 +1,70 @@
+-- The tables, byte by byte.
+use Rattle.std.specs.Prelude.{ℕ, ◌-◌, List, [], ◌∷◌, ◌++◌, length, replicate, codes, string_bytes, false}
+use Rattle.std.specs.List.{flat_map}
+use Rattle.std.specs.Fmt.{char_count, decimal, digits}
+use Rattle.pool_command.specs.declared.listing.VolumeRow.{VolumeRow}
+use Rattle.pool_command.specs.declared.status.DiskState.{DiskState}
+use Rattle.pool_command.specs.declared.status.DiskState.TheVariants.{Online, Absent, Stale}
+use Rattle.pool_command.specs.declared.status.DiskStatus.{DiskStatus}
+use Rattle.pool_command.specs.declared.status.VdevStatus.{VdevStatus}
+use Rattle.pool_command.specs.declared.status.PoolStatus.{PoolStatus}
+
+-- the text, and spaces up to so many places
+abbrev pub left : ℕ → List ℕ → List ℕ
+left places text = text ++ replicate (places - char_count text) 32
+
+-- spaces, and the text at the end of so many places
+abbrev pub right : ℕ → List ℕ → List ℕ
+right places text = replicate (places - char_count text) 32 ++ text
+
+-- the number in 16 hexadecimal digits
+abbrev pub guid_text : ℕ → List ℕ
+guid_text guid = let text = digits 16 false guid in replicate (16 - length text) 48 ++ text
+
+abbrev pub line : List ℕ → List ℕ
+line text = text ++ 10 ∷ []
+
+-- ---- volumes
+
+abbrev pub header_text : List ℕ
+header_text = left 56 (codes "NAME") ++ (right 14 (codes "SIZE") ++ (right 8 (codes "BLOCK") ++ right 12 (codes "GROUP")))
+
+-- a number right in so many places
+abbrev pub number_text : ℕ → ℕ → List ℕ
+number_text places n = let text = decimal n in replicate (places - length text) 32 ++ text
+
+-- right in 12 places, and never without a space in front
+abbrev pub group_text : ℕ → List ℕ
+group_text group = 32 ∷ number_text 11 group
+
+abbrev pub row_text : VolumeRow → List ℕ
+row_text row = left 56 (string_bytes row.name) ++ (number_text 14 row.size ++ (number_text 8 row.block_size ++ group_text row.group))
+
+abbrev pub rows_text : List VolumeRow → List ℕ
+rows_text rows = flat_map (λ row. line (row_text row)) rows
+
+abbrev pub list_text : List VolumeRow → List ℕ
+list_text rows = line header_text ++ rows_text rows
+
+-- ---- a pool
+
+abbrev pub state_text : DiskState → List ℕ
+state_text Online = codes "online"
+state_text Absent = codes "absent"
+state_text (Stale from to) = codes "stale " ++ (decimal from ++ (32 ∷ decimal to))
+
+abbrev pub disk_text : DiskStatus → List ℕ
+disk_text disk = codes "  disk " ++ (decimal disk.number ++ (32 ∷ (guid_text disk.guid ++ (32 ∷ state_text disk.state))))
+
+abbrev pub disks_text : List DiskStatus → List ℕ
+disks_text disks = flat_map (λ disk. line (disk_text disk)) disks
+
+abbrev pub vdev_text : VdevStatus → List ℕ
+vdev_text vdev = line (codes "vdev " ++ (decimal vdev.number ++ (codes " raidz" ++ decimal vdev.parities))) ++ disks_text vdev.disks.items
+
+abbrev pub vdevs_text : List VdevStatus → List ℕ
+vdevs_text vdevs = flat_map vdev_text vdevs
+
+abbrev pub status_text : PoolStatus → List ℕ
+status_text pool = line (codes "pool " ++ string_bytes pool.name) ++ (line (codes "claim " ++ decimal pool.claim)
+    ++ (line (codes "group " ++ decimal pool.group) ++ vdevs_text pool.vdevs.items))

@@ -1,7 +1,0 @@
-use Rattle.tests_disks.proofs.loaded_maps.differ.Goals as goal
-
-pub unused_after-requires : goal.unused_after-requires
-unused_after-requires c = c.has_metaslab.ensures.0 c.if-has_metaslab.true
-
-pub unused_after-requires-then-has_metaslab-2 : goal.unused_after-requires-then-has_metaslab-2
-unused_after-requires-then-has_metaslab-2 c = c.has_metaslab-then-has_metaslab.ensures.0 c.if-has_metaslab-2.true

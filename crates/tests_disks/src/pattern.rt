@@ -1,0 +1,35 @@
+//! Bytes that are told by their places.
+ghost use Rattle.std.specs.Prelude.{◌≡◌, IfOk, vec_len};
+
+use std::alloc::{AllocError, Global};
+
+/// How bytes follow one another: the places times a stride, over a divisor and modulo a number, and the
+/// bits of a seed changed.
+#[derive(Clone, Copy)]
+pub(crate) struct Pattern {
+    pub(crate) stride: usize,
+    pub(crate) divisor: usize,
+    pub(crate) modulus: usize,
+    pub(crate) seed: u8,
+}
+
+impl Pattern {
+    /// The bytes of a block.
+    pub(crate) const BLOCK: Pattern = Pattern {
+        stride: 1,
+        divisor: 1,
+        modulus: 251,
+        seed: 0,
+    };
+
+    pub(crate) fn bytes(self, alloc: Global, len: usize) -> Result<Vec<u8>, AllocError>
+        ensures { IfOk result (λ bytes. vec_len bytes ≡ len) }
+    {
+        let mut bytes = Vec::new(alloc);
+        for place in 0..len {
+            let value = place.wrapping_mul(self.stride) / self.divisor.max(1);
+            bytes.push((value % self.modulus.clamp(1, 256)) as u8 ^ self.seed)?;
+        }
+        Ok(bytes)
+    }
+}
