@@ -17,8 +17,8 @@ pub more : (name : Text) (places : List Place) (i : ℕ) (p : Place) (r : Rule) 
     → IsOfApp (leaf_app name (rules_of (take (i + 1) places))) d
 more name places i p r c d l e h f =
     let grown : rules_of (take (i + 1) places) ≡ rules_of (take i places) ++ r ∷ [] =
-        ap rules_of (take_more places i p l) ∙ map_push place_rule (take i places) (get_or places i p)
-        ∙ ap (λ (x : Rule). rules_of (take i places) ++ x ∷ []) (sym e) in
+    ap rules_of (take_more places i p l) ∙ map_push place_rule (take i places) (get_or places i p)
+    ∙ ap (λ (x : Rule). rules_of (take i places) ++ x ∷ []) (sym e) in
     subst (λ (rules : List Rule). IsOfApp (leaf_app name rules) d) (sym grown) (f (leaf_app name (rules_of (take i places))) h)
 
 abbrev top_of : CommandTable → Shape
@@ -40,7 +40,7 @@ pub more_above : (name : Text) (tables : List CommandTable) (i : ℕ) (t : Comma
 more_above name tables i t c b d l h k f =
     let that : CommandTable = get_or tables i t in
     let grown : tops_of (take (i + 1) tables) ≡ tops_of (take i tables) ++ top_of that ∷ [] =
-        ap tops_of (take_more tables i t l) ∙ map_push top_of (take i tables) that in
+    ap tops_of (take_more tables i t l) ∙ map_push top_of (take i tables) that in
     let app : with_subcommand (program_app name (tops_of (take i tables))) (top_of that) ≡ program_app name (tops_of (take (i + 1) tables)) =
-        grows name (tops_of (take i tables)) (top_of that) ∙ ap (program_app name) (sym grown) in
+    grows name (tops_of (take i tables)) (top_of that) ∙ ap (program_app name) (sym grown) in
     subst (λ (a : App). IsOfApp a d) app (f (program_app name (tops_of (take i tables))) (command_app that) h k)
