@@ -1,6 +1,7 @@
 pub mod GoodChanges
 pub mod WholeNames
 pub mod Indexes
+pub mod Rows
 pub mod Volumes
 pub mod NowMoves
 pub mod Ranges

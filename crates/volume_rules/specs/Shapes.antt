@@ -1,9 +1,11 @@
 -- What is known of a pool's volumes without their bytes.
-use Rattle.std.specs.Prelude.{◌≡◌, ℕ, List, length, map, replicate, Option, Some, None, if◌then◌else◌}
+use Rattle.std.specs.Prelude.{◌≡◌, ℕ, List, length, map, replicate, Option, Some, None, Vec, if◌then◌else◌}
 use Rattle.std.specs.Option.{option_map}
+use Rattle.std.specs.declared.alloc.Global.{Global}
 use Rattle.pool_model.specs.declared.volume.PlainVolume.{PlainVolume}
 use Rattle.pool_model.specs.declared.volume.VolumeKind.TheVariants.{Snapshot, Volume}
 use Rattle.pool_model.specs.Pools.{PlainPool, is_snapshot, volume_at}
+use Rattle.volume_rules.specs.declared.shape.NamedShape.{NamedShape}
 use Rattle.volume_rules.specs.declared.shape.VolumeEntry.{VolumeEntry}
 use Rattle.volume_rules.specs.declared.shape.VolumeShape.{VolumeShape}
 
@@ -21,6 +23,14 @@ entry_of volume = record { shape = shape_of volume; origin = volume.origin }
 -- the entry of the volume of that name
 abbrev pub entry_at : List ℕ → PlainPool → Option VolumeEntry
 entry_at name pool = option_map entry_of (volume_at name pool)
+
+-- each volume's name and shape, in the order of the names
+abbrev pub rows_of : PlainPool → List NamedShape
+rows_of pool = map (λ v. record { name = v.name; shape = shape_of v }) pool.volumes
+
+-- entries as such rows
+abbrev pub rows_in : List (Vec ℕ Global × VolumeShape) → List NamedShape
+rows_in entries = map (λ e. record { name = e.0.items; shape = e.1 }) entries
 
 -- a volume but for what its bytes are
 abbrev pub outline : PlainVolume → PlainVolume

@@ -1,13 +1,17 @@
 //! The names of a pool.
-ghost use Rattle.std.specs.Prelude.{◌≡◌, ◌↔◌, ℕ, None, OnOk, IfOk, fold};
+ghost use Rattle.std.specs.Prelude.{◌≡◌, ◌↔◌, ℕ, List, None, Some, OnOk, IfOk, cond, fold};
+ghost use Rattle.std.specs.BTreeMap.{IsOrdered, get_by};
+ghost use Rattle.std.specs.Cmp.Lexicographic.{slice_cmp};
+ghost use Rattle.std.specs.Ordering.{nat_cmp};
 ghost use Rattle.pool_model.specs.Names.{same, volume_part};
 ghost use Rattle.volume_rules.specs.Index.{origin_by};
+ghost use Rattle.volume_rules.specs.Shapes.{rows_in};
 
 use crate::causes::{Dependents, against_change};
-use crate::shape::{VolumeEntry, VolumeShape};
+use crate::shape::{NamedShape, VolumeEntry, VolumeShape};
 use pool_model::{Action, Change, Name, Refusal, VolumeKind};
 use std::alloc::{AllocError, Global};
-use std::collections::HashMap;
+use std::collections::{BTreeMap, HashMap};
 use txg_pipeline::Pending;
 
 /// A name that a change makes, and what stands there.
@@ -39,7 +43,7 @@ impl NameIndex {
     ghost use Rattle.pool_model.specs.declared.volume.PlainVolume.{PlainVolume};
     ghost use Rattle.pool_model.specs.Refusals.{change_refusal};
     ghost use Rattle.pool_model.specs.Pools.{PlainPool, no_volumes, volume_at, with_volume, without, applied, changed, has_snapshots, has_clones};
-    ghost use Rattle.volume_rules.specs.Shapes.{shape_at};
+    ghost use Rattle.volume_rules.specs.Shapes.{rows_of, shape_at};
     ghost use Rattle.pool_model.specs.declared.item.Change.TheVariants.{Destroy};
     ghost use Rattle.volume_rules.specs.Index.{HasRoom, IsNameChange, IsNameOf, Knows, MakesShape, dependents_of, with_origin};
 
@@ -58,6 +62,29 @@ impl NameIndex {
     {
         let entry = self.entries.get(name.as_slice())?;
         Some(entry.shape)
+    }
+
+    /// The names, in the order of their bytes, and what stands there.
+    pub fn rows(&self, alloc: Global) -> Result<Vec<NamedShape>, AllocError>
+        ensures { IfOk result (λ rows. (pool : PlainPool) → Knows self.now pool →
+            rows.items ≡ rows_of pool) }
+    {
+        let shapes = self.in_order(alloc)?;
+        let rows = into_rows(alloc, shapes)?;
+        Ok(rows)
+    }
+
+    /// The shapes by name, in the order of the names' bytes.
+    fn in_order(&self, alloc: Global) -> Result<BTreeMap<Vec<u8>, VolumeShape>, AllocError>
+        ensures { IfOk result (λ shapes. (pool : PlainPool) → Knows self.now pool →
+            (name : List ℕ) → get_by (λ key. slice_cmp nat_cmp name key.items) shapes
+            ≡ shape_at name pool) }
+    {
+        let mut shapes = BTreeMap::new(alloc);
+        for (key, entry) in self.entries.iter() {
+            put_shape(alloc, &mut shapes, key.as_slice(), entry.shape)?;
+        }
+        Ok(shapes)
     }
 
     /// Whether snapshots of the volume of that name are there. It looks through all names.
@@ -278,6 +305,40 @@ impl NameIndex {
         self.make(made);
         Ok(())
     }
+}
+
+/// Puts the shape of what has this name.
+fn put_shape(
+    alloc: Global,
+    shapes: &mut BTreeMap<Vec<u8>, VolumeShape>,
+    name: &[u8],
+    shape: VolumeShape,
+) -> Result<(), AllocError>
+    ensures { OnOk result ((other : List ℕ) →
+        get_by (λ key. slice_cmp nat_cmp other key.items) shapes.new
+        ≡ cond (same name.now other) (Some shape)
+        (get_by (λ key. slice_cmp nat_cmp other key.items) shapes.old)) }
+{
+    let key = Vec::from_slice(alloc, name)?;
+    shapes.insert(key, shape)?;
+    Ok(())
+}
+
+/// The entries as rows.
+fn into_rows(
+    alloc: Global,
+    shapes: BTreeMap<Vec<u8>, VolumeShape>,
+) -> Result<Vec<NamedShape>, AllocError>
+    ensures ordered { IsOrdered (λ x y. slice_cmp nat_cmp x.items y.items) shapes }
+    ensures are { IfOk result (λ rows. rows.items ≡ rows_in shapes.entries) }
+{
+    let mut rows = Vec::with_capacity(alloc, shapes.len())?;
+    let mut rest = shapes;
+    while let Some((key, shape)) = rest.pop_first() {
+        let name = Name::new(key);
+        rows.push(NamedShape { name, shape })?;
+    }
+    Ok(rows)
 }
 
 /// Of a clone that a change makes the name of its snapshot.

@@ -24,4 +24,4 @@ pub use laws::{
 pub use overlay::{base_name, lay_over, read_pending};
 pub use parting::{PartedActions, part, parted_groups_come_to_the_same};
 pub use pieces::{covers_any, lay_pending};
-pub use shape::{VolumeEntry, VolumeShape};
+pub use shape::{NamedShape, VolumeEntry, VolumeShape};

@@ -32,6 +32,13 @@ impl VolumeShape {
     }
 }
 
+/// A name, and the shape of what stands there.
+#[derive(Drop)]
+pub struct NamedShape {
+    pub name: Name,
+    pub shape: VolumeShape,
+}
+
 /// What an index has of a volume.
 #[derive(Drop)]
 pub struct VolumeEntry {
