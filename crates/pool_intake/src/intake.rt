@@ -2,7 +2,9 @@
 use pool_model::{Action, Item, Name, Refusal, Reply, Write};
 use std::alloc::{AllocError, Global};
 use txg_pipeline::{Pending, Pipeline};
-use volume_rules::{NameIndex, VolumeShape, against_write, base_name, is_covered, read_pending};
+use volume_rules::{
+    NameIndex, NamedShape, VolumeShape, against_write, base_name, is_covered, read_pending,
+};
 
 /// What a pool accepts: its groups, the holds of writers, the pending items, and the names of NOW.
 ///
@@ -22,7 +24,7 @@ impl Intake {
     ghost use Rattle.pool_model.specs.View.{View, Vdev, Unplanned, started, opened_as, is_syncing, is_planned, is_suspended, now_of};
     ghost use Rattle.pool_model.specs.Refusals.{greatest, refusal_of};
     ghost use Rattle.pool_model.specs.Machine.{taken, committed_next};
-    ghost use Rattle.volume_rules.specs.Shapes.{shape_of, shape_at};
+    ghost use Rattle.volume_rules.specs.Shapes.{rows_of, shape_of, shape_at};
     ghost use Rattle.volume_rules.specs.Covering.{IsCovered};
     ghost use Rattle.volume_rules.specs.Index.{Knows};
     ghost use Rattle.volume_rules.specs.NowMoves.{IsMadeBy};
@@ -199,6 +201,14 @@ impl Intake {
         ensures { (v : View) → Follows self.now v → result ≡ shape_at name.now (now_of v) }
     {
         self.index.find(name)
+    }
+
+    /// The names of NOW, in the order of their bytes, and what stands there.
+    pub fn rows(&self, alloc: Global) -> Result<Vec<NamedShape>, AllocError>
+        ensures { IfOk result (λ rows. (v : View) → Follows self.now v →
+            rows.items ≡ rows_of (now_of v)) }
+    {
+        self.index.rows(alloc)
     }
 
     /// Where in the committed pool the bytes stand that a name of NOW has but for pending writes: at the name itself; of a
