@@ -1,0 +1,4 @@
+pub mod Due
+pub mod Sessions
+pub mod Made
+pub mod Changes
