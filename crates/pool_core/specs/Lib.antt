@@ -34,3 +34,6 @@ pub use Rattle.pool_commit.specs.declared.stamp.Stamp
 pub use Rattle.pool_commit.specs.Loads
 pub use Rattle.pool_commit.specs.Maps
 pub use Rattle.pool_commit.specs.FreeMetaslab
+pub use Rattle.volume_rules.specs.Shapes as VolumeShapes
+pub use Rattle.volume_rules.specs.declared.shape.NamedShape
+pub use Rattle.volume_rules.specs.declared.shape.VolumeShape

@@ -6,7 +6,7 @@ ghost use Rattle.pool_model.specs.declared.volume.PlainVolume.{PlainVolume};
 ghost use Rattle.pool_model.specs.Pools.{volume_at};
 ghost use Rattle.pool_model.specs.View.{View, is_suspended, now_of};
 ghost use Rattle.volume_rules.specs.Covering.{IsCovered};
-ghost use Rattle.volume_rules.specs.Shapes.{shape_of};
+ghost use Rattle.volume_rules.specs.Shapes.{rows_of, shape_of};
 ghost use Rattle.pool_commit.specs.Backs.{Backs};
 ghost use Rattle.block_store.specs.declared.shape.VdevShape.{VdevShape as ShapeOf};
 ghost use Rattle.block_store.specs.Config.{AreShapes, IsFewVdevs};
@@ -27,6 +27,7 @@ use pool_commit::Commit;
 use pool_intake::Intake;
 use pool_model::{Refusal, Reply, Step};
 use std::alloc::{AllocError, Global};
+use volume_rules::NamedShape;
 
 /// A pool over disks: what it accepts, and what is committed.
 #[derive(Drop)]
@@ -100,6 +101,15 @@ impl<D: Disk + Drop> Core<D> {
             shapes.items ≡ shapes_of (state_of self.now).commit.store.spaces) }
     {
         self.commit.shapes(alloc)
+    }
+
+    /// The names of NOW, in the order of their bytes, and what stands there.
+    pub fn rows(&self, alloc: Global) -> Result<Vec<NamedShape>, AllocError>
+        ensures { IfOk result (λ rows. (v : View) → Represents (state_of self.now) v →
+            rows.items ≡ rows_of (now_of v)) }
+    {
+        let rows = self.intake.rows(alloc)?;
+        Ok(rows)
     }
 
     /// Whether no disk is out.
