@@ -6,7 +6,7 @@ use pool_model::VolumeKind;
 use std::alloc::{AllocError, Global};
 use std::test::Fail;
 use txg_pipeline::Pipeline;
-use volume_rules::{NameIndex, NewName, VolumeEntry, VolumeShape};
+use volume_rules::{NameIndex, NamedShape, NewName, VolumeEntry, VolumeShape};
 
 /// A volume of 8192 bytes in blocks of 512, which group 4 made.
 pub(crate) const SHAPE: VolumeShape = VolumeShape {
@@ -17,11 +17,20 @@ pub(crate) const SHAPE: VolumeShape = VolumeShape {
 };
 
 /// Names in an index: `add NAME GROUP` adds a volume of that shape that a group made, and `find` has the size, the blocks and the
-/// group of one. `after GROUP` goes on with the index after a group with these items. `against` has why volumes can't be made.
+/// group of one. `rows` has them all, in the order of their names. `after GROUP` goes on with the index after a group with these
+/// items. `against` has why volumes can't be made.
 const NAMES: &[(&str, &str)] = &[
     (
         "new; add v 4; add w 5; find v; find w; find vw",
         "new; added; added; 8192 512 4 volume; 8192 512 5 volume; none",
+    ),
+    (
+        "new; rows; add w 5; add v.a 6; add v 4; add v-z 7; rows; add a 8; after 9: hold 1, create 1 1 v1 1024 512; rows",
+        "new; ; added; added; added; added;
+            v 8192 512 4 volume, v-z 8192 512 7 volume, v.a 8192 512 6 volume, w 8192 512 5 volume;
+            added; after;
+            a 8192 512 8 volume, v 8192 512 4 volume, v-z 8192 512 7 volume, v.a 8192 512 6 volume,
+            v1 1024 512 9 volume, w 8192 512 5 volume",
     ),
     // The second action for v is passed over.
     (
@@ -40,9 +49,10 @@ const NAMES: &[(&str, &str)] = &[
 
 /// An intake takes a group in.
 const TAKEN_IN: &[(&str, &str)] = &[(
-    "new; find v; hold 1; create 1 1 v 8192 512; release 1; close; quiesce; sync; find v; commit",
-    "new; none; Held(4); Receipt(4); Released; Closed(4); Quiesced(4); begun;
-            8192 512 4 volume; committed 4",
+    "new; find v; hold 1; create 1 1 v 8192 512; create 1 2 u 512 512; rows; release 1; close; quiesce; sync;
+            find v; commit; rows",
+    "new; none; Held(4); Receipt(4); Receipt(4); u 512 512 4 volume, v 8192 512 4 volume; Released; Closed(4);
+            Quiesced(4); begun; 8192 512 4 volume; committed 4; u 512 512 4 volume, v 8192 512 4 volume",
 )];
 
 fn shape_text(alloc: Global, shape: Option<VolumeShape>) -> Result<String, AllocError> {
@@ -56,6 +66,18 @@ fn shape_text(alloc: Global, shape: Option<VolumeShape>) -> Result<String, Alloc
     };
     let (size, block_size, group) = (shape.size, shape.block_size, shape.group);
     format!(in alloc; "{size} {block_size} {group} {kind}")
+}
+
+/// Each name and its shape, with commas between them.
+fn rows_text(alloc: Global, rows: &[NamedShape]) -> Result<String, AllocError> {
+    let mut text = String::new(alloc);
+    for row in rows {
+        let name = str::from_utf8(row.name.as_slice()).unwrap_or("?");
+        let shape = shape_text(alloc, Some(row.shape))?;
+        let comma = if text.is_empty() { "" } else { ", " };
+        text.push_str(format!(in alloc; "{comma}{name} {shape}")?.as_str())?;
+    }
+    Ok(text)
 }
 
 fn add(index: &mut NameIndex, alloc: Global, call: &Call) -> Result<(), AllocError> {
@@ -95,6 +117,7 @@ impl Bench for NameIndex {
     fn answer(&mut self, alloc: Global, call: &Call) -> Result<String, Fail> {
         let text = match call.word(0) {
             "find" => shape_text(alloc, self.find(&name(alloc, call.word(1))?)),
+            "rows" => rows_text(alloc, &self.rows(alloc)?),
             "against" => return against(self, alloc, call),
             "add" => {
                 add(self, alloc, call)?;
@@ -117,6 +140,7 @@ impl Bench for NameIndex {
 fn synced(intake: &mut Intake, alloc: Global, call: &Call) -> Result<String, Fail> {
     let text = match call.word(0) {
         "find" => shape_text(alloc, intake.find(&name(alloc, call.word(1))?)),
+        "rows" => rows_text(alloc, &intake.rows(alloc)?),
         "sync" if intake.begin_sync().is_ok() => String::from_str(alloc, "begun"),
         "commit" => match intake.commit() {
             Ok(group) => format!(in alloc; "committed {group}"),
