@@ -1,6 +1,8 @@
-//! Tests of the command lines of `zpool` and `zfs`, and of their tables: nothing but tests.
+//! Tests of the command lines of `zpool` and `zfs`, of their tables, and of changes: nothing but tests.
 #![tactic(auto)]
 
+#[cfg(test)]
+mod changes;
 #[cfg(test)]
 mod command_lines;
 #[cfg(test)]
