@@ -49,5 +49,10 @@ pub use Rattle.pool_open.specs.Shapes
 pub use Rattle.pool_open.specs.Stops as OpenStops
 pub use Rattle.pool_open.specs.Trees
 pub use Rattle.pool_open.specs.Words
+pub use Rattle.pool_format.specs.declared.labeling.PoolIdentity
 pub use Rattle.pool_open.specs.declared.handed_in.NotOpened
+pub use Rattle.pool_open.specs.declared.handed_in.OpenedFrom
 pub use Rattle.pool_open.specs.declared.refusal.Refusal as OpenRefusal
+pub use Rattle.pool_open.specs.VolumeShapes
+pub use Rattle.pool_open.specs.NamedShape
+pub use Rattle.pool_open.specs.VolumeShape

@@ -16,6 +16,6 @@ mod surveying;
 pub use handing_in::create;
 pub use making::create_over;
 pub use pool_open::{
-    Core, FoundPool, NotOpened, OpenedPool, Refusal, find, open, open_over,
-    unfailing_opens_claim_once,
+    Core, FoundPool, NamedShape, NotExported, NotOpened, OpenedFrom, OpenedPool, PoolIdentity,
+    Refusal, VolumeShape, export, find, open, open_over, unfailing_opens_claim_once,
 };

@@ -9,7 +9,7 @@ use Rattle.pool_labels.specs.declared.choice.Choice.{Choice}
 use Rattle.pool_labels.specs.declared.scanned.Reading.TheVariants.{Valid}
 use Rattle.pool_labels.specs.declared.scanned.Scan.{Scan}
 use Rattle.pool_labels.specs.declared.scanned.ScannedLabel.{ScannedLabel}
-use Rattle.pool_open.specs.Finding.{IsLaidOut, IsLayoutOf}
+use Rattle.pool_open.specs.Finding.{IsLaidOut, IsLayoutOf, identity_of}
 use Rattle.pool_open.specs.declared.finding.Layout.{Layout}
 
 same_some : {X : Type 0} (x y : X) → Some x ≡ Some y → x ≡ y
@@ -25,7 +25,14 @@ same_label labels i s t l m one other =
     same_valid l m (sym one.valid ∙ ap (λ (it : ScannedLabel). it.reading) same ∙ other.valid)
 
 pub laid_out : (old new : Disks) (rewind : ℕ) (scan : Scan) (choice : Choice) (layout : Layout) (s : ScannedLabel) (m : Label) → IsScanOf old new scan → (is : IsChoice scan rewind choice)
-    → IsValidAt scan.labels.items choice.source s m → IsLaidOut (config_view m.config) choice layout → IsLayoutOf old new rewind layout
-laid_out old new rewind scan choice layout s m read is at laid =
+    → IsValidAt scan.labels.items choice.source s m → IsLaidOut (config_view m.config) choice layout → layout.identity ≡ identity_of m → IsLayoutOf old new rewind layout
+laid_out old new rewind scan choice layout s m read is at laid named =
     let same : m ≡ is.l = same_label scan.labels.items choice.source s is.configured.s m is.l at is.configured.source.at in
-    record { scan = scan; read = read; choice = choice; chosen = is; laid_out = subst (λ (l : Label). IsLaidOut (config_view l.config) choice layout) same laid }
+    record {
+      scan = scan;
+      read = read;
+      choice = choice;
+      chosen = is;
+      laid_out = subst (λ (l : Label). IsLaidOut (config_view l.config) choice layout) same laid;
+      identity = named ∙ ap identity_of same;
+    }

@@ -5,6 +5,7 @@ use Rattle.model_disk.specs.Member.{calls_of, disk_of, start_of}
 use Rattle.model_disk.specs.declared.disk.Disk as disk
 use Rattle.model_disk.specs.declared.member.Member.{Member}
 use Rattle.block_store.specs.declared.shape.VdevShape.{VdevShape}
+use Rattle.pool_format.specs.declared.labeling.PoolIdentity.{PoolIdentity}
 use Rattle.pool_labels.specs.Choices.{ChoiceRefuses, IsChoice}
 use Rattle.pool_labels.specs.Scans.{IsScanOf, anywhere, has_allowed_size}
 use Rattle.pool_labels.specs.declared.choice.Choice.{Choice}
@@ -18,6 +19,7 @@ use Rattle.pool_slots.specs.Reads.{OnlyReads}
 use Rattle.uberblock_ring.specs.declared.uberblock.Uberblock.{Uberblock}
 use Rattle.vdev_label.specs.Plain.{PlainVdev, config_view}
 use Rattle.vdev_label.specs.declared.label.Config.{Config}
+use Rattle.vdev_label.specs.declared.label.Label.{Label}
 use Rattle.pool_open.specs.Children.{all_children}
 use Rattle.pool_open.specs.Shapes.{AreShapesOf}
 use Rattle.pool_open.specs.declared.finding.Layout.{Layout}
@@ -32,13 +34,18 @@ pub record IsLaidOut (vdevs : List PlainVdev) (choice : Choice) (layout : Layout
   pub shapes : AreShapesOf vdevs 0 layout.shapes.items
   pub config : config_view layout.config.value ≡ vdevs
 
--- since the old moment the disks were read, and this was chosen of what they show
+-- what a label says that its pool is known by
+abbrev pub identity_of : Label → PoolIdentity
+identity_of l = record { name = l.name; guid = l.pool_guid }
+
+-- since the old moment the disks were read, and this was chosen of what they show, by the label that was chosen
 pub record IsLayoutOf (old new : Disks) (rewind : ℕ) (layout : Layout) : Type 0 where
   pub scan : Scan
   pub read : IsScanOf old new scan
   pub choice : Choice
   pub chosen : IsChoice scan rewind choice
   pub laid_out : IsLaidOut (config_view chosen.l.config) choice layout
+  pub identity : layout.identity ≡ identity_of chosen.l
 
 -- nothing is chosen of what they show, for this cause
 abbrev pub LayoutRefuses : Disks → Disks → ℕ → Refusal → Type 0
@@ -80,11 +87,12 @@ module _ {D : Type 0} where
     pub members_are : map disk_of members ≡ map (disk_for after) layout.children.items
     pub arranged : AreArranged (map g.start after) (map g.calls after) layout.children.items (map (start_of g) members) (map (calls_of g) members) out
 
-  -- And each of them is that of the child that names it, or it is kept as it is then.
+  -- And each of them is that of the child that names it, or it is kept as it is then. The pool is known by what the chosen label says.
   pub record IsFoundOn (g : disk.Ghosts D) (disks : List D) (rewind : ℕ) (members : List (Member D)) (out : List Bool) (shapes : List VdevShape)
-      (config : Config) (highest taken : Uberblock) (places : List (Place D)) : Type 0 where
+      (config : Config) (highest taken : Uberblock) (places : List (Place D)) (identity : PoolIdentity) : Type 0 where
     pub found : IsFoundPool g disks rewind members out shapes config highest taken
     pub handed : AreHandedIn found.after found.layout.children.items places
+    pub named : identity ≡ found.layout.identity
 
   -- why no pool was found: the disks were read, and what they show was refused; and they are given back, as they are then
   pub record FindRefuses (g : disk.Ghosts D) (disks : List D) (rewind : ℕ) (back : List D) (refusal : Refusal) : Type 0 where

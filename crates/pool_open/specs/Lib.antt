@@ -46,3 +46,6 @@ pub use Rattle.pool_core.specs.Steps as CoreSteps
 pub use Rattle.pool_core.specs.Loads
 pub use Rattle.pool_core.specs.Maps
 pub use Rattle.pool_core.specs.FreeMetaslab
+pub use Rattle.pool_core.specs.VolumeShapes
+pub use Rattle.pool_core.specs.NamedShape
+pub use Rattle.pool_core.specs.VolumeShape

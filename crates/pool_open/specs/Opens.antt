@@ -16,6 +16,7 @@ use Rattle.pool_open.specs.Finding.{AreBack, FindRefuses, IsFoundPool}
 use Rattle.pool_open.specs.Retried.{IsNotOpenedAtLast, IsOpenedAtLast}
 use Rattle.pool_open.specs.declared.handed_in.NotOpened.{NotOpened}
 use Rattle.pool_open.specs.declared.handed_in.NotOpened.TheVariants.{NotFound, Refused}
+use Rattle.pool_open.specs.declared.handed_in.OpenedFrom.{OpenedFrom}
 use Rattle.pool_open.specs.declared.refusal.Refusal.{Refusal}
 
 module _ {D : Type 0} where
@@ -42,9 +43,10 @@ module _ {D : Type 0} where
     -- the core keeps the configuration that was found
     pub configured : config_of core ≡ ordered.config
 
-  -- with the disks in these places
-  abbrev pub IsOpenedOn : disk.Ghosts D → List D → ℕ → Uberblock → CoreState → List (Place D) → Type 0
-  IsOpenedOn g disks rewind claimed core places = (is : IsOpened g disks rewind claimed core) × (is.ordered.places ≡ places)
+  -- with the disks in these places, and known by what the label says that was chosen
+  abbrev pub IsOpenedOn : disk.Ghosts D → List D → ℕ → Uberblock → CoreState → OpenedFrom D → Type 0
+  IsOpenedOn g disks rewind claimed core from =
+      (is : IsOpened g disks rewind claimed core) × (is.ordered.places ≡ from.handed) × (from.identity ≡ is.ordered.found.layout.identity)
 
   -- or it was not, and the disks are given back in the order handed in, as they are then
   pub record IsUnopened (g : disk.Ghosts D) (disks : List D) (rewind : ℕ) (back : List D) (refusal : Refusal) : Type 0 where

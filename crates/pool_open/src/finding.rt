@@ -3,7 +3,7 @@ ghost use Rattle.std.specs.Prelude.{◌≡◌, ◌≤◌, length, All, IfErr, If
 ghost use Rattle.pool_labels.specs.Choices.{HasLabelAt, IsValidAt};
 ghost use Rattle.pool_labels.specs.Scans.{anywhere, has_allowed_size};
 ghost use Rattle.pool_labels.specs.declared.scanned.ScannedLabel.{ScannedLabel};
-ghost use Rattle.pool_open.specs.Finding.{FindRefuses, IsFoundOn, IsLaidOut, IsLayoutOf, LayoutRefuses};
+ghost use Rattle.pool_open.specs.Finding.{FindRefuses, IsFoundOn, IsLaidOut, IsLayoutOf, LayoutRefuses, identity_of};
 ghost use Rattle.pool_slots.specs.Reads.{OnlyReads};
 ghost use Rattle.vdev_label.specs.Limits.{IsAllowedVdev};
 ghost use Rattle.vdev_label.specs.Plain.{config_view};
@@ -12,6 +12,7 @@ use crate::children::children_of;
 use crate::shapes::shapes_of;
 use block_store::VdevShape;
 use model_disk::{Disk, DiskArray, Member};
+use pool_format::PoolIdentity;
 use pool_labels::{Choice, Reading, Refusal, Scan, ScannedLabel, choose, scan};
 use pool_members::{Arranged, Child, HandedIn, arrange};
 use std::alloc::{AllocError, Global};
@@ -31,17 +32,20 @@ pub struct FoundPool<D: Disk + Drop> {
     pub shapes: Vec<VdevShape>,
     /// The configuration that the chosen label has.
     pub config: Arc<Config, Global>,
+    /// The name and the guid that it has.
+    pub identity: PoolIdentity,
     /// The greatest uberblock on the disks, and the one that is to be claimed.
     pub highest: Uberblock,
     pub taken: Uberblock,
 }
 
-/// Which children a pool has, in order, and how its vdevs take them.
+/// Which children a pool has, in order, how its vdevs take them, and what it is known by.
 #[derive(Drop)]
 pub(crate) struct Layout {
     pub(crate) children: Vec<Child>,
     pub(crate) shapes: Vec<VdevShape>,
     pub(crate) config: Arc<Config, Global>,
+    pub(crate) identity: PoolIdentity,
     pub(crate) highest: Uberblock,
     pub(crate) taken: Uberblock,
 }
@@ -58,17 +62,28 @@ fn label_at(labels: Vec<ScannedLabel>, i: usize) -> Label
     }
 }
 
-/// The layout of a pool with this configuration.
-fn layout_of(alloc: Global, config: Config, choice: &Choice) -> Result<Layout, AllocError>
-    requires count { length choice.now.members.items ≡ length (config_view config) }
-    requires few { length (config_view config) ≤ 8 }
-    requires allowed { All IsAllowedVdev (config_view config) }
-    ensures { IfOk result (IsLaidOut (config_view config) choice.now) }
+/// The layout of a pool with this label's configuration.
+fn layout_of(alloc: Global, label: Label, choice: &Choice) -> Result<Layout, AllocError>
+    requires count { length choice.now.members.items ≡ length (config_view label.config) }
+    requires few { length (config_view label.config) ≤ 8 }
+    requires allowed { All IsAllowedVdev (config_view label.config) }
+    ensures laid_out { IfOk result (IsLaidOut (config_view label.config) choice.now) }
+    ensures identity { IfOk result (λ layout. layout.identity ≡ identity_of label) }
 {
+    let Label {
+        name,
+        pool_guid,
+        config,
+        ..
+    } = label;
     Ok(Layout {
         children: children_of(alloc, &config, &choice.members)?,
         shapes: shapes_of(alloc, &config)?,
         config: Arc::new(alloc, config)?,
+        identity: PoolIdentity {
+            name,
+            guid: pool_guid,
+        },
         highest: choice.highest,
         taken: choice.taken,
     })
@@ -86,8 +101,8 @@ fn lay_out<D: Disk + Drop>(
 {
     let found = scan(alloc, disks)?;
     let choice = choose(alloc, &found, rewind)?;
-    let Label { config, .. } = label_at(found.labels, choice.source);
-    let layout = layout_of(alloc, config, &choice)?;
+    let label = label_at(found.labels, choice.source);
+    let layout = layout_of(alloc, label, &choice)?;
     Ok(layout)
 }
 
@@ -103,7 +118,8 @@ pub fn find<D: Disk + Drop>(
     rewind: u64,
 ) -> Result<FoundPool<D>, (Refusal, Vec<D>)>
     ensures found { IfOk result (λ pool. IsFoundOn D.Disk disks.items rewind pool.disks.items
-        pool.out.items pool.shapes.items pool.config.value pool.highest pool.taken pool.handed) }
+        pool.out.items pool.shapes.items pool.config.value pool.highest pool.taken pool.handed
+        pool.identity) }
     ensures refused { IfErr result (λ failed.
         FindRefuses D.Disk disks.items rewind failed.1.items failed.0) }
 {
@@ -116,6 +132,7 @@ pub fn find<D: Disk + Drop>(
         children,
         shapes,
         config,
+        identity,
         highest,
         taken,
     } = layout;
@@ -126,6 +143,7 @@ pub fn find<D: Disk + Drop>(
             out,
             shapes,
             config,
+            identity,
             highest,
             taken,
         }),

@@ -9,8 +9,18 @@ use crate::finding::{FoundPool, find};
 use crate::opening::OpenedPool;
 use crate::refusal::Refusal;
 use model_disk::{Disk, DiskArray, Member};
+use pool_format::PoolIdentity;
 use pool_members::HandedIn;
 use std::alloc::Global;
+
+/// What an opened pool was found as.
+#[derive(Drop)]
+pub struct OpenedFrom<D: Disk + Drop> {
+    /// The name and the guid that the label has which was chosen: of those with the configuration that the uberblock names the latest.
+    pub identity: PoolIdentity,
+    /// Where each disk is that was handed in, so that all of them come back.
+    pub handed: HandedIn<D>,
+}
 
 /// A pool that was not opened, and all disks as they are then, in the order handed in.
 #[derive(Drop)]
@@ -47,7 +57,7 @@ impl<D: Disk + Drop> From<NotOpened<D>> for Refusal {
 
 /// Opens a pool on disks that are handed in, in any order: finds it, reads its last group, or where it goes back (`rewind`, 1 or 2) the
 /// one that is so many groups less, and claims it before anything else is written. Where it is refused the disks come back, in the order
-/// handed in. Disks that are none of its children are kept, and nothing is written on them; `HandedIn::restore` gives all disks back in that order.
+/// handed in. Disks that are none of its children are kept, and nothing is written on them; `into_disks` gives all disks back in that order.
 ///
 /// A disk on which a write or flush of the claim fails is out from then on, and the pool is opened over the others, as `open_over` says.
 ///
@@ -56,7 +66,7 @@ pub fn open<D: Disk + Drop>(
     alloc: Global,
     disks: Vec<D>,
     rewind: u64,
-) -> Result<(OpenedPool<Member<D>>, HandedIn<D>), NotOpened<D>>
+) -> Result<(OpenedPool<Member<D>>, OpenedFrom<D>), NotOpened<D>>
     requires rewind { rewind < 3 }
     ensures opened { IfOk result (λ opened. IsOpenedOn D.Disk disks.items rewind
         opened.0.uberblock (state_of opened.0.core) opened.1) }
@@ -75,10 +85,11 @@ pub fn open<D: Disk + Drop>(
         out,
         shapes,
         config,
+        identity,
         ..
     } = found;
     match open_over(alloc, DiskArray::new(disks), &shapes, out, rewind, &config) {
-        Ok(pool) => Ok((pool, handed)),
+        Ok(pool) => Ok((pool, OpenedFrom { identity, handed })),
         Err((refusal, disks)) => Err(NotOpened::Refused {
             refusal,
             disks: handed.restore(disks.into_disks()),

@@ -18,13 +18,14 @@ pub use attempts::open_over;
 pub use children::children_of;
 pub use exporting::{NotExported, export};
 pub use finding::{FoundPool, find};
-pub use handed_in::{NotOpened, into_disks, open};
+pub use handed_in::{NotOpened, OpenedFrom, into_disks, open};
 pub use laws::{
     alike_stores_hold_alike, claims_keep_what_is_held, claims_spare_blocks,
     exports_may_be_reopened, stopped_can_be_opened, unfailing_opens_claim_once,
 };
 pub use opening::{OpenedPool, core_over};
-pub use pool_core::{Core, Reply, Stamp, Step, labels_of_opened_lie, run};
+pub use pool_core::{Core, NamedShape, Reply, Stamp, Step, VolumeShape, labels_of_opened_lie, run};
+pub use pool_format::PoolIdentity;
 pub use refusal::Refusal;
 pub use roots::{ReadRoot, read_root};
 pub use shapes::shapes_of;

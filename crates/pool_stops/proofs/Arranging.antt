@@ -20,11 +20,12 @@ use Rattle.pool_create.specs.Opens.{AreInOrder}
 use Rattle.pool_create.specs.OpenStops.{fresh}
 use Rattle.pool_slots.proofs.Phases.{none_same, settled_later}
 use Rattle.pool_slots.proofs.ReadRuns.{reads_made}
+use Rattle.pool_format.specs.declared.labeling.PoolIdentity.{PoolIdentity}
 use Rattle.pool_stops.proofs.Steps.{same_flags}
 use Rattle.pool_stops.specs.Found.{AreChildren}
 use Rattle.pool_stops.specs.Unhindered.{AnswerTruly}
 use Rattle.pool_stops.specs.Handed.{AreHandedIn, AreUncalled}
-use Rattle.pool_stops.specs.Own.{AreDisksOf}
+use Rattle.pool_stops.specs.Own.{AreDisksOf, IsKnownAs}
 use Rattle.pool_stops.specs.OwnReopening.{AreReturned}
 use Rattle.pool_stops.proofs.FoundDisks.{own_disks_are_ordered}
 use Rattle.pool_stops.proofs.Handed.{bytes_handed}
@@ -116,19 +117,19 @@ module _ {D : Type 0} where
         (below_or which (length disks));
   }
 
-  -- the configuration that was found is the pool's
-  pub config_found : (g : disk.Ghosts D) (pool : ℕ) (vdevs : List PlainVdev) (images : List (List ℕ)) (shapes : List VdevShape) (out : List Bool) (disks : List D)
+  -- the configuration that was found is the pool's, and so are the name and the guid
+  pub own_found : (g : disk.Ghosts D) (pool : PoolIdentity) (vdevs : List PlainVdev) (images : List (List ℕ)) (shapes : List VdevShape) (out : List Bool) (disks : List D)
       (order : List ℕ) (rewind : ℕ) (array : Disks) (its_shapes : List VdevShape) (its_out : List Bool) → AreDisksOf pool vdevs shapes out (fresh images)
       → AreReturned g images disks order → (ordered : AreInOrder g disks rewind array its_shapes its_out)
-      → AnswerTruly ordered.found.old ordered.found.new → config_view ordered.config ≡ vdevs
-  config_found g pool vdevs images shapes out disks order rewind array its_shapes its_out are returned ordered truly =
+      → AnswerTruly ordered.found.old ordered.found.new → (config_view ordered.config ≡ vdevs) × IsKnownAs pool ordered.found.layout.identity
+  own_found g pool vdevs images shapes out disks order rewind array its_shapes its_out are returned ordered truly =
       let found = ordered.found in
       let handed : List (List ℕ) = map g.start disks in
       let uncalled : AreUncalled handed found.old = uncalled_yet g images disks order found.old returned found.read.before in
       let laid = own_disks_are_ordered pool vdevs shapes out images handed order found.old found.new rewind found.layout are returned.handed_in uncalled truly found.laid_out in
-      ap config_view found.config_is ∙ laid.2
+      (ap config_view found.config_is ∙ laid.2, laid.3)
 
-  pub is_arranged : (g : disk.Ghosts D) (pool : ℕ) (vdevs : List PlainVdev) (images : List (List ℕ)) (shapes : List VdevShape) (out : List Bool) (disks : List D)
+  pub is_arranged : (g : disk.Ghosts D) (pool : PoolIdentity) (vdevs : List PlainVdev) (images : List (List ℕ)) (shapes : List VdevShape) (out : List Bool) (disks : List D)
       (order : List ℕ) (rewind : ℕ) (array : Disks) (its_shapes : List VdevShape) (its_out : List Bool) → AreDisksOf pool vdevs shapes out (fresh images)
       → AreReturned g images disks order → (ordered : AreInOrder g disks rewind array its_shapes its_out)
       → AnswerTruly ordered.found.old ordered.found.new → IsArranged images shapes out array its_shapes its_out

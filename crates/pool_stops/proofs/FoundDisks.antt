@@ -1,6 +1,6 @@
 -- A pool's own disks, handed in in any order, are found, and put in order.
 use Rattle.std.proofs.Common.{ℕ, ◌≡◌, inl, inr, ⊎_elim, ◌+◌, ◌<◌, ◌≤◌, Bool, true, false, List, [], ◌∷◌, length, map, slice_get, Option, Some, None, is_none, refl, sym, ap, subst, ◌∙◌, arith}
-use Rattle.std.specs.Prelude.{◌^◌, option_map}
+use Rattle.std.specs.Prelude.{◌^◌, option_map, string_bytes}
 use Rattle.std.proofs.lemmas.List.{length-map}
 use Rattle.std.proofs.lemmas.Option.{slice_get-map, slice_get_past, slice_get_within}
 use Rattle.model_disk.specs.Joint.{Disks, bytes_of}
@@ -29,6 +29,7 @@ use Rattle.pool_create.proofs.OpenOnce.{FoundList}
 use Rattle.pool_slots.specs.Configs.{of_config as of_plain_config}
 use Rattle.pool_slots.specs.Opens.{IsHighestShown}
 use Rattle.pool_slots.specs.Slots.{InUse}
+use Rattle.pool_format.specs.declared.labeling.PoolIdentity.{PoolIdentity}
 use Rattle.pool_stops.proofs.Holding.{get_in_use}
 use Rattle.pool_stops.specs.Found.{AreChildren, OwnDisksAreFound, OwnDisksAreOrdered, ShowHighest}
 use Rattle.pool_stops.specs.Own.{disk_guids}
@@ -40,7 +41,7 @@ use Rattle.pool_stops.proofs.Lists.{below_or, same_lists, same_some}
 
 -- ---- labels agree
 
-agrees : (pool : ℕ) (vdevs : List PlainVdev) (order : List ℕ) (d e : ℕ) (r q : Reading) → IsAllowed pool vdevs
+agrees : (pool : PoolIdentity) (vdevs : List PlainVdev) (order : List ℕ) (d e : ℕ) (r q : Reading) → IsAllowed pool.guid vdevs
     → ((child other place : ℕ) → slice_get order child ≡ Some place → slice_get order other ≡ Some place → child ≡ other)
     → ((l : Label) → r ≡ Valid l → IsOwnAt pool vdevs order d l) → ((m : Label) → q ≡ Valid m → IsOwnAt pool vdevs order e m) → Agree d r e q
 agrees pool vdevs order d e (Valid l) (Valid m) allowed once a b =
@@ -54,7 +55,7 @@ agrees pool vdevs order d e (Valid l) (Valid m) allowed once a b =
           ∙ sym y.own.guid_is;
       apart = λ is.
           let guid : x.guid ≡ y.guid = sym x.own.guid_is ∙ is ∙ y.own.guid_is in
-          let child : x.child ≡ y.child = one_disk pool vdevs x.child y.child y.guid allowed (x.named ∙ ap Some guid) y.named in
+          let child : x.child ≡ y.child = one_disk pool.guid vdevs x.child y.child y.guid allowed (x.named ∙ ap Some guid) y.named in
           same_some (slice_get order y.child) d e (ap (slice_get order) (sym child) ∙ x.at) y.at;
     }
 agrees pool vdevs order d e (Valid l) (Bad it) allowed once a b = tt
@@ -81,7 +82,7 @@ some_disk : (starts : List (List ℕ)) (shapes : List VdevShape) → 1 ≤ lengt
 some_disk starts [] some lie = absurd (omega (arith, some))
 some_disk starts (shape ∷ shapes) some lie = omega (arith, lie.1.there, shape.vdev.geometry.has_data)
 
-module _ {pool : ℕ} {vdevs : List PlainVdev} {shapes : List VdevShape} {out : List Bool} {images handed : List (List ℕ)} {order : List ℕ}
+module _ {pool : PoolIdentity} {vdevs : List PlainVdev} {shapes : List VdevShape} {out : List Bool} {images handed : List (List ℕ)} {order : List ℕ}
     {old new : Disks} {scan : Scan} where
   all_agree : IsHanded pool vdevs shapes out images handed order old new scan → AllAgree scan.labels.items
   all_agree it i j s t before at there =
@@ -103,7 +104,7 @@ module _ {pool : ℕ} {vdevs : List PlainVdev} {shapes : List VdevShape} {out : 
   member_is it which guid place sectors (Some q) named at allowed room member =
       let mine = own_at it member.i member.s member.l member.at.at member.at.valid in
       let same : mine.guid ≡ guid = sym mine.own.guid_is ∙ member.named in
-      let child : mine.child ≡ which = one_disk pool vdevs mine.child which guid it.are.allowed (mine.named ∙ ap Some same) named in
+      let child : mine.child ≡ which = one_disk pool.guid vdevs mine.child which guid it.are.allowed (mine.named ∙ ap Some same) named in
       ap Some (sym member.disk ∙ same_some (slice_get order which) member.s.disk place (ap (slice_get order) (sym child) ∙ mine.at) at)
   member_is it which guid place sectors None named at allowed room member =
       let shown = it.are.own.labeled which (omega (arith, slice_get_within order which place at, it.is.count)) in
@@ -222,7 +223,7 @@ module _ {pool : ℕ} {vdevs : List PlainVdev} {shapes : List VdevShape} {out : 
   fits it shows u top i s l at =
       let own = (own_at it i s l at.at at.valid).own in
       record {
-        allowed = subst (λ n. IsAllowed n (config_view l.config)) (sym own.pool_is) (subst (λ vs. IsAllowed pool vs) (sym own.config_is) it.are.allowed);
+        allowed = subst (λ n. IsAllowed n (config_view l.config)) (sym own.pool_is) (subst (λ vs. IsAllowed pool.guid vs) (sym own.config_is) it.are.allowed);
         sum = ap guid_sum own.config_is ∙ sym (shows.sum u top);
       }
 
@@ -267,7 +268,7 @@ own_disks_are_found pool vdevs shapes out images handed order old new refusal ar
     why
 
 -- the disks of children, in order
-ordered_as : (pool : ℕ) (vdevs : List PlainVdev) (shapes : List VdevShape) (out : List Bool) (images handed : List (List ℕ)) (order : List ℕ) (old new : Disks)
+ordered_as : (pool : PoolIdentity) (vdevs : List PlainVdev) (shapes : List VdevShape) (out : List Bool) (images handed : List (List ℕ)) (order : List ℕ) (old new : Disks)
     (scan : Scan) (members : FoundList) → IsHanded pool vdevs shapes out images handed order old new scan → AreAllMembers scan vdevs members
     → AreChildren order (all_children vdevs members)
 ordered_as pool vdevs shapes out images handed order old new scan members it are =
@@ -289,7 +290,8 @@ own_disks_are_ordered pool vdevs shapes out images handed order old new rewind l
     let it : IsHanded pool vdevs shapes out images handed order old new laid.scan =
     record { are = are; is = is; uncalled = uncalled; truly = truly; read = laid.read } in
     let c = laid.chosen.configured in
-    let same : config_view laid.chosen.l.config ≡ vdevs = config_of it laid.choice.source c.s laid.chosen.l c.source.at in
+    let own = (own_at it laid.choice.source c.s laid.chosen.l c.source.at.at c.source.at.valid).own in
+    let same : config_view laid.chosen.l.config ≡ vdevs = own.config_is in
     let members = subst (λ vs. AreAllMembers laid.scan vs laid.choice.members.items) same laid.chosen.members in
     let children : layout.children.items ≡ all_children vdevs laid.choice.members.items =
     laid.laid_out.children ∙ ap (λ vs. all_children vs laid.choice.members.items) same in (
@@ -297,4 +299,8 @@ own_disks_are_ordered pool vdevs shapes out images handed order old new rewind l
           (ordered_as pool vdevs shapes out images handed order old new laid.scan laid.choice.members.items it members),
       same_shapes vdevs 0 layout.shapes.items shapes (subst (λ vs. AreShapesOf vs 0 layout.shapes.items) same laid.laid_out.shapes) are.shapes_are,
       laid.laid_out.config ∙ same,
+      record {
+        name = ap (λ (x : PoolIdentity). string_bytes x.name) laid.identity ∙ own.name_is;
+        guid = ap (λ (x : PoolIdentity). x.guid) laid.identity ∙ own.pool_is;
+      },
     )

@@ -13,6 +13,7 @@ use Rattle.pool_model.specs.View.{View}
 use Rattle.pool_model.specs.declared.step.Step.{Step}
 use Rattle.pool_create.specs.OpenStops.{fresh}
 use Rattle.pool_slots.specs.Labels.{IsLabelShown, area_place}
+use Rattle.pool_format.specs.declared.labeling.PoolIdentity.{PoolIdentity}
 use Rattle.pool_stops.specs.Running.{IsWhole}
 use Rattle.pool_stops.proofs.Holding.{get_in_use}
 use Rattle.pool_stops.proofs.Labels.{label_held, label_left, off_plan, shown_once, writes_at_most}
@@ -20,7 +21,7 @@ use Rattle.pool_stops.specs.Own.{AreOwnDisks, IsOwn, disk_guids}
 use Rattle.pool_stops.specs.OwnRunning.{HoldOwn}
 
 -- all labels are held through a run that writes no byte of them
-pub all_own : (pool : ℕ) (vdevs : List PlainVdev) (may : ℕ → ℕ → List ℕ → Type 0) (old new : Disks) → Makes may old new
+pub all_own : (pool : PoolIdentity) (vdevs : List PlainVdev) (may : ℕ → ℕ → List ℕ → Type 0) (old new : Disks) → Makes may old new
     → ((which guid number : ℕ) → slice_get (disk_guids vdevs) which ≡ Some guid → number < 4 → (i : ℕ) → i < 114688
     → IsOff (may which) (area_place (length (bytes_of old.starts which)) number + i))
     → HoldOwn pool vdevs old.starts old.calls → EachSince (length old.calls) (HoldOwn pool vdevs old.starts) new.calls
@@ -29,7 +30,7 @@ all_own pool vdevs may old new makes off hold earlier moment which guid number n
     (it.0, label_held may old new which number it.0 makes (off which guid number named low) it.1 earlier moment, it.2)
 
 -- a step writes none
-pub steps_stay_own : (pool : ℕ) (vdevs : List PlainVdev) (step : Step) (old new : State) (v : View) → IsWhole old → Backs old v → Moves step old new
+pub steps_stay_own : (pool : PoolIdentity) (vdevs : List PlainVdev) (step : Step) (old new : State) (v : View) → IsWhole old → Backs old v → Moves step old new
     → length old.store.disks.starts ≡ length (disk_guids vdevs) → HoldOwn pool vdevs old.store.disks.starts old.store.disks.calls
     → EachSince (length old.store.disks.calls) (HoldOwn pool vdevs old.store.disks.starts) new.store.disks.calls
 steps_stay_own pool vdevs step old new v whole backs moves count hold = ⊎_elim
@@ -45,7 +46,7 @@ steps_stay_own pool vdevs step old new v whole backs moves count hold = ⊎_elim
 -- ---- what is left
 
 -- where all labels are held a stop leaves the pool's own disks
-pub own_is_left : (pool : ℕ) (vdevs : List PlainVdev) (starts : List (List ℕ)) (calls : List JointCall) (images : List (List ℕ))
+pub own_is_left : (pool : PoolIdentity) (vdevs : List PlainVdev) (starts : List (List ℕ)) (calls : List JointCall) (images : List (List ℕ))
     → length starts ≡ length (disk_guids vdevs) → HoldOwn pool vdevs starts calls → MayLeaveAll starts calls images → AreOwnDisks pool vdevs (fresh images)
 own_is_left pool vdevs starts calls images count hold left =
     let shown : (which guid number : ℕ) → (named : slice_get (disk_guids vdevs) which ≡ Some guid) → (low : number < 4)

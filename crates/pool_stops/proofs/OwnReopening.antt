@@ -30,6 +30,7 @@ use Rattle.pool_slots.specs.Marks.{IsUsedUp}
 use Rattle.pool_slots.specs.Labels.{IsLabelShown}
 use Rattle.pool_slots.specs.Opens.{IsHighestShown, IsRead, IsReadOn, IsShownOn, OpenGives}
 use Rattle.pool_slots.specs.Possible.{IsInReach, Leads, Possible}
+use Rattle.pool_format.specs.declared.labeling.PoolIdentity.{PoolIdentity}
 use Rattle.pool_stops.specs.OneConfig.{IsOpenedAs, OpenedPoolsRunAs, StoppedOpensAreOfConfig}
 use Rattle.pool_stops.specs.Reopening.{AreByGroup, IsPossibleBehind, LeavesImages}
 use Rattle.pool_stops.specs.Unhindered.{AnswerTruly, AreAllThere, HaveLeft, LeadToWholePools, UnhinderedOpensAreDone}
@@ -41,14 +42,14 @@ use Rattle.pool_stops.specs.Own.{AreDisksOf, IsLabeled, IsOwnDisk, disk_guids}
 use Rattle.pool_stops.specs.OwnReopening.{AreReturned, IsRefusedTruly, LeadToOwnPools, OwnPoolsOpenAgain, StoppedExportsLeadToOwnPools, StoppedOpensLeadToOwnPools, StoppedRunsLeadToOwnPools}
 use Rattle.pool_stops.specs.OwnRunning.{AreOfSum, IsOnItsDisks, OpenedPoolsAreOnTheirDisks, RunsStayOnTheirDisks}
 use Rattle.pool_stops.specs.Stopping.{AreLabelsUntorn, LedDisksAreBound, OwnDisksAreNotFour, StoppedExportsLeaveDisks, StoppedOpensAreOfSum, StoppedOpensLeaveDisks, StoppedRunsLeaveDisks}
-use Rattle.pool_stops.proofs.Arranging.{IsArranged, config_found, is_arranged, uncalled_yet}
+use Rattle.pool_stops.proofs.Arranging.{IsArranged, is_arranged, own_found, uncalled_yet}
 use Rattle.pool_stops.proofs.Steps.{used_below}
 use Rattle.pool_stops.proofs.FoundDisks.{own_disks_are_found}
 
 -- ---- what such disks show
 
 -- the highest uberblock that they show is one that an open may come to
-highest_reached : (pool : ℕ) (vdevs : List PlainVdev) (digest : List ℕ) (images : List (List ℕ)) (shapes : List VdevShape) (out : List Bool) (p : Possible)
+highest_reached : (pool : PoolIdentity) (vdevs : List PlainVdev) (digest : List ℕ) (images : List (List ℕ)) (shapes : List VdevShape) (out : List Bool) (p : Possible)
     (pools : Uberblock → PlainPool) → LeadToOwnPools pool vdevs digest images shapes out p pools → (u : Uberblock) → IsHighestShown out (fresh images) u
     → IsInReach p u
 highest_reached pool vdevs digest images shapes out p pools it u top =
@@ -59,7 +60,7 @@ highest_reached pool vdevs digest images shapes out p pools it u top =
     (λ possible. possible.0)
     (is_allowed trees out (fresh images) p u can top.shown)
 
-show_highest : (pool : ℕ) (vdevs : List PlainVdev) (digest : List ℕ) (images : List (List ℕ)) (shapes : List VdevShape) (out : List Bool) (p : Possible)
+show_highest : (pool : PoolIdentity) (vdevs : List PlainVdev) (digest : List ℕ) (images : List (List ℕ)) (shapes : List VdevShape) (out : List Bool) (p : Possible)
     (pools : Uberblock → PlainPool) → LeadToOwnPools pool vdevs digest images shapes out p pools → HaveLeft out (fresh images)
     → ShowHighest vdevs out (fresh images)
 show_highest pool vdevs digest images shapes out p pools it left = record {
@@ -116,7 +117,7 @@ module _ {images : List (List ℕ)} {shapes : List VdevShape} {out : List Bool} 
   all_there_so : IsArranged images shapes out array its_shapes its_out → AreAllThere images shapes out → AreAllThere array.starts shapes out
   all_there_so is there = subst (λ s. AreAllThere s shapes out) (sym is.starts) there
 
-  are_so : (pool : ℕ) (vdevs : List PlainVdev) → IsArranged images shapes out array its_shapes its_out → AreDisksOf pool vdevs shapes out (fresh images)
+  are_so : (pool : PoolIdentity) (vdevs : List PlainVdev) → IsArranged images shapes out array its_shapes its_out → AreDisksOf pool vdevs shapes out (fresh images)
       → AreDisksOf pool vdevs shapes out array
   are_so pool vdevs is are = record {
     allowed = are.allowed;
@@ -182,7 +183,7 @@ unopened_so law images shapes out p pools array its_shapes its_out refusal are l
     }))
 
 -- an open of them claims an uberblock that names the configuration of its core, if that is the pool's
-names_own : (pool : ℕ) (vdevs : List PlainVdev) (digest : List ℕ) (images : List (List ℕ)) (shapes : List VdevShape) (out : List Bool) (p : Possible)
+names_own : (pool : PoolIdentity) (vdevs : List PlainVdev) (digest : List ℕ) (images : List (List ℕ)) (shapes : List VdevShape) (out : List Bool) (p : Possible)
     (pools : Uberblock → PlainPool) (array : Disks) (rewind : ℕ) (claimed : Uberblock) (core : CoreState) → LeadToWholePools array shapes out p pools
     → AreDisksOf pool vdevs shapes out array → AreOfSum vdevs p → IsHonestSince array (disks_of core) → (is : IsOpenedOver array shapes out rewind claimed core)
     → is.later ≡ out → config_view (config_of core) ≡ vdevs → NamesConfigOf claimed core
@@ -201,7 +202,7 @@ names_own pool vdevs digest images shapes out p pools array rewind claimed core 
       digest = ap (λ (u : Uberblock). u.config_digest) claim.is ∙ sym shown.config ∙ ap (λ (them : List PlainVdev). sha256 (config_bytes them)) same;
     })
 
-opened_so : OpenedPoolsRunAs → OpenedPoolsAreOnTheirDisks → (pool : ℕ) (vdevs : List PlainVdev) (digest : List ℕ) (images : List (List ℕ))
+opened_so : OpenedPoolsRunAs → OpenedPoolsAreOnTheirDisks → (pool : PoolIdentity) (vdevs : List PlainVdev) (digest : List ℕ) (images : List (List ℕ))
     (shapes : List VdevShape) (out : List Bool) (p : Possible) (pools : Uberblock → PlainPool) (array : Disks) (its_shapes : List VdevShape)
     (its_out : List Bool) (rewind : ℕ) (claimed : Uberblock) (core : CoreState) → LeadToOwnPools pool vdevs digest images shapes out p pools
     → IsArranged images shapes out array its_shapes its_out → length images ≤ 2 ^ 64 → IsHonestSince array (disks_of core)
@@ -218,7 +219,7 @@ opened_so runs own pool vdevs digest images shapes out p pools array its_shapes 
       own pool vdevs array shapes out rewind p pools claimed core (are_so pool vdevs are it.are) it.sums led.led is all honest,
     ))
 
-stopped_so : StoppedOpensLeadToOwnPools → (pool : ℕ) (vdevs : List PlainVdev) (digest : List ℕ) (images : List (List ℕ)) (shapes : List VdevShape)
+stopped_so : StoppedOpensLeadToOwnPools → (pool : PoolIdentity) (vdevs : List PlainVdev) (digest : List ℕ) (images : List (List ℕ)) (shapes : List VdevShape)
     (out : List Bool) (p : Possible) (pools : Uberblock → PlainPool) (array new : Disks) (its_shapes : List VdevShape) (its_out : List Bool) (rewind : ℕ)
     (left : List (List ℕ)) → LeadToOwnPools pool vdevs digest images shapes out p pools → IsArranged images shapes out array its_shapes its_out → rewind < 3
     → AreByGroup pools → IsHonestSince array new → IsKeptThrough its_out rewind array new → (leaves : LeavesImages its_out array new left)
@@ -233,7 +234,7 @@ stopped_so law pool vdevs digest images shapes out p pools array new its_shapes 
     leaves untorn)
 
 module _ {D : Type 0} where
-  refused_so : UnhinderedOpensAreDone → (g : disk.Ghosts D) (pool : ℕ) (vdevs : List PlainVdev) (digest : List ℕ) (images : List (List ℕ))
+  refused_so : UnhinderedOpensAreDone → (g : disk.Ghosts D) (pool : PoolIdentity) (vdevs : List PlainVdev) (digest : List ℕ) (images : List (List ℕ))
       (shapes : List VdevShape) (out : List Bool) (p : Possible) (pools : Uberblock → PlainPool) (disks : List D) (order : List ℕ) (failed : NotOpened D)
       → LeadToOwnPools pool vdevs digest images shapes out p pools → AreReturned g images disks order → HaveLeft out (fresh images)
       → (why : OpenRefuses g disks 0 failed) → IsRefusedTruly g disks 0 failed why → refusal_of failed ≡ NoMemory
@@ -254,10 +255,11 @@ module _ {D : Type 0} where
         refused_so law g pool vdevs digest images shapes out p pools disks order failed it returned left why truly;
     done = λ disks order rewind claimed core returned is truly few.
         let once = undiminished_opens_claim_once is.array is.shapes is.out rewind claimed core is.opened truly.all in
-        opened_so runs own pool vdevs digest images shapes out p pools is.array is.shapes is.out rewind claimed core it
+        let found = own_found g pool vdevs images shapes out disks order rewind is.array is.shapes is.out it.are returned is.ordered truly.found in
+        let both = opened_so runs own pool vdevs digest images shapes out p pools is.array is.shapes is.out rewind claimed core it
         (is_arranged g pool vdevs images shapes out disks order rewind is.array is.shapes is.out it.are returned is.ordered truly.found) few truly.honest
-        (ap config_view is.configured ∙ config_found g pool vdevs images shapes out disks order rewind is.array is.shapes is.out it.are returned is.ordered truly.found)
-        once.0 once.1;
+        (ap config_view is.configured ∙ found.0) once.0 once.1 in
+        (both.0, both.1, found.1);
     stopped = λ disks order rewind array new its_shapes its_out left few by_group returned ordered truly kept honest leaves untorn.
         stopped_so stop pool vdevs digest images shapes out p pools array new its_shapes its_out rewind left it
         (is_arranged g pool vdevs images shapes out disks order rewind array its_shapes its_out it.are returned ordered truly) few by_group honest kept leaves untorn;

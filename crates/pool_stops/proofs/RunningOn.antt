@@ -49,7 +49,7 @@ abbrev has_sum : List PlainVdev → Uberblock → Type 0
 has_sum vdevs u = u.guid_sum ≡ guid_sum vdevs
 
 -- a plan's uberblock has the sum of the stamp
-planned_sum : (pool : ℕ) (vdevs : List PlainVdev) (digest : List ℕ) (old : CoreState) (v : View) (last : Uberblock) (before : List Uberblock)
+planned_sum : (pool : PoolIdentity) (vdevs : List PlainVdev) (digest : List ℕ) (old : CoreState) (v : View) (last : Uberblock) (before : List Uberblock)
     → IsRunningAs digest old v last before → IsOnItsDisks pool vdevs old last before → (plan : Planned) → old.commit.planned ≡ Some plan
     → has_sum vdevs plan.uberblock
 planned_sum pool vdevs digest old v last before so on plan is =
@@ -59,14 +59,14 @@ planned_sum pool vdevs digest old v last before so on plan is =
     ap (λ (u : Uberblock). u.guid_sum) has.uberblock.is ∙ on.stamped
 
 -- a step goes on so
-record GoesOn (pool : ℕ) (vdevs : List PlainVdev) (digest : List ℕ) (old : CoreState) (v : View) (new : CoreState) (w : View) (last : Uberblock)
+record GoesOn (pool : PoolIdentity) (vdevs : List PlainVdev) (digest : List ℕ) (old : CoreState) (v : View) (new : CoreState) (w : View) (last : Uberblock)
     (before : List Uberblock) : Type 0 where
   pub so : StepsAs digest old v new w last before
   pub held : EachSince (length (disks_of old).calls) (HoldOwn pool vdevs (disks_of old).starts) (disks_of new).calls
   pub sums : AreOfSum vdevs so.on.stops.p
   pub on : IsOnItsDisks pool vdevs new so.on.later so.on.earlier
 
-goes_on : RunningPoolsStepOn → StepsStayConfigured → (pool : ℕ) (vdevs : List PlainVdev) (digest : List ℕ) (old new : CoreState) (v w : View)
+goes_on : RunningPoolsStepOn → StepsStayConfigured → (pool : PoolIdentity) (vdevs : List PlainVdev) (digest : List ℕ) (old new : CoreState) (v w : View)
     (step : Step) (given : Given) (reply : Reply) (last : Uberblock) (before : List Uberblock) → IsRunningAs digest old v last before
     → IsOnItsDisks pool vdevs old last before → Link old v step given reply new w → Moves step old.commit new.commit → NoneIsOut new.commit
     → GoesOn pool vdevs digest old v new w last before
@@ -91,13 +91,13 @@ goes_on law stay pool vdevs digest old new v w step given reply last before so o
 
 -- ---- runs
 
-record RunsOn (pool : ℕ) (vdevs : List PlainVdev) (digest : List ℕ) (core : CoreState) (v : View) : Type 0 where
+record RunsOn (pool : PoolIdentity) (vdevs : List PlainVdev) (digest : List ℕ) (core : CoreState) (v : View) : Type 0 where
   pub last : Uberblock
   pub before : List Uberblock
   pub so : IsRunningAs digest core v last before
   pub on : IsOnItsDisks pool vdevs core last before
 
-chain_on : RunningPoolsStepOn → StepsStayConfigured → (pool : ℕ) (vdevs : List PlainVdev) (digest : List ℕ) (old : CoreState) (v : View) (steps : List Step)
+chain_on : RunningPoolsStepOn → StepsStayConfigured → (pool : PoolIdentity) (vdevs : List PlainVdev) (digest : List ℕ) (old : CoreState) (v : View) (steps : List Step)
     (givens : List Given) (replies : List Reply) (mid : CoreState) (between : View) (last : Uberblock) (before : List Uberblock)
     → IsRunningAs digest old v last before → IsOnItsDisks pool vdevs old last before → Chain old v steps givens replies mid between → NoneIsOut mid.commit
     → RunsOn pool vdevs digest mid between
@@ -148,7 +148,7 @@ guids_of pool config (v ∷ vdevs) =
 record IsNewLabel (pool : PoolIdentity) (config : Config) (which guid : ℕ) : Type 0 where
   pub label : PlainLabel
   pub at : slice_get (map (label_of pool config 1 3) (children_of (config_view config))) which ≡ Some label
-  pub own : IsOwn pool.guid (config_view config) guid label
+  pub own : IsOwn pool (config_view config) guid label
 
 new_label : (pool : PoolIdentity) (config : Config) (which guid : ℕ) → slice_get (disk_guids (config_view config)) which ≡ Some guid → IsNewLabel pool config which guid
 new_label pool config which guid named =
@@ -167,7 +167,7 @@ new_label pool config which guid named =
     let both : Some label.guid ≡ Some guid =
     sym (slice_get-map guid_in (map (label_of pool config 1 3) (children_of vdevs)) which ∙ ap (option_map guid_in) child.1) ∙ named' in
     let same : label.guid ≡ guid = cc in
-    record { label = label; at = child.1; own = record { pool_is = refl; guid_is = same; config_is = refl } }
+    record { label = label; at = child.1; own = record { name_is = refl; pool_is = refl; guid_is = same; config_is = refl } }
 
 pub created_pools_are_on_their_disks : CreatedPoolsAreOnTheirDisks
 created_pools_are_on_their_disks old pool config u core is =
@@ -215,7 +215,7 @@ opened_pools_are_on_their_disks pool vdevs old shapes out rewind p pools claimed
           let own = label_for_own pool vdevs is.later old claimed which guid it.it.source it.source.own it.label flags are.own named it.source.shown it.source.from in (
             relabeled it.label claimed.claim claimed.group Active,
             record { shown = it.each number low; clean = λ i inside. at.settled which used _ },
-            record { pool_is = own.pool_is; guid_is = own.guid_is; config_is = own.config_is },
+            record { name_is = own.name_is; pool_is = own.pool_is; guid_is = own.guid_is; config_is = own.config_is },
           );
       stamped = ap (λ st. st.guid_sum) is.stamped ∙ sum;
       sums = λ w reach. ap (λ (x : Uberblock). x.guid_sum) (alone claimed w reach) ∙ sum;

@@ -30,6 +30,7 @@ use Rattle.pool_create.specs.OpenStops.{fresh}
 use Rattle.pool_create.proofs.OpenOnce.{Differ, pairs_append, pairs_back, pairs_cross, pairs_front, pairs_none, pairs_tail, there_later}
 use Rattle.pool_slots.specs.Labels.{IsLabelShown, area_place}
 use Rattle.pool_slots.specs.Opens.{IsKnown, IsRead, IsReadOn, IsShownOn}
+use Rattle.pool_format.specs.declared.labeling.PoolIdentity.{PoolIdentity}
 use Rattle.pool_stops.proofs.Holding.{get_in_use}
 use Rattle.pool_stops.specs.Unhindered.{AnswerTruly}
 use Rattle.pool_stops.specs.Handed.{AreHandedIn, AreUncalled}
@@ -112,7 +113,7 @@ has_places starts (suc n) disk number below allowed low =
 -- ---- what was read of labels
 
 -- the disks that were handed in were scanned, truly
-pub record IsHanded (pool : ℕ) (vdevs : List PlainVdev) (shapes : List VdevShape) (out : List Bool) (images handed : List (List ℕ)) (order : List ℕ)
+pub record IsHanded (pool : PoolIdentity) (vdevs : List PlainVdev) (shapes : List VdevShape) (out : List Bool) (images handed : List (List ℕ)) (order : List ℕ)
     (old new : Disks) (scan : Scan) : Type 0 where
   pub are : AreDisksOf pool vdevs shapes out (fresh images)
   pub is : AreHandedIn images handed order
@@ -130,14 +131,14 @@ read_case old new disk number l Unreadable truly sound says shown =
     absurd (truly.none_failed disk (made_failed old new disk (FailedRead (area_place (length (bytes_of old.starts disk)) number) 114688) sound refl))
 
 -- a label that says it is of the disk that is its pool's
-pub record IsOwnAt (pool : ℕ) (vdevs : List PlainVdev) (order : List ℕ) (place : ℕ) (label : Label) : Type 0 where
+pub record IsOwnAt (pool : PoolIdentity) (vdevs : List PlainVdev) (order : List ℕ) (place : ℕ) (label : Label) : Type 0 where
   pub child : ℕ
   pub at : slice_get order child ≡ Some place
   pub guid : ℕ
   pub named : slice_get (disk_guids vdevs) child ≡ Some guid
   pub own : IsOwn pool vdevs guid (label_view label)
 
-module _ {pool : ℕ} {vdevs : List PlainVdev} {shapes : List VdevShape} {out : List Bool} {images handed : List (List ℕ)} {order : List ℕ}
+module _ {pool : PoolIdentity} {vdevs : List PlainVdev} {shapes : List VdevShape} {out : List Bool} {images handed : List (List ℕ)} {order : List ℕ}
     {old new : Disks} {scan : Scan} where
   pub allowed_of : IsHanded pool vdevs shapes out images handed order old new scan → (child : ℕ) → child < length images → IsAllowedSize (size_of images child)
   allowed_of it child below = allowed_from images 0 shapes child it.are.there.may.lie (omega arith) below

@@ -31,6 +31,7 @@ use Rattle.pool_slots.specs.Writes.{in_use}
 use Rattle.pool_slots.proofs.LabelAreas.{area_len, same_areas}
 use Rattle.pool_slots.proofs.Places.{apart_covers, labels_apart, length-spelled}
 use Rattle.pool_slots.proofs.LabelPlans.{label_for_valid, relabeled_valid}
+use Rattle.pool_format.specs.declared.labeling.PoolIdentity.{PoolIdentity}
 use Rattle.pool_stops.specs.Configured.{ExportsStayConfigured, OpensStayConfigured, ShowsConfigured}
 use Rattle.pool_stops.specs.Running.{IsBetween, StandAt}
 use Rattle.pool_stops.proofs.Holding.{get_in_use}
@@ -86,13 +87,13 @@ whole_in size n m at bytes room low low' place len = ⊎_elim
 -- ---- what is left where own labels were written
 
 -- what is written in a label's area is the whole area of one of the disk's own
-pub record WritesOwn (pool : ℕ) (vdevs : List PlainVdev) (may : ℕ → ℕ → List ℕ → Type 0) (disks : Disks) : Type 0 where
+pub record WritesOwn (pool : PoolIdentity) (vdevs : List PlainVdev) (may : ℕ → ℕ → List ℕ → Type 0) (disks : Disks) : Type 0 where
   pub whole : (which number : ℕ) → which < length disks.starts → number < 4
       → IsWholeIn (may which) (area_place (length (bytes_of disks.starts which)) number) 114688
   pub own : (which guid number : ℕ) (l : PlainLabel) → slice_get (disk_guids vdevs) which ≡ Some guid → number < 4 → IsValid l
       → may which (area_place (length (bytes_of disks.starts which)) number) (inscribed l) → IsOwn pool vdevs guid l
 
-pub own_images : (pool : ℕ) (vdevs : List PlainVdev) (may : ℕ → ℕ → List ℕ → Type 0) (old new : Disks) (calls : List JointCall) (images : List (List ℕ))
+pub own_images : (pool : PoolIdentity) (vdevs : List PlainVdev) (may : ℕ → ℕ → List ℕ → Type 0) (old new : Disks) (calls : List JointCall) (images : List (List ℕ))
     → Makes may old new → IsMoment (length old.calls) new.calls calls → MayLeaveAll old.starts calls images → AreLabelsUntorn old.starts calls images
     → AreOwnDisks pool vdevs old → ((which : ℕ) → which < length old.starts → IsSettled (calls_on which old.calls)) → WritesOwn pool vdevs may old
     → ((which : ℕ) → which < length images → IsLabeled (length (bytes_of images which)) (content (fresh images) which))
@@ -118,22 +119,22 @@ own_images pool vdevs may old new calls images makes moment left untorn are sett
 }
 
 -- of reads none is written
-none_writes_own : (pool : ℕ) (vdevs : List PlainVdev) (disks : Disks) → WritesOwn pool vdevs no_write disks
+none_writes_own : (pool : PoolIdentity) (vdevs : List PlainVdev) (disks : Disks) → WritesOwn pool vdevs no_write disks
 none_writes_own pool vdevs disks = record {
   whole = λ which number below low at bytes write. absurd write;
   own = λ which guid number l named low valid write. absurd write;
 }
 
 -- a label of the disk, for another claim, group and state, is its own
-relabeled_own : (pool : ℕ) (vdevs : List PlainVdev) (guid : ℕ) (l m : PlainLabel) (claim group : ℕ) (state : LabelState) → l ≡ relabeled m claim group state
+relabeled_own : (pool : PoolIdentity) (vdevs : List PlainVdev) (guid : ℕ) (l m : PlainLabel) (claim group : ℕ) (state : LabelState) → l ≡ relabeled m claim group state
     → IsOwn pool vdevs guid m → IsOwn pool vdevs guid l
 relabeled_own pool vdevs guid l m claim group state is own =
-    subst (λ x. IsOwn pool vdevs guid x) (sym is) (record { pool_is = own.pool_is; guid_is = own.guid_is; config_is = own.config_is })
+    subst (λ x. IsOwn pool vdevs guid x) (sym is) (record { name_is = own.name_is; pool_is = own.pool_is; guid_is = own.guid_is; config_is = own.config_is })
 
 -- ---- opens
 
 -- so is what a claim makes a disk's labels of
-pub label_for_own : {K : Type 0} (pool : ℕ) (vdevs : List PlainVdev) (out : List Bool) (old : Disks) (u : Uberblock) (which guid source : ℕ) (of_disk l : PlainLabel)
+pub label_for_own : {K : Type 0} (pool : PoolIdentity) (vdevs : List PlainVdev) (out : List Bool) (old : Disks) (u : Uberblock) (which guid source : ℕ) (of_disk l : PlainLabel)
     → ((disk : ℕ) → InUse out disk → disk < length old.starts) → AreOwnDisks pool vdevs old → slice_get (disk_guids vdevs) which ≡ Some guid
     → IsLabelShown (length (bytes_of old.starts which)) (content old which) source of_disk → (K × (l ≡ of_disk)) ⊎ IsTakenOver out old u which of_disk l → IsOwn pool vdevs guid l
 label_for_own pool vdevs out old u which guid source of_disk l there are named shown from =
@@ -144,10 +145,10 @@ label_for_own pool vdevs out old u which guid source of_disk l there are named s
     (λ taken.
     let other = slice_get_some (disk_guids vdevs) taken.other (omega (arith, there taken.other taken.used, are.count)) in
     let theirs = are.each taken.other other.0 other.1 taken.number taken.given taken.shown in
-    subst O (sym taken.is) (record { pool_is = theirs.pool_is; guid_is = own.guid_is; config_is = theirs.config_is }))
+    subst O (sym taken.is) (record { name_is = theirs.name_is; pool_is = theirs.pool_is; guid_is = own.guid_is; config_is = theirs.config_is }))
     from
 
-rewrites_own : (pool : ℕ) (vdevs : List PlainVdev) (out : List Bool) (old : Disks) (u : Uberblock) → Fits u → ((disk : ℕ) → InUse out disk → disk < length old.starts)
+rewrites_own : (pool : PoolIdentity) (vdevs : List PlainVdev) (out : List Bool) (old : Disks) (u : Uberblock) → Fits u → ((disk : ℕ) → InUse out disk → disk < length old.starts)
     → ((which : ℕ) → which < length old.starts → 1048576 ≤ length (bytes_of old.starts which)) → AreOwnDisks pool vdevs old
     → WritesOwn pool vdevs (IsRewrite out old u) old
 rewrites_own pool vdevs out old u fits there room are = record {
@@ -234,7 +235,7 @@ stopped_opens_are_of_sum vdevs p later rewind sums (inr (u, claim, same)) =
 
 -- ---- exports
 
-taken_own : (pool : ℕ) (vdevs : List PlainVdev) (old : Disks) (u : Uberblock) → IsNumber u.claim → IsNumber u.group
+taken_own : (pool : PoolIdentity) (vdevs : List PlainVdev) (old : Disks) (u : Uberblock) → IsNumber u.claim → IsNumber u.group
     → ((which : ℕ) → which < length old.starts → 1048576 ≤ length (bytes_of old.starts which)) → AreOwnDisks pool vdevs old
     → WritesOwn pool vdevs (IsTakenWrite old u) old
 taken_own pool vdevs old u claim group room are = record {
@@ -248,7 +249,7 @@ taken_own pool vdevs old u claim group room are = record {
 }
 
 -- the disks of a core that runs on its own
-own_of : (pool : ℕ) (vdevs : List PlainVdev) (disks : Disks) → length disks.starts ≡ length (disk_guids vdevs) → HoldOwn pool vdevs disks.starts disks.calls
+own_of : (pool : PoolIdentity) (vdevs : List PlainVdev) (disks : Disks) → length disks.starts ≡ length (disk_guids vdevs) → HoldOwn pool vdevs disks.starts disks.calls
     → AreOwnDisks pool vdevs disks
 own_of pool vdevs disks count hold = record {
   count = count;

@@ -16,9 +16,10 @@ use Rattle.pool_slots.specs.Slots.{InUse}
 use Rattle.uberblock_ring.specs.declared.uberblock.Uberblock.{Uberblock}
 use Rattle.vdev_label.specs.Config.{guid_sum}
 use Rattle.vdev_label.specs.Plain.{PlainVdev, config_view}
+use Rattle.pool_format.specs.declared.labeling.PoolIdentity.{PoolIdentity}
 use Rattle.pool_stops.specs.Unhindered.{AnswerTruly, HaveLeft}
 use Rattle.pool_stops.specs.Handed.{AreHandedIn, AreUncalled}
-use Rattle.pool_stops.specs.Own.{AreDisksOf}
+use Rattle.pool_stops.specs.Own.{AreDisksOf, IsKnownAs}
 
 -- Each disk shows an uberblock, and of the highest of all it has the configuration in a label. The highest has the sum of the guids, and groups and
 -- claims are left behind it.
@@ -38,16 +39,17 @@ AreChildren order children = map (λ child. child.disk) children ≡ map Some or
 -- The finding of a pool on its own disks, in whatever order, is refused for want of memory alone.
 abbrev pub OwnDisksAreFound : Type 0
 OwnDisksAreFound =
-    (pool : ℕ) (vdevs : List PlainVdev) (shapes : List VdevShape) (out : List Bool) (images handed : List (List ℕ)) (order : List ℕ) (old new : Disks)
+    (pool : PoolIdentity) (vdevs : List PlainVdev) (shapes : List VdevShape) (out : List Bool) (images handed : List (List ℕ)) (order : List ℕ) (old new : Disks)
     (refusal : Refusal) → AreDisksOf pool vdevs shapes out (fresh images) → ShowHighest vdevs out (fresh images) → AreHandedIn images handed order
     → AreUncalled handed old → AnswerTruly old new → LayoutRefuses old new 0 refusal → refusal ≡ NoMemory
 
--- Where one is found, they are its children in order, its vdevs take them so, and it has the configuration.
+-- Where one is found, they are its children in order, its vdevs take them so, and it has the configuration, the name and the guid.
 abbrev pub OwnDisksAreOrdered : Type 0
 OwnDisksAreOrdered =
-    (pool : ℕ) (vdevs : List PlainVdev) (shapes : List VdevShape) (out : List Bool) (images handed : List (List ℕ)) (order : List ℕ) (old new : Disks)
+    (pool : PoolIdentity) (vdevs : List PlainVdev) (shapes : List VdevShape) (out : List Bool) (images handed : List (List ℕ)) (order : List ℕ) (old new : Disks)
     (rewind : ℕ) (layout : _) → AreDisksOf pool vdevs shapes out (fresh images) → AreHandedIn images handed order → AreUncalled handed old
     → AnswerTruly old new → IsLayoutOf old new rewind layout → AreChildren order layout.children.items × (layout.shapes.items ≡ shapes) × (config_view layout.config.value ≡ vdevs)
+    × IsKnownAs pool layout.identity
 
 -- Whatever the disks, where a pool is found on them its vdevs take them in order, and they have room for it: a store may be opened over them.
 abbrev pub FoundDisksMayBeOpened : {D : Type 0} → disk.Ghosts D → Type 0

@@ -23,17 +23,18 @@ use Rattle.pool_create.specs.OpenRefusal.TheVariants.{NoMemory}
 use Rattle.pool_slots.specs.Commits.{only_last}
 use Rattle.pool_slots.specs.Opens.{AreKnown}
 use Rattle.pool_slots.specs.Possible.{Possible}
+use Rattle.pool_format.specs.declared.labeling.PoolIdentity.{PoolIdentity}
 use Rattle.pool_stops.specs.OneConfig.{AreOfConfig, IsOpenedAs, IsRunningAs, RunStopsAs}
 use Rattle.pool_stops.specs.Reopening.{AreByGroup, IsPossibleBehind, LeavesImages}
 use Rattle.pool_stops.specs.Running.{IsLastStep, pool_of}
 use Rattle.pool_stops.specs.Unhindered.{AnswerTruly, HaveLeft, LeadToWholePools}
 use Rattle.pool_stops.specs.Handed.{AreHandedIn}
-use Rattle.pool_stops.specs.Own.{AreDisksOf}
+use Rattle.pool_stops.specs.Own.{AreDisksOf, IsKnownAs}
 use Rattle.pool_stops.specs.OwnRunning.{AreOfSum, IsOnItsDisks}
 use Rattle.pool_stops.specs.Stopping.{AreLabelsUntorn}
 
 -- Disks of a pool that lead to whole pools; what an open may come to has its configuration, and the sum of its guids.
-pub record LeadToOwnPools (pool : ℕ) (vdevs : List PlainVdev) (digest : List ℕ) (images : List (List ℕ)) (shapes : List VdevShape) (out : List Bool)
+pub record LeadToOwnPools (pool : PoolIdentity) (vdevs : List PlainVdev) (digest : List ℕ) (images : List (List ℕ)) (shapes : List VdevShape) (out : List Bool)
     (p : Possible) (pools : Uberblock → PlainPool) : Type 0 where
   pub are : AreDisksOf pool vdevs shapes out (fresh images)
   pub led : LeadToWholePools (fresh images) shapes out p pools
@@ -59,15 +60,16 @@ module _ {D : Type 0} where
     pub honest : IsHonestSince is.array (disks_of core)
 
   -- Whatever the order in which such disks are handed in: an open that doesn't go back is refused for want of memory alone; one that is done gives a core
-  -- of the pool of a possible group, or of one so many groups less, that runs on its own disks; and wherever one is stopped behind the finding of its
-  -- pool, which only reads, it leaves such disks again.
-  pub record OpenAgain (g : disk.Ghosts D) (pool : ℕ) (vdevs : List PlainVdev) (digest : List ℕ) (images : List (List ℕ)) (shapes : List VdevShape)
+  -- of the pool of a possible group, or of one so many groups less, that runs on its own disks, and is known by the pool's name and guid; and wherever one
+  -- is stopped behind the finding of its pool, which only reads, it leaves such disks again.
+  pub record OpenAgain (g : disk.Ghosts D) (pool : PoolIdentity) (vdevs : List PlainVdev) (digest : List ℕ) (images : List (List ℕ)) (shapes : List VdevShape)
       (out : List Bool) (p : Possible) (pools : Uberblock → PlainPool) : Type 0 where
     pub refused : (disks : List D) (order : List ℕ) (failed : NotOpened D) → AreReturned g images disks order → HaveLeft out (fresh images)
         → (why : OpenRefuses g disks 0 failed) → IsRefusedTruly g disks 0 failed why → refusal_of failed ≡ NoMemory
     pub done : (disks : List D) (order : List ℕ) (rewind : ℕ) (claimed : Uberblock) (core : CoreState) → AreReturned g images disks order
         → (is : IsOpened g disks rewind claimed core) → IsOpenedTruly is → length images ≤ 2 ^ 64
         → IsOpenedAs digest p pools shapes out rewind claimed core × IsOnItsDisks pool vdevs core claimed []
+        × IsKnownAs pool is.ordered.found.layout.identity
     pub stopped : (disks : List D) (order : List ℕ) (rewind : ℕ) (array new : Disks) (its_shapes : List VdevShape) (its_out : List Bool)
         (left : List (List ℕ)) → rewind < 3 → AreByGroup pools → AreReturned g images disks order
         → (ordered : AreInOrder g disks rewind array its_shapes its_out) → AnswerTruly ordered.found.old ordered.found.new
@@ -79,14 +81,14 @@ module _ {D : Type 0} where
 
   abbrev pub OwnPoolsOpenAgain : disk.Ghosts D → Type 0
   OwnPoolsOpenAgain g =
-      (pool : ℕ) (vdevs : List PlainVdev) (digest : List ℕ) (images : List (List ℕ)) (shapes : List VdevShape) (out : List Bool) (p : Possible)
+      (pool : PoolIdentity) (vdevs : List PlainVdev) (digest : List ℕ) (images : List (List ℕ)) (shapes : List VdevShape) (out : List Bool) (p : Possible)
       (pools : Uberblock → PlainPool) → LeadToOwnPools pool vdevs digest images shapes out p pools
       → OpenAgain g pool vdevs digest images shapes out p pools
 
 -- Wherever a run of a pool on its own disks is stopped, it leaves such disks,
 abbrev pub StoppedRunsLeadToOwnPools : Type 0
 StoppedRunsLeadToOwnPools =
-    (pool : ℕ) (vdevs : List PlainVdev) (old mid new : CoreState) (v between w : View) (steps : List Step) (replies : List Reply) (step : Step)
+    (pool : PoolIdentity) (vdevs : List PlainVdev) (old mid new : CoreState) (v between w : View) (steps : List Step) (replies : List Reply) (step : Step)
     (reply : Reply) (last : Uberblock) (before : List Uberblock) (digest : List ℕ) (images : List (List ℕ)) → IsRunningAs digest old v last before
     → IsOnItsDisks pool vdevs old last before → IsLastStep old mid new v between w steps replies step reply → NoneIsOut new.commit
     → LeavesImages mid.commit.store.out (disks_of mid) (disks_of new) images
@@ -96,7 +98,7 @@ StoppedRunsLeadToOwnPools =
 -- so it is wherever an open of such disks is stopped,
 abbrev pub StoppedOpensLeadToOwnPools : Type 0
 StoppedOpensLeadToOwnPools =
-    (pool : ℕ) (vdevs : List PlainVdev) (digest : List ℕ) (old new : Disks) (shapes : List VdevShape) (out : List Bool) (rewind : ℕ) (p : Possible)
+    (pool : PoolIdentity) (vdevs : List PlainVdev) (digest : List ℕ) (old new : Disks) (shapes : List VdevShape) (out : List Bool) (rewind : ℕ) (p : Possible)
     (pools : Uberblock → PlainPool) (images : List (List ℕ)) → rewind < 3 → AreByGroup pools → AreDisksOf pool vdevs shapes out old
     → LeadToWholePools old shapes out p pools → AreOfConfig digest p → AreOfSum vdevs p → IsKeptThrough out rewind old new → IsHonestSince old new → (leaves : LeavesImages out old new images)
     → AreLabelsUntorn old.starts leaves.calls images
@@ -105,7 +107,7 @@ StoppedOpensLeadToOwnPools =
 -- and wherever an export is stopped, and once it is done.
 abbrev pub StoppedExportsLeadToOwnPools : Type 0
 StoppedExportsLeadToOwnPools =
-    (pool : ℕ) (vdevs : List PlainVdev) (digest : List ℕ) (core : CoreState) (v : View) (last : Uberblock) (before : List Uberblock)
+    (pool : PoolIdentity) (vdevs : List PlainVdev) (digest : List ℕ) (core : CoreState) (v : View) (last : Uberblock) (before : List Uberblock)
     (exported : Uberblock) (new : Disks) (images : List (List ℕ)) → IsRunningAs digest core v last before → IsOnItsDisks pool vdevs core last before
     → IsExportBegun core exported new → AreKnown core.commit.store.out (disks_of core) → IsHonestSince (disks_of core) new
     → (leaves : LeavesImages core.commit.store.out (disks_of core) new images) → AreLabelsUntorn (disks_of core).starts leaves.calls images

@@ -29,7 +29,7 @@ use Rattle.pool_stops.specs.Running.{IsLastStep}
 use Rattle.pool_stops.specs.Own.{AreDisksOf, IsOwn, disk_guids}
 
 -- each label of each disk of the pool holds one of its own, flushed
-abbrev pub HoldOwn : ℕ → List PlainVdev → List (List ℕ) → List JointCall → Type 0
+abbrev pub HoldOwn : PoolIdentity → List PlainVdev → List (List ℕ) → List JointCall → Type 0
 HoldOwn pool vdevs starts calls =
     (which guid number : ℕ) → slice_get (disk_guids vdevs) which ≡ Some guid → number < 4
     → (l : PlainLabel) × IsFlushedLabel starts calls which number l × IsOwn pool vdevs guid l
@@ -38,9 +38,9 @@ HoldOwn pool vdevs starts calls =
 abbrev pub AreOfSum : List PlainVdev → Possible → Type 0
 AreOfSum vdevs p = (u : Uberblock) → IsInReach p u → u.guid_sum ≡ guid_sum vdevs
 
--- A core runs on the disks of a pool with this guid and configuration, in order, with the committed group's uberblock behind those.
-pub record IsOnItsDisks (pool : ℕ) (vdevs : List PlainVdev) (s : CoreState) (last : Uberblock) (before : List Uberblock) : Type 0 where
-  pub allowed : IsAllowed pool vdevs
+-- A core runs on the disks of a pool with this name, guid and configuration, in order, with the committed group's uberblock behind those.
+pub record IsOnItsDisks (pool : PoolIdentity) (vdevs : List PlainVdev) (s : CoreState) (last : Uberblock) (before : List Uberblock) : Type 0 where
+  pub allowed : IsAllowed pool.guid vdevs
   pub shapes_are : AreShapesOf vdevs 0 (shapes_of s.commit.store.spaces)
   pub count : length (disks_of s).starts ≡ length (disk_guids vdevs)
   pub holds : HoldOwn pool vdevs (disks_of s).starts (disks_of s).calls
@@ -48,7 +48,7 @@ pub record IsOnItsDisks (pool : ℕ) (vdevs : List PlainVdev) (s : CoreState) (l
   pub sums : AreOfSum vdevs (only_last last before)
 
 -- The last step of a run that is stopped well is one of such a core, at each moment of it too; and the core runs on so.
-pub record StopsOnItsDisks (pool : ℕ) (vdevs : List PlainVdev) {digest : List ℕ} {mid : CoreState} {between : View} {new : CoreState} {w : View}
+pub record StopsOnItsDisks (pool : PoolIdentity) (vdevs : List PlainVdev) {digest : List ℕ} {mid : CoreState} {between : View} {new : CoreState} {w : View}
     (stops : RunStopsAs digest mid between new w) : Type 0 where
   pub was : IsOnItsDisks pool vdevs mid stops.at.last stops.at.earlier
   pub held : EachSince (length (disks_of mid).calls) (HoldOwn pool vdevs (disks_of mid).starts) (disks_of new).calls
@@ -61,12 +61,12 @@ pub record StopsOnItsDisks (pool : ℕ) (vdevs : List PlainVdev) {digest : List 
 abbrev pub CreatedPoolsAreOnTheirDisks : Type 0
 CreatedPoolsAreOnTheirDisks =
     (old : Disks) (pool : PoolIdentity) (config : Config) (u : Uberblock) (core : CoreState) → IsCreated old pool config u core
-    → IsOnItsDisks pool.guid (config_view config) core u []
+    → IsOnItsDisks pool (config_view config) core u []
 
 -- each step of a run of such a pool is one, as long as no disk is out by its end
 abbrev pub RunsStayOnTheirDisks : Type 0
 RunsStayOnTheirDisks =
-    (pool : ℕ) (vdevs : List PlainVdev) (old mid new : CoreState) (v between w : View) (steps : List Step) (replies : List Reply) (step : Step)
+    (pool : PoolIdentity) (vdevs : List PlainVdev) (old mid new : CoreState) (v between w : View) (steps : List Step) (replies : List Reply) (step : Step)
     (reply : Reply) (last : Uberblock) (before : List Uberblock) (digest : List ℕ) → IsRunningAs digest old v last before
     → IsOnItsDisks pool vdevs old last before → IsLastStep old mid new v between w steps replies step reply → NoneIsOut new.commit
     → (stops : RunStopsAs digest mid between new w) × StopsOnItsDisks pool vdevs stops
@@ -74,7 +74,7 @@ RunsStayOnTheirDisks =
 -- and so is one that was opened, of its own disks
 abbrev pub OpenedPoolsAreOnTheirDisks : Type 0
 OpenedPoolsAreOnTheirDisks =
-    (pool : ℕ) (vdevs : List PlainVdev) (old : Disks) (shapes : List VdevShape) (out : List Bool) (rewind : ℕ) (p : Possible)
+    (pool : PoolIdentity) (vdevs : List PlainVdev) (old : Disks) (shapes : List VdevShape) (out : List Bool) (rewind : ℕ) (p : Possible)
     (pools : Uberblock → PlainPool) (claimed : Uberblock) (core : CoreState) → AreDisksOf pool vdevs shapes out old → AreOfSum vdevs p
     → LeadToPools old shapes out p pools → (is : IsOpenedOver old shapes out rewind claimed core) → is.later ≡ out → IsHonestSince old (disks_of core)
     → IsOnItsDisks pool vdevs core claimed []

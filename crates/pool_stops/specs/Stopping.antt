@@ -17,6 +17,7 @@ use Rattle.pool_slots.specs.Configs.{AreNotFour, LeavesConfigured}
 use Rattle.pool_slots.specs.Labels.{IsValid, area_place, inscribed}
 use Rattle.pool_slots.specs.Opens.{AreKnown}
 use Rattle.pool_slots.specs.Possible.{Possible}
+use Rattle.pool_format.specs.declared.labeling.PoolIdentity.{PoolIdentity}
 use Rattle.pool_stops.specs.OneConfig.{AreOfConfig, IsRunningAs, RunStopsAs}
 use Rattle.pool_stops.specs.Reopening.{IsPossibleBehind, LeavesImages}
 use Rattle.pool_stops.specs.Unhindered.{AreAllThere, LeadToWholePools}
@@ -35,7 +36,7 @@ AreLabelsUntorn starts calls images =
 -- Own disks don't show four different configurations,
 abbrev pub OwnDisksAreNotFour : Type 0
 OwnDisksAreNotFour =
-    (pool : ℕ) (vdevs : List PlainVdev) (shapes : List VdevShape) (out : List Bool) (disks : Disks) → AreDisksOf pool vdevs shapes out disks
+    (pool : PoolIdentity) (vdevs : List PlainVdev) (shapes : List VdevShape) (out : List Bool) (disks : Disks) → AreDisksOf pool vdevs shapes out disks
     → AreNotFour out disks
 
 -- and disks that lead to whole pools are bound to show the configuration of what an open may come to.
@@ -48,7 +49,7 @@ LedDisksAreBound =
 -- A stop in the last step of a run leaves the pool's own disks.
 abbrev pub StoppedRunsLeaveDisks : Type 0
 StoppedRunsLeaveDisks =
-    (pool : ℕ) (vdevs : List PlainVdev) (digest : List ℕ) (mid : CoreState) (between : View) (new : CoreState) (w : View) (images : List (List ℕ))
+    (pool : PoolIdentity) (vdevs : List PlainVdev) (digest : List ℕ) (mid : CoreState) (between : View) (new : CoreState) (w : View) (images : List (List ℕ))
     → (stops : RunStopsAs digest mid between new w) → StopsOnItsDisks pool vdevs stops
     → LeavesImages mid.commit.store.out (disks_of mid) (disks_of new) images
     → AreDisksOf pool vdevs (shapes_of mid.commit.store.spaces) mid.commit.store.out (fresh images)
@@ -56,7 +57,7 @@ StoppedRunsLeaveDisks =
 -- So does one in an open of its own disks, if what it tears in labels doesn't read as one by chance.
 abbrev pub StoppedOpensLeaveDisks : Type 0
 StoppedOpensLeaveDisks =
-    (pool : ℕ) (vdevs : List PlainVdev) (digest : List ℕ) (old new : Disks) (shapes : List VdevShape) (out : List Bool) (rewind : ℕ) (p : Possible)
+    (pool : PoolIdentity) (vdevs : List PlainVdev) (digest : List ℕ) (old new : Disks) (shapes : List VdevShape) (out : List Bool) (rewind : ℕ) (p : Possible)
     (pools : Uberblock → PlainPool) (images : List (List ℕ)) → rewind < 3 → AreDisksOf pool vdevs shapes out old
     → LeadToWholePools old shapes out p pools → AreOfConfig digest p → IsKeptThrough out rewind old new → IsHonestSince old new
     → (leaves : LeavesImages out old new images) → AreLabelsUntorn old.starts leaves.calls images → AreDisksOf pool vdevs shapes out (fresh images)
@@ -69,7 +70,7 @@ StoppedOpensAreOfSum =
 -- And so does one in an export of a pool that runs on them, or one after it, where each byte was known.
 abbrev pub StoppedExportsLeaveDisks : Type 0
 StoppedExportsLeaveDisks =
-    (pool : ℕ) (vdevs : List PlainVdev) (digest : List ℕ) (core : CoreState) (v : View) (last : Uberblock) (before : List Uberblock)
+    (pool : PoolIdentity) (vdevs : List PlainVdev) (digest : List ℕ) (core : CoreState) (v : View) (last : Uberblock) (before : List Uberblock)
     (exported : Uberblock) (new : Disks) (images : List (List ℕ)) → IsRunningAs digest core v last before → IsOnItsDisks pool vdevs core last before
     → IsExportBegun core exported new → AreKnown core.commit.store.out (disks_of core) → IsHonestSince (disks_of core) new
     → (leaves : LeavesImages core.commit.store.out (disks_of core) new images) → AreLabelsUntorn (disks_of core).starts leaves.calls images

@@ -8,7 +8,7 @@ pub fn own_disks_are_found()
     ensures { OwnDisksAreFound }
 {}
 
-/// What is found are its disks in the order of its configuration.
+/// What is found are its disks in the order of its configuration, and its name and guid.
 pub fn own_disks_are_ordered()
     ensures { OwnDisksAreOrdered }
 {}

@@ -15,8 +15,8 @@ use crate::whole_pools::{
 use model_disk::Disk;
 
 /// **An open of a pool's own disks, handed in in any order**, is refused for want of memory alone, where all answers are true, no call fails, it doesn't go
-/// back, and groups and claims are left. One that is done gives a core of the pool of a possible group, or of one so many groups less, that runs on. And
-/// wherever one is stopped, it leaves disks that open again.
+/// back, and groups and claims are left. One that is done gives a core of the pool of a possible group, or of one so many groups less, that runs on, and
+/// tells the pool's name and guid. And wherever one is stopped, it leaves disks that open again.
 pub fn own_pools_open_again<D: Disk + Drop>()
     ensures { OwnPoolsOpenAgain D.Disk }
 {

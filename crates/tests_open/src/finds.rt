@@ -2,7 +2,7 @@
 use crate::pools::{NEVER, TestDisk, failing_at, pool_disks};
 use model_disk::{DiskArray, Fault, FaultDisk, MemDisk, Member};
 use pool_labels::Refusal;
-use pool_open::{FoundPool, NotOpened, find, into_disks, open};
+use pool_open::{FoundPool, NotOpened, OpenedFrom, find, into_disks, open};
 use std::alloc::{AllocError, Global};
 use std::test::*;
 
@@ -126,17 +126,20 @@ pub(crate) fn guids_of(alloc: Global, disks: Disks) -> Result<Vec<Option<u8>>, A
     Ok(guids)
 }
 
-/// The disks that come back of a pool that is opened, so many groups back, or of one that isn't.
+/// Whether a pool is opened, so many groups back, as the one with the name and the guid that it was made with; and the disks that come back.
 fn come_back(alloc: Global, rewind: u64) -> Result<(bool, Vec<Option<u8>>), Fail> {
     let disks = strange_among(alloc)?;
     let (is_opened, disks) = match open(alloc, disks, rewind.min(2)) {
-        Ok((pool, handed)) => (true, into_disks(pool, handed)),
+        Ok((pool, OpenedFrom { identity, handed })) => (
+            identity.name.as_str() == "pool" && identity.guid == 1,
+            into_disks(pool, handed),
+        ),
         Err(NotOpened::NotFound { disks, .. } | NotOpened::Refused { disks, .. }) => (false, disks),
     };
     Ok((is_opened, guids_of(alloc, disks)?))
 }
 
-/// All disks that are handed in come back, in that order, one that is no child's too.
+/// All disks that are handed in come back, in that order, one that is no child's too; and the pool has its name and guid.
 #[test]
 fn all_disks_come_back_in_order(rt: HostRuntime) -> Result<(), Fail> {
     for (rewind, opens) in [(0, true), (1, false)] {

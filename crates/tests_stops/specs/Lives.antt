@@ -21,6 +21,7 @@ use Rattle.pool_create.specs.OpenRefusal.{Refusal}
 use Rattle.pool_create.specs.OpenRefusal.TheVariants.{NoMemory}
 use Rattle.pool_slots.specs.Opens.{AreKnown}
 use Rattle.pool_slots.specs.Possible.{Possible}
+use Rattle.pool_format.specs.declared.labeling.PoolIdentity.{PoolIdentity}
 use Rattle.pool_stops.specs.OneConfig.{IsRunningAs}
 use Rattle.pool_stops.specs.Reopening.{IsOpenedWell, LeadToPools}
 use Rattle.pool_stops.specs.Unhindered.{AreAllThere, HaveLeft, IsUnhindered, LeadToWholePools}
@@ -59,6 +60,6 @@ FitsFound g disks (Refused refusal back) it = MayBeOpened it.array.starts it.sha
 pub record IsRefusedAgain {D : Type 0} (g : disk.Ghosts D) (disks : List D) (failed : NotOpened D) : Type 0 where
   pub why : OpenRefuses g disks 0 failed
   pub fits : FitsFound g disks failed why
-  pub memory : (pool : ℕ) (vdevs : List PlainVdev) (digest : List ℕ) (images : List (List ℕ)) (shapes : List VdevShape) (out : List Bool) (p : Possible)
+  pub memory : (pool : PoolIdentity) (vdevs : List PlainVdev) (digest : List ℕ) (images : List (List ℕ)) (shapes : List VdevShape) (out : List Bool) (p : Possible)
       (pools : Uberblock → PlainPool) (order : List ℕ) → LeadToOwnPools pool vdevs digest images shapes out p pools → AreReturned g images disks order
       → HaveLeft out (fresh images) → IsRefusedTruly g disks 0 failed why → refusal_of failed ≡ NoMemory

@@ -7,10 +7,10 @@ use crate::pools::{DISK_BYTES, config};
 use block_store::VdevShape;
 use model_disk::{Disk, DiskArray, MemDisk, Member};
 use pool_create::{
-    NotOpened, OpenedPool, Refusal, create_over, open, open_over, unfailing_opens_claim_once,
+    NotOpened, OpenedFrom, OpenedPool, Refusal, create_over, open, open_over,
+    unfailing_opens_claim_once,
 };
 use pool_format::PoolIdentity;
-use pool_members::HandedIn;
 use pool_stops::{
     created_pools_run_as, found_disks_may_be_opened, led_disks_open, own_pools_open_again,
     unhindered_opens_are_done,
@@ -60,7 +60,7 @@ fn reopened(
 fn opened_again<D: Disk + Drop>(
     alloc: Global,
     disks: Vec<D>,
-) -> Result<(OpenedPool<Member<D>>, HandedIn<D>), NotOpened<D>>
+) -> Result<(OpenedPool<Member<D>>, OpenedFrom<D>), NotOpened<D>>
     ensures { IfErr result (IsRefusedAgain D.Disk disks.items) }
 {
     own_pools_open_again::<D>();

@@ -51,6 +51,7 @@ returns-in-Ok-arrange-clause-found g c =
         arranged = subst Q c.deref.ensures.value c.in-Ok-arrange.ensures.arranged;
       };
       handed = subst H c.deref.ensures.value c.in-Ok-arrange.ensures.handed;
+      named = refl;
     }
 
 pub unreachable-requires : goal.unreachable-requires

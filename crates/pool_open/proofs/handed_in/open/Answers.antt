@@ -28,6 +28,7 @@ returns-in-Ok-open_over-clause-opened g c =
         configured = c.in-Ok-open_over.ensures.config;
       },
       refl,
+      c.in-Ok.ensures.found.named,
     )
 
 pub returns-in-Err-clause-refused : goal.returns-in-Err-clause-refused
