@@ -1,3 +1,4 @@
+pub mod Lengths
 pub mod Due
 pub mod Sessions
 pub mod Made

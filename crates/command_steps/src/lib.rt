@@ -3,6 +3,8 @@
 
 mod changing;
 mod laws;
+mod written;
 
 pub use changing::change;
 pub use laws::opened_pools_are_at_rest;
+pub use written::written_len;

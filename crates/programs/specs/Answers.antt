@@ -14,7 +14,7 @@ use Rattle.schedule_lines.specs.declared.command.CreateLine.{CreateLine}
 use Rattle.schedule_lines.specs.declared.command.SnapshotLine.{SnapshotLine}
 use Rattle.schedule_lines.specs.declared.command.CloneLine.{CloneLine}
 use Rattle.schedule_lines.specs.declared.command.DestroyLine.{DestroyLine}
-use Rattle.programs.specs.Lengths.{StandsFor}
+use Rattle.command_steps.specs.Lengths.{StandsFor}
 
 -- the write of n bytes that a line asks for
 abbrev pub write_of : WriteLine → ℕ → Write

@@ -2,7 +2,6 @@ pub mod Answers
 pub mod ClaimStops
 pub mod DisksKept
 pub mod Faults
-pub mod Lengths
 pub mod Making
 pub mod OnDisks
 pub mod Outcomes

@@ -2,10 +2,10 @@
 ghost use Rattle.std.specs.Prelude.{◌≡◌, ℕ, MatchOption, IfOk, OnErr};
 ghost use Rattle.pool_model.specs.declared.step.Step.TheVariants as step;
 ghost use Rattle.programs.specs.Answers.{Answers, Begins, IsNoStep, RunsOn, action_of, clone_by, destroy_by, next_of, runs_on, snapshot_by, write_of};
-ghost use Rattle.programs.specs.Lengths.{StandsFor};
+ghost use Rattle.command_steps.specs.Lengths.{StandsFor};
 
 use crate::machine::StepMachine;
-use crate::written::written_len;
+use command_steps::written_len;
 use pool_model::{Action, Bytes, Change, Reply, Step, Write};
 use schedule_lines::{
     CloneLine, Command, CreateLine, DestroyLine, ReadLine, SnapshotLine, UnderLine, WriteLine,

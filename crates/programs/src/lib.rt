@@ -16,8 +16,8 @@ mod running;
 mod schedule_pool;
 mod status;
 mod stopping;
-mod written;
 
+pub use command_steps::written_len;
 pub use commands::{answer, first_step, next_step};
 pub use disk_pool::schedules_are_runs;
 pub use lines::Lines;
@@ -29,4 +29,3 @@ pub use refusal::Refusal;
 pub use running::schedule;
 pub use schedule_pool::SchedulePool;
 pub use status::ExitStatus;
-pub use written::written_len;

@@ -1,6 +1,6 @@
 //! Lengths of writes.
 ghost use Rattle.std.specs.Prelude.{◌+◌, ◌<◌, ◌^◌};
-ghost use Rattle.programs.specs.Lengths.{StandsFor};
+ghost use Rattle.command_steps.specs.Lengths.{StandsFor};
 
 /// The most bytes that one write may have: 1 MiB.
 const MOST_BYTES: u64 = 1 << 20;
