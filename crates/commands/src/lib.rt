@@ -1,0 +1,17 @@
+//! The command lines of `zpool` and `zfs`, run against pools: a line opens (and so claims) the pool on its files, takes its
+//! steps, commits, and prints.
+#![tactic(auto)]
+
+mod changing;
+mod input;
+mod performing;
+mod pools;
+mod running;
+mod status;
+mod stop;
+mod telling;
+
+pub use pools::Pools;
+pub use running::command;
+pub use status::ExitStatus;
+pub use stop::Stop;
