@@ -1,0 +1,4 @@
+pub mod Asking
+pub mod Guids
+pub mod Opening
+pub mod Telling

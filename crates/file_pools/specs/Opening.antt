@@ -1,0 +1,75 @@
+-- Pools in files. What a file held at first no clause knows, so that this tells of some disks how a pool on them was opened, made or put away.
+use Rattle.std.specs.Prelude.{◌≡◌, ◌⊎◌, List, string_bytes}
+use Rattle.block_store.specs.Config.{IsAllowedSize}
+use Rattle.model_disk.specs.contracts.file.FileDiskDisk.TheImpl.{ghosts}
+use Rattle.model_disk.specs.declared.disk.Disk as disk
+use Rattle.model_disk.specs.declared.file.FileDisk.{FileDisk}
+use Rattle.model_disk.specs.declared.member.Member.{Member}
+use Rattle.pool_command.specs.declared.command.NewPool.{NewPool}
+use Rattle.pool_create.specs.CoreState.{CoreState}
+use Rattle.pool_create.specs.Creates.{CreateRefusesOn, IsCreatedOn}
+use Rattle.pool_create.specs.NotOpened.{NotOpened}
+use Rattle.pool_create.specs.OpenExporting.{IsGivenBack, IsPutAway as IsExported, RefusesExport}
+use Rattle.pool_create.specs.OpenRefusal.{Refusal as Cause}
+use Rattle.pool_create.specs.OpenRefusal.TheVariants.{NoMemory, BadConfig}
+use Rattle.pool_create.specs.OpenedFrom.{OpenedFrom}
+use Rattle.pool_create.specs.Opens.{IsOpenedOn, OpenRefuses, refusal_of}
+use Rattle.pool_create.specs.PoolIdentity.{PoolIdentity}
+use Rattle.uberblock_ring.specs.declared.uberblock.Uberblock.{Uberblock}
+use Rattle.vdev_label.specs.declared.label.Config.{Config}
+use Rattle.file_pools.specs.Asking.{IsAskedFor}
+use Rattle.file_pools.specs.declared.pool.PoolFront.{PoolFront}
+use Rattle.file_pools.specs.declared.refusal.Refusal.{Refusal}
+use Rattle.file_pools.specs.declared.refusal.Refusal.TheVariants as refusal
+
+-- the pool was opened, without going back, and goes by the name that its labels have
+pub record IsOpenedPool (core : CoreState) (front : PoolFront) : Type 0 where
+  pub disks : List FileDisk
+  pub from : OpenedFrom FileDisk
+  pub opened : IsOpenedOn ghosts disks 0 front.uberblock core from
+  pub name : front.name ≡ from.identity.name
+  pub absent : front.absent.items ≡ core.commit.store.out
+
+-- it was refused; or memory ran out
+abbrev pub IsRefusedOpen : Cause → Type 0
+IsRefusedOpen cause = (cause ≡ NoMemory) ⊎ ((disks : List FileDisk) × (failed : NotOpened FileDisk) × OpenRefuses ghosts disks 0 failed × (cause ≡ refusal_of failed))
+
+-- another command has a file; or the pool is refused
+abbrev pub IsNotOpened : Refusal → Type 0
+IsNotOpened refusal.Busy = Unit {0}
+IsNotOpened (refusal.Pool cause) = IsRefusedOpen cause
+IsNotOpened other = ⊥
+
+-- the pool that the line asks for was made
+pub record IsMadePool (pool : NewPool) : Type 0 where
+  pub disks : List FileDisk
+  pub identity : PoolIdentity
+  pub config : Config
+  pub asked : IsAskedFor pool identity config
+  pub first : Uberblock
+  pub core : CoreState
+  pub made : IsCreatedOn ghosts disks identity config first core
+
+-- the pool that the line asks for was refused on the new files
+pub record IsRefusedNew (pool : NewPool) (cause : Cause) : Type 0 where
+  pub disks : List FileDisk
+  pub identity : PoolIdentity
+  pub config : Config
+  pub asked : IsAskedFor pool identity config
+  pub back : List FileDisk
+  pub refused : CreateRefusesOn ghosts disks identity config back cause
+
+-- a file can't be made; or memory ran out; or the line asks for what no pool has; or the pool is refused
+abbrev pub IsNotMade : NewPool → Refusal → Type 0
+IsNotMade pool refusal.NotMade = Unit {0}
+IsNotMade pool (refusal.Pool cause) = (cause ≡ NoMemory) ⊎ (cause ≡ BadConfig) ⊎ IsRefusedNew pool cause
+IsNotMade pool other = ⊥
+
+-- the pool's labels say that it is put away
+abbrev pub IsPutAway : disk.Ghosts (Member FileDisk) → CoreState → Type 0
+IsPutAway g core = (disks : List (Member FileDisk)) × IsExported g core disks
+
+-- it can't be put away now; or it was stopped
+abbrev pub IsNotPutAway : disk.Ghosts (Member FileDisk) → CoreState → Refusal → Type 0
+IsNotPutAway g core (refusal.Export cause) = RefusesExport core cause ⊎ ((disks : List (Member FileDisk)) × IsGivenBack g core cause disks)
+IsNotPutAway g core other = ⊥

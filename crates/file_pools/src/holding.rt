@@ -1,0 +1,93 @@
+//! Disks in files that no other command has.
+ghost use Rattle.std.specs.Prelude.{IfErr};
+ghost use Rattle.file_pools.specs.Opening.{IsNotMade, IsNotOpened};
+
+use crate::refusal::Refusal;
+use model_disk::FileDisk;
+use pool_command::{Files as Paths, NewPool};
+use std::alloc::Global;
+use std::fs::{self, File, Files, TryLockError};
+
+/// Disks in files, and what keeps other commands from them until it is dropped.
+#[derive(Drop)]
+pub(crate) struct HeldDisks {
+    pub(crate) disks: Vec<FileDisk>,
+    pub(crate) locks: Vec<File>,
+}
+
+/// Locks the file at this path: none where it can't be opened or locked. `Busy` where another command has it.
+fn lock<F: Files<File = File>>(files: &F, path: &str) -> Result<Option<File>, Refusal>
+    ensures { IfErr result IsNotOpened }
+{
+    let Ok(file) = File::open(files, path) else {
+        return Ok(None);
+    };
+    match file.try_lock() {
+        Ok(()) => Ok(Some(file)),
+        Err(TryLockError::WouldBlock) => Err(Refusal::Busy),
+        Err(TryLockError::Error(_)) => Ok(None),
+    }
+}
+
+/// Whether the path is one of these.
+fn is_among(path: &str, paths: &[String]) -> bool {
+    paths.iter().any(|other| other.as_str() == path)
+}
+
+/// The disks in those files that can be opened, in their order. `Busy` where another command has one. A path that stands twice is
+/// locked once, and gives two disks.
+pub(crate) fn hold<F: Files<File = File>>(
+    alloc: Global,
+    files: &F,
+    paths: &Paths,
+) -> Result<HeldDisks, Refusal>
+    ensures { IfErr result IsNotOpened }
+{
+    let mut disks = Vec::new(alloc);
+    let mut locks = Vec::new(alloc);
+    let paths = paths.as_slice();
+    for i in 0..paths.len() {
+        let path = paths[i].as_str();
+        if !is_among(path, &paths[..i]) {
+            let Some(file) = lock(files, path)? else {
+                continue;
+            };
+            locks.push(file)?;
+        }
+        if let Ok(disk) = FileDisk::open(files, path) {
+            disks.push(disk)?;
+        }
+    }
+    Ok(HeldDisks { disks, locks })
+}
+
+/// Removes the first of these files.
+pub(crate) fn remove<F: Files<File = File>>(files: &F, paths: &Paths, count: usize) {
+    for path in paths.as_slice().iter().take(count) {
+        let _ = fs::remove_file(files, path.as_str());
+    }
+}
+
+/// Makes the files of a new pool, of zeros; where one of them can't be made the others are removed.
+pub(crate) fn make<F: Files<File = File>>(
+    alloc: Global,
+    files: &F,
+    pool: &NewPool,
+) -> Result<Vec<FileDisk>, Refusal>
+    ensures { IfErr result (IsNotMade pool.now) }
+{
+    let paths = &pool.files;
+    let mut disks = Vec::new(alloc);
+    for path in paths.as_slice() {
+        let made = disks.len();
+        let Ok(disk) = FileDisk::create(files, path.as_str(), pool.bytes) else {
+            remove(files, paths, made);
+            return Err(Refusal::NotMade);
+        };
+        if disks.push(disk).is_err() {
+            remove(files, paths, made + 1);
+            return Err(Refusal::Pool(pool_create::Refusal::NoMemory));
+        }
+    }
+    Ok(disks)
+}

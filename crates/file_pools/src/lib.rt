@@ -1,0 +1,15 @@
+//! Pools whose disks are files, for the commands.
+#![tactic(auto)]
+
+mod asking;
+mod guids;
+mod holding;
+mod pool;
+mod pools;
+mod refusal;
+mod rows;
+mod telling;
+
+pub use pool::PoolFront;
+pub use pools::{FileCore, FilePools};
+pub use refusal::Refusal;

@@ -1,0 +1,164 @@
+//! Pools in files.
+ghost use Rattle.std.specs.Prelude.{◌≡◌, IfErr, IfOk, OnOk};
+ghost use Rattle.file_pools.specs.Opening.{IsMadePool, IsNotMade, IsNotOpened, IsOpenedPool};
+ghost use Rattle.pool_create.specs.CoreStateOf.{state_of};
+
+use crate::asking::asked;
+use crate::holding::{HeldDisks, hold, make, remove};
+use crate::pool::PoolFront;
+use crate::refusal::Refusal;
+use crate::rows::volume_rows;
+use crate::telling::{has_lost, status_of};
+use block_store::sectors_for_blocks;
+use commands::Pools;
+use model_disk::{Disk, FileDisk, Member};
+use pool_command::{Files as Paths, NewPool, PoolStatus, VolumeRow};
+use pool_create::{Core, NotExported, OpenedPool, create, export, open};
+use pool_model::Refusal as StepRefusal;
+use std::alloc::{AllocError, Global};
+use std::fs::{File, Files};
+
+/// The core of a pool in files.
+pub type FileCore = Core<Member<FileDisk>>;
+
+/// Pools whose disks are files.
+#[derive(Drop)]
+pub struct FilePools<'a, F: Files<File = File>> {
+    files: &'a F,
+}
+
+impl<'a, F: Files<File = File>> FilePools<'a, F> {
+    /// The pools in these files.
+    pub fn new(files: &'a F) -> FilePools<'a, F> {
+        FilePools { files }
+    }
+}
+
+/// The pool on these disks, opened and claimed.
+fn opened(alloc: Global, held: HeldDisks) -> Result<(FileCore, PoolFront), Refusal>
+    ensures opened { IfOk result (λ opened. IsOpenedPool (state_of opened.0) opened.1) }
+    ensures refused { IfErr result IsNotOpened }
+{
+    let HeldDisks { disks, locks } = held;
+    let (opened, from) = match open(alloc, disks, 0) {
+        Ok(opened) => opened,
+        Err(failed) => return Err(Refusal::Pool(failed.refusal())),
+    };
+    let OpenedPool { core, uberblock } = opened;
+    let absent = core.marks(alloc)?;
+    let front = PoolFront {
+        uberblock,
+        name: from.identity.name,
+        absent,
+        locks,
+    };
+    Ok((core, front))
+}
+
+/// Makes the pool that the line asks for on disks in new files.
+fn made(alloc: Global, disks: Vec<FileDisk>, pool: &NewPool) -> Result<(), Refusal>
+    ensures made { OnOk result (IsMadePool pool.now) }
+    ensures refused { IfErr result (IsNotMade pool.now) }
+{
+    let (identity, config) = match asked(alloc, pool) {
+        Ok(asked) => asked,
+        Err(cause) => return Err(Refusal::Pool(cause)),
+    };
+    match create(alloc, disks, identity, config) {
+        Ok(_) => return Ok(()),
+        Err((cause, _)) => return Err(Refusal::Pool(cause)),
+    }
+}
+
+impl<'a, F: Files<File = File>> Pools for FilePools<'a, F> {
+    ghost use Rattle.std.specs.Prelude.{string_bytes};
+    ghost use Rattle.file_pools.specs.Opening.{IsMadePool, IsNotMade, IsNotOpened, IsNotPutAway, IsOpenedPool, IsPutAway};
+    ghost use Rattle.file_pools.specs.Telling.{Shows, has_lost};
+    ghost use Rattle.pool_create.specs.CoreStateOf.{state_of};
+
+    type Pool = FileCore;
+
+    type Front = PoolFront;
+
+    type Refusal = Refusal;
+
+    ghost opens = { λ old files core front new.
+        (new ≡ old) × IsOpenedPool (state_of core) front };
+
+    ghost refuses = { λ old files cause new. (new ≡ old) × IsNotOpened cause };
+
+    ghost makes = { λ old pool new. (new ≡ old) × IsMadePool pool };
+
+    ghost refuses_new = { λ old pool cause new. (new ≡ old) × IsNotMade pool cause };
+
+    ghost closes = { λ old core front new. new ≡ old };
+
+    ghost exports = { λ old core front new. (new ≡ old)
+        × IsPutAway ⟦<Member<FileDisk> as Disk>⟧ (state_of core) };
+
+    ghost refuses_export = { λ old core front cause new.
+        (new ≡ old)
+        × IsNotPutAway ⟦<Member<FileDisk> as Disk>⟧ (state_of core) cause };
+
+    ghost has_lost = { λ core front.
+        has_lost front.absent.items (state_of core).commit.store.out };
+
+    ghost shows = { λ core front status.
+        Shows (state_of core) (string_bytes front.name) front.uberblock status };
+
+    fn open(&mut self, alloc: Global, files: &Paths) -> Result<(FileCore, PoolFront), Refusal> {
+        let held = hold(alloc, self.files, files)?;
+        opened(alloc, held)
+    }
+
+    fn create(&mut self, alloc: Global, pool: NewPool) -> Result<(), Refusal> {
+        // No file is made of a size that no pool takes.
+        if sectors_for_blocks(pool.bytes).is_none() {
+            return Err(Refusal::Pool(pool_create::Refusal::BadConfig));
+        }
+        let disks = make(alloc, self.files, &pool)?;
+        let ended = made(alloc, disks, &pool);
+        if ended.is_err() {
+            remove(self.files, &pool.files, pool.files.as_slice().len());
+        }
+        ended
+    }
+
+    fn close(&mut self, pool: FileCore, front: PoolFront) {
+        drop(pool);
+        drop(front);
+    }
+
+    fn export(&mut self, alloc: Global, pool: FileCore, front: PoolFront) -> Result<(), Refusal> {
+        let opened = OpenedPool {
+            core: pool,
+            uberblock: front.uberblock,
+        };
+        match export(alloc, opened) {
+            Ok(_) => return Ok(()),
+            Err(NotExported::Refused { refusal, .. }) => return Err(Refusal::Export(refusal)),
+            Err(NotExported::Stopped { refusal, .. }) => return Err(Refusal::Export(refusal)),
+        }
+    }
+
+    fn has_lost_disk(
+        alloc: Global,
+        pool: &FileCore,
+        front: &PoolFront,
+    ) -> Result<bool, AllocError> {
+        let marks = pool.marks(alloc)?;
+        Ok(has_lost(front.absent.as_slice(), marks.as_slice()))
+    }
+
+    fn rows(alloc: Global, pool: &FileCore) -> Result<Vec<VolumeRow>, StepRefusal> {
+        let Ok(rows) = pool.rows(alloc) else {
+            return Err(StepRefusal::NoMemory);
+        };
+        let told = volume_rows(alloc, rows.as_slice())?;
+        Ok(told)
+    }
+
+    fn status(alloc: Global, pool: &FileCore, front: &PoolFront) -> Result<PoolStatus, AllocError> {
+        status_of(alloc, pool, &front.name, &front.uberblock)
+    }
+}

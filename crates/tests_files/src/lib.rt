@@ -1,0 +1,5 @@
+//! Command lines over real files, as a user gives them.
+#![tactic(auto)]
+
+#[cfg(test)]
+mod sessions;

@@ -1,0 +1,278 @@
+//! Sessions: command lines in turn, each with what it is given, and what it prints and answers.
+use commands::command;
+use file_pools::FilePools;
+use std::alloc::{AllocError, Global};
+use std::fs;
+use std::test::Fail;
+
+/// A command line; standard input, which is so many bytes of this value; and the exit status, standard output and standard error that
+/// come of it.
+type Case = (&'static str, (u8, usize), u8, &'static str, &'static str);
+
+const LIFE: [Case; 36] = [
+    (
+        "zpool create --seed 7 --bytes 8388608 tank raidz1 a b c",
+        (0, 0),
+        0,
+        "",
+        "",
+    ),
+    (
+        "zfs create --size 1024 --block 512 v a b c",
+        (0, 0),
+        0,
+        "",
+        "",
+    ),
+    (
+        "zpool status a b c",
+        (0, 0),
+        0,
+        "pool tank\nclaim 3\ngroup 4\nvdev 0 raidz1\n  disk 0 b7f69bbf566b8b1b online\n  disk 1 beb75bd9e7833e65 online\n  disk 2 24e2fbb94d9b2064 online\n",
+        "",
+    ),
+    (
+        "zpool status a",
+        (0, 0),
+        1,
+        "",
+        "zpool: refused 22 TooManyMissing\n",
+    ),
+    (
+        "zpool status a b",
+        (0, 0),
+        0,
+        "pool tank\nclaim 4\ngroup 4\nvdev 0 raidz1\n  disk 0 b7f69bbf566b8b1b online\n  disk 1 beb75bd9e7833e65 online\n  disk 2 24e2fbb94d9b2064 absent\n",
+        "",
+    ),
+    (
+        "zpool status c b a",
+        (0, 0),
+        0,
+        "pool tank\nclaim 5\ngroup 4\nvdev 0 raidz1\n  disk 0 b7f69bbf566b8b1b online\n  disk 1 beb75bd9e7833e65 online\n  disk 2 24e2fbb94d9b2064 online\n",
+        "",
+    ),
+    (
+        "zfs list a b c",
+        (0, 0),
+        0,
+        "NAME                                                              SIZE   BLOCK       GROUP\nv                                                                 1024     512           4\n",
+        "",
+    ),
+    ("zfs write --at 0 v a b c", (0xaa, 512), 0, "", ""),
+    ("zfs snapshot v@s a b c", (0, 0), 0, "", ""),
+    ("zfs write --at 0 v a b c", (0xbb, 1024), 0, "", ""),
+    ("zfs clone v@s w a b c", (0, 0), 0, "", ""),
+    (
+        "zfs list a b c",
+        (0, 0),
+        0,
+        "NAME                                                              SIZE   BLOCK       GROUP\nv                                                                 1024     512           4\nv@s                                                               1024     512           6\nw                                                                 1024     512           8\n",
+        "",
+    ),
+    ("zfs read --at 0 --len 4 v a b c", (0, 0), 0, "bbx4 ", ""),
+    ("zfs read --at 0 --len 4 w b c", (0, 0), 0, "aax4 ", ""),
+    (
+        "zfs read --at 510 --len 4 v@s a b c",
+        (0, 0),
+        0,
+        "aax2 00x2 ",
+        "",
+    ),
+    (
+        "zfs destroy v@s a b c",
+        (0, 0),
+        1,
+        "",
+        "zfs: refused 14 HasClones\n",
+    ),
+    (
+        "zfs destroy v a b c",
+        (0, 0),
+        1,
+        "",
+        "zfs: refused 15 HasSnapshots\n",
+    ),
+    (
+        "zfs write --at 0 v a b c",
+        (0xaa, 513),
+        1,
+        "",
+        "zfs: refused 12 Misaligned\n",
+    ),
+    (
+        "zfs write --at 512 v a b c",
+        (0xaa, 1024),
+        1,
+        "",
+        "zfs: refused 11 OutOfRange\n",
+    ),
+    (
+        "zfs write --at 0 v a b c",
+        (0, 1_048_577),
+        1,
+        "",
+        "zfs: refused 12 Misaligned\n",
+    ),
+    (
+        "zfs write --at 0 v a b c",
+        (0, 1_049_088),
+        1,
+        "",
+        "zfs: refused 11 OutOfRange\n",
+    ),
+    (
+        "zfs write --at 0 v a b c",
+        (0, 0),
+        1,
+        "",
+        "zfs: refused 12 Misaligned\n",
+    ),
+    (
+        "zfs write --at 0 v@s a b c",
+        (0xaa, 512),
+        1,
+        "",
+        "zfs: refused 8 NoSuchName\n",
+    ),
+    (
+        "zfs create --size 1024 --block 512 V a b c",
+        (0, 0),
+        1,
+        "",
+        "zfs: refused 16 BadName\n",
+    ),
+    (
+        "zfs create --size 1024 --block 500 x a b c",
+        (0, 0),
+        1,
+        "",
+        "zfs: refused 12 Misaligned\n",
+    ),
+    (
+        "zfs create --size 1024 --block 512 v a b c",
+        (0, 0),
+        1,
+        "",
+        "zfs: refused 10 Exists\n",
+    ),
+    (
+        "zpool create --seed 8 --bytes 8388608 tank raidz1 c d e",
+        (0, 0),
+        1,
+        "",
+        "zpool: refused 2 DiskFault\n",
+    ),
+    (
+        "zpool create --seed 8 --bytes 8 tank raidz1 d e f",
+        (0, 0),
+        1,
+        "",
+        "zpool: refused 24 BadConfig\n",
+    ),
+    (
+        "zpool create --seed 8 --bytes 8388608 Tank raidz1 d e f",
+        (0, 0),
+        1,
+        "",
+        "zpool: refused 24 BadConfig\n",
+    ),
+    (
+        "zpool status d e f",
+        (0, 0),
+        1,
+        "",
+        "zpool: refused 18 BadLabel tail\n",
+    ),
+    ("zpool export a b c", (0, 0), 0, "", ""),
+    (
+        "zpool status a b c",
+        (0, 0),
+        0,
+        "pool tank\nclaim 27\ngroup 8\nvdev 0 raidz1\n  disk 0 b7f69bbf566b8b1b online\n  disk 1 beb75bd9e7833e65 online\n  disk 2 24e2fbb94d9b2064 online\n",
+        "",
+    ),
+    (
+        "zpool status x y z",
+        (0, 0),
+        1,
+        "",
+        "zpool: refused 18 BadLabel tail\n",
+    ),
+    (
+        "zpool status a a b",
+        (0, 0),
+        1,
+        "",
+        "zpool: refused 23 PoolMismatch\n",
+    ),
+    ("zpool scrub a b c", (0, 0), 2, "", "zpool: not there yet\n"),
+    (
+        "zfs snapshot v a b c",
+        (0, 0),
+        2,
+        "",
+        "error: a snapshot's name is VOLUME@SNAPSHOT\n\nFor more information, try '--help'.\n",
+    ),
+];
+
+/// Bytes as they are printed here: a text as it stands, and of a read the length of each run of one byte.
+fn told(alloc: Global, line: &str, bytes: &[u8]) -> Result<String, AllocError> {
+    let mut text = String::new(alloc);
+    if !line.starts_with("zfs read") {
+        return String::from_str(alloc, std::str::from_utf8(bytes).unwrap_or("no text"));
+    }
+    let mut count = 0usize;
+    for i in 0..bytes.len() {
+        count += 1;
+        if i + 1 == bytes.len() || bytes[i + 1] != bytes[i] {
+            let byte = bytes[i];
+            text.push_str(format!(in alloc; "{byte:02x}x{count} ")?.as_str())?;
+            count = 0;
+        }
+    }
+    Ok(text)
+}
+
+/// Runs a command line: its exit status, and what it prints.
+fn run(rt: &HostRuntime, line: &str, given: (u8, usize)) -> Result<String, Fail> {
+    let alloc = rt.alloc();
+    let mut words = Vec::new(alloc);
+    for word in line.split(' ') {
+        words.push(word)?;
+    }
+    let input = vec![in alloc; given.0; given.1]?;
+    let mut output = Vec::new(alloc);
+    let mut errors = Vec::new(alloc);
+    let mut pools = FilePools::new(rt);
+    let status = command(
+        alloc,
+        &mut pools,
+        words.as_slice(),
+        1,
+        &mut input.as_slice(),
+        &mut output,
+        &mut errors,
+    );
+    let number = status.number();
+    let shown = told(alloc, line, output.as_slice())?;
+    let wrong = told(alloc, "", errors.as_slice())?;
+    Ok(format!(in alloc; "{number} {shown}{wrong}")?)
+}
+
+#[test]
+fn a_pool_in_files_lives(rt: HostRuntime) -> Result<(), Fail> {
+    let alloc = rt.alloc();
+    for path in &["a", "b", "c", "d", "e", "f"] {
+        let _ = fs::remove_file(&rt, path);
+    }
+    for (line, given, status, output, errors) in &LIFE {
+        let came = run(&rt, line, *given)?;
+        let wanted = format!(in alloc; "{status} {output}{errors}")?;
+        assert!(rt; came == wanted, "{line}: {came}");
+    }
+    for path in &["a", "b", "c"] {
+        let _ = fs::remove_file(&rt, path);
+    }
+    Ok(())
+}

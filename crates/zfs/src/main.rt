@@ -1,0 +1,54 @@
+//! `zfs` makes, snapshots, clones, destroys, lists, writes and reads the volumes of a storage pool in files. Its status is 0 where all was done,
+//! 1 where it is refused, and 2 at a fault of the line or of standard input or output.
+#![tactic(auto)]
+
+use commands::command;
+use file_pools::FilePools;
+use std::io::BufWriter;
+use std::process::ExitCode;
+use std::time::{SystemTime, UNIX_EPOCH};
+use std::{env, io};
+
+/// The seconds since 1970, which a commit's uberblock has; 0 where the clock tells none.
+fn seconds(rt: &HostRuntime) -> u64 {
+    let Ok(now) = SystemTime::now(rt) else {
+        return 0;
+    };
+    match now.duration_since(UNIX_EPOCH) {
+        Ok(since) => since.as_secs(),
+        Err(_) => 0,
+    }
+}
+
+fn run(rt: &HostRuntime) -> io::Result<u8> {
+    let alloc = rt.alloc();
+    let given: Vec<String> = env::args(rt)?.collect(alloc)?;
+    let mut words = vec![in alloc; "zfs"]?;
+    for word in given.iter().skip(1) {
+        words.push(word.as_str())?;
+    }
+    let mut pools = FilePools::new(rt);
+    let mut output = BufWriter::new(alloc, io::writer(rt))?;
+    let status = command(
+        alloc,
+        &mut pools,
+        words.as_slice(),
+        seconds(rt),
+        &mut rt.reader(),
+        &mut output,
+        &mut rt.stderr(),
+    );
+    Ok(status.number())
+}
+
+fn main(rt: HostRuntime) -> ExitCode {
+    let status = match run(&rt) {
+        Ok(status) => status,
+        Err(_) => {
+            // Where this can't be told either, the status still says it.
+            let _ = eprintln!(rt; "zfs: the words of the line, or memory");
+            2
+        }
+    };
+    ExitCode::from(status)
+}
