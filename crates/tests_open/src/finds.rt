@@ -130,10 +130,11 @@ pub(crate) fn guids_of(alloc: Global, disks: Disks) -> Result<Vec<Option<u8>>, A
 fn come_back(alloc: Global, rewind: u64) -> Result<(bool, Vec<Option<u8>>), Fail> {
     let disks = strange_among(alloc)?;
     let (is_opened, disks) = match open(alloc, disks, rewind.min(2)) {
-        Ok((pool, OpenedFrom { identity, handed })) => (
-            identity.name.as_str() == "pool" && identity.guid == 1,
-            into_disks(pool, handed),
-        ),
+        Ok((pool, from)) => {
+            let OpenedFrom { identity, handed } = from;
+            let is_named = identity.name.as_str() == "pool" && identity.guid == 1;
+            (is_named, into_disks(pool, handed))
+        }
         Err(NotOpened::NotFound { disks, .. } | NotOpened::Refused { disks, .. }) => (false, disks),
     };
     Ok((is_opened, guids_of(alloc, disks)?))
