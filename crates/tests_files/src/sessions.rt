@@ -224,7 +224,7 @@ fn told(alloc: Global, line: &str, bytes: &[u8]) -> Result<String, AllocError> {
     }
     let mut count = 0usize;
     for i in 0..bytes.len() {
-        count += 1;
+        count = count.saturating_add(1);
         if i + 1 == bytes.len() || bytes[i + 1] != bytes[i] {
             let byte = bytes[i];
             text.push_str(format!(in alloc; "{byte:02x}x{count} ")?.as_str())?;
