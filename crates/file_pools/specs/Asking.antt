@@ -1,6 +1,7 @@
 -- The pool that a command line asks for.
-use Rattle.std.specs.Prelude.{◌≡◌, ℕ, List, [], ◌∷◌, length, string_bytes}
-use Rattle.block_store.specs.Config.{sectors_of}
+use Rattle.std.specs.Prelude.{◌≡◌, ◌⊎◌, ◌≤◌, ◌^◌, ℕ, List, [], ◌∷◌, length, string_bytes}
+use Rattle.std.specs.Str.{IsUtf8}
+use Rattle.block_store.specs.Config.{IsAllowedSize, sectors_of}
 use Rattle.pool_command.specs.declared.command.NewPool.{NewPool}
 use Rattle.pool_create.specs.PoolIdentity.{PoolIdentity}
 use Rattle.vdev_label.specs.Plain.{PlainVdev, config_view}
@@ -23,3 +24,7 @@ pub record IsAskedFor (pool : NewPool) (identity : PoolIdentity) (config : Confi
   pub name_is : string_bytes identity.name ≡ pool.name
   pub guid_is : identity.guid ≡ guid_of pool.seed 0
   pub vdevs : config_view config ≡ vdev_of pool ∷ []
+
+-- no pool has files of this size, or so many, or this name
+abbrev pub IsNoPool : NewPool → Type 0
+IsNoPool pool = ¬ IsAllowedSize pool.bytes ⊎ (2 ^ 32 ≤ length pool.files) ⊎ ¬ IsUtf8 pool.name

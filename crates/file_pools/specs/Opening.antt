@@ -17,7 +17,7 @@ use Rattle.pool_create.specs.Opens.{IsOpenedOn, OpenRefuses, refusal_of}
 use Rattle.pool_create.specs.PoolIdentity.{PoolIdentity}
 use Rattle.uberblock_ring.specs.declared.uberblock.Uberblock.{Uberblock}
 use Rattle.vdev_label.specs.declared.label.Config.{Config}
-use Rattle.file_pools.specs.Asking.{IsAskedFor}
+use Rattle.file_pools.specs.Asking.{IsAskedFor, IsNoPool}
 use Rattle.file_pools.specs.declared.pool.PoolFront.{PoolFront}
 use Rattle.file_pools.specs.declared.refusal.Refusal.{Refusal}
 use Rattle.file_pools.specs.declared.refusal.Refusal.TheVariants as refusal
@@ -62,7 +62,7 @@ pub record IsRefusedNew (pool : NewPool) (cause : Cause) : Type 0 where
 -- a file can't be made; or memory ran out; or the line asks for what no pool has; or the pool is refused
 abbrev pub IsNotMade : NewPool → Refusal → Type 0
 IsNotMade pool refusal.NotMade = Unit {0}
-IsNotMade pool (refusal.Pool cause) = (cause ≡ NoMemory) ⊎ (cause ≡ BadConfig) ⊎ IsRefusedNew pool cause
+IsNotMade pool (refusal.Pool cause) = (cause ≡ NoMemory) ⊎ ((cause ≡ BadConfig) × IsNoPool pool) ⊎ IsRefusedNew pool cause
 IsNotMade pool other = ⊥
 
 -- the pool's labels say that it is put away

@@ -1,6 +1,6 @@
 //! The pool that a command line asks for.
 ghost use Rattle.std.specs.Prelude.{◌≡◌, ◌⊎◌, IfErr, IfOk};
-ghost use Rattle.file_pools.specs.Asking.{IsAskedFor};
+ghost use Rattle.file_pools.specs.Asking.{IsAskedFor, IsNoPool};
 ghost use Rattle.pool_create.specs.OpenRefusal.TheVariants.{BadConfig, NoMemory};
 
 use crate::guids::{child_guids, guid};
@@ -14,7 +14,8 @@ use vdev_label::{Config, Vdev};
 /// a disk, or its name is no text.
 pub(crate) fn asked(alloc: Global, pool: &NewPool) -> Result<(PoolIdentity, Config), Refusal>
     ensures asked { IfOk result (λ asked. IsAskedFor pool.now asked.0 asked.1) }
-    ensures refused { IfErr result (λ cause. (cause ≡ NoMemory) ⊎ (cause ≡ BadConfig)) }
+    ensures refused { IfErr result (λ cause. (cause ≡ NoMemory)
+        ⊎ ((cause ≡ BadConfig) × IsNoPool pool.now)) }
 {
     let Some(child_sectors) = sectors_for_blocks(pool.bytes) else {
         return Err(Refusal::BadConfig);

@@ -4,6 +4,7 @@
 
 use commands::command;
 use file_pools::FilePools;
+use std::alloc::{AllocError, Global};
 use std::io::BufWriter;
 use std::process::ExitCode;
 use std::time::{SystemTime, UNIX_EPOCH};
@@ -20,13 +21,20 @@ fn seconds(rt: &HostRuntime) -> u64 {
     }
 }
 
-fn run(rt: &HostRuntime) -> io::Result<u8> {
-    let alloc = rt.alloc();
-    let given: Vec<String> = env::args(rt)?.collect(alloc)?;
-    let mut words = vec![in alloc; "zpool"]?;
+/// The words of the line, with this program's name in front.
+fn words_of<'a>(alloc: Global, given: &'a [String]) -> Result<Vec<&'a str>, AllocError> {
+    let mut words = Vec::new(alloc);
+    words.push("zpool")?;
     for word in given.iter().skip(1) {
         words.push(word.as_str())?;
     }
+    Ok(words)
+}
+
+fn run(rt: &HostRuntime) -> io::Result<u8> {
+    let alloc = rt.alloc();
+    let given: Vec<String> = env::args(rt)?.collect(alloc)?;
+    let words = words_of(alloc, given.as_slice())?;
     let mut pools = FilePools::new(rt);
     let mut output = BufWriter::new(alloc, io::writer(rt))?;
     let status = command(
