@@ -1,9 +1,10 @@
 -- How a command line ends.
-use Rattle.std.specs.Prelude.{◌≡◌, ◌⊎◌, ℕ, List, Option, Ok, Err}
+use Rattle.std.specs.Prelude.{◌≡◌, ◌⊎◌, ℕ, true, false, List, Option, Ok}
 use Rattle.std.specs.Io.KnownBytes.{Appends}
-use Rattle.pool_command.specs.Causes.{Cause}
+use Rattle.pool_command.specs.Causes.{Fails, is_answer}
 use Rattle.pool_command.specs.Reading.{command_of}
 use Rattle.pool_command.specs.declared.command.Command.{Command}
+use Rattle.pool_command.specs.declared.refusal.Refusal.{Refusal}
 use Rattle.pool_steps.specs.declared.steps.PoolSteps.{Ghosts as StepGhosts}
 use Rattle.commands.specs.Ends.{status_of}
 use Rattle.commands.specs.Performs.{Does, Stops}
@@ -41,16 +42,20 @@ module _ {S P F R : Type 0} (pools : Ghosts S P F R) (steps : StepGhosts P) (wor
     pub status_is : status ≡ status_of stop
     pub silent : after ≡ before
 
-  -- the words are no command, or there was no memory to read them: nothing is opened or printed
+  -- the words are no command, for that cause, or there was no memory to read them: nothing is opened or printed
   pub record IsNoCommand (before after : Option (List ℕ)) (status : ExitStatus) : Type 0 where
+    pub refusal : Refusal
+    pub none : Fails refusal (command_of words)
+    pub fault : is_answer refusal ≡ false
     pub same : new ≡ old
     pub silent : after ≡ before
     pub status_is : status ≡ Fault
 
-  -- the words ask for help or the version, which is printed or not: nothing is opened
+  -- the words ask for help or the version, which is printed, or standard output failed: nothing is opened
   pub record IsAnswered (status : ExitStatus) : Type 0 where
-    pub cause : Cause
-    pub none : command_of words ≡ Err cause
+    pub refusal : Refusal
+    pub none : Fails refusal (command_of words)
+    pub answer : is_answer refusal ≡ true
     pub same : new ≡ old
     pub status_is : (status ≡ Done) ⊎ (status ≡ Fault)
 
