@@ -14,8 +14,8 @@ A file that can't be opened counts as an absent disk. A file whose name begins
 with a hyphen is given behind '--'.
 
 Every command opens the pool on the files given last, and so claims it: it writes
-to each disk, also where it only looks. Run one command at a time on a pool. What
-a command changes is committed before it ends.
+to each disk, also where it only looks. Each file is locked meanwhile: another
+command on it is refused. What a command changes is committed before it ends.
 
 A volume is named without its pool, and a snapshot VOLUME@SNAPSHOT.
 
@@ -24,6 +24,19 @@ Exit status:
   1  refused: standard error has 'zfs: refused NUMBER NAME'
   2  a fault of the line, found before a file is touched, or of standard input or
      output
+
+Refusals, and what helps:
+  2 DiskFault        a disk failed: go on without its file
+  3 NoSpace          destroy snapshots and volumes first
+  8 NoSuchName       'zfs list' has the names; a snapshot is never written
+  10 Exists          another name
+  11 OutOfRange      past the end, or more than 1048576 bytes in one write or read
+  12 Misaligned      offset and length of a write are multiples of 512
+  14 HasClones       destroy the snapshot's clones first
+  15 HasSnapshots    destroy the volume's snapshots first
+  16 BadName         1 to 27 of 'a-z', '0-9', '.', '_' and '-', the first a letter
+  22 TooManyMissing  give more of the pool's files
+  25 Busy            another command has a file: wait for it
 
 Example:
   zfs create --size 1048576 --block 8192 v a b c
@@ -60,7 +73,9 @@ Example:
 
 const WRITE_NOTES: &str = "\
 One of --at and --all is given. With --at the input is one write: 512 to 1048576
-bytes, a multiple of 512.
+bytes, a multiple of 512. With --all it may be as long as the volume, a multiple
+of 512: it is committed on the way, and of an input that is cut short a front
+stands in the volume.
 
 Example:
   zfs write --at 0 v a b c < sector
@@ -75,7 +90,9 @@ Example:
 
 const SERVE_NOTES: &str = "\
 It speaks the protocol NBD with whoever is at the other end of its standard input
-and output, until that ends. No other command may be run on the pool meanwhile.
+and output, until that ends. What the other end has flushed is committed. A
+snapshot is served for reading alone. Other commands on the files are refused
+meanwhile.
 
 Example:
   zfs serve v a b c

@@ -14,14 +14,28 @@ is given behind '--'.
 
 Every command but 'create' opens the pool on the files given last ('add' on those
 before the new ones), and so claims it: it writes to each disk, also where it only
-looks. Run one command at a time on a pool. What a command changes is committed
-before it ends.
+looks. Each file is locked meanwhile: another command on it is refused. What a
+command changes is committed before it ends.
+
+'add' and 'scrub' are not there yet: they end with status 2, and open nothing.
 
 Exit status:
   0  done
   1  refused: standard error has 'zpool: refused NUMBER NAME'
   2  a fault of the line, found before a file is touched, or of standard input or
      output
+
+Refusals, and what helps:
+  2 DiskFault        'create': a file is there already, or can't be made; else a
+                     disk failed: go on without its file
+  3 NoSpace          'create': larger files, or fewer metaslabs with --meta
+  4 Suspended        too many disks failed: open it again without them
+  18 BadLabel        none of the files is a disk of a pool
+  19 NoUberblock     no file has an uberblock that is whole
+  22 TooManyMissing  give more of the pool's files
+  23 PoolMismatch    files of two pools, or a disk twice
+  24 BadConfig       'create': too few or too many files, or a size out of range
+  25 Busy            another command has a file: wait for it
 
 Example:
   zpool create --seed 7 --bytes 8388608 tank raidz1 a b c
@@ -36,9 +50,9 @@ Example:
   zpool create --seed 7 --bytes 8388608 tank raidz1 a b c";
 
 const ADD_NOTES: &str = "\
-The pool is opened on the files before the new ones. The new vdev has as many
-metaslabs for the pool's own blocks, and of the same size, as the first one. A
-pool has at most 8 vdevs.
+It is not there yet. The pool is to be opened on the files before the new ones.
+The new vdev has as many metaslabs for the pool's own blocks, and of the same
+size, as the first one. A pool has at most 8 vdevs.
 
 Example:
   zpool add --seed 8 --bytes 8388608 --type raidz1 --new 3 a b c d e f";
@@ -52,8 +66,8 @@ Example:
   zpool status a b c";
 
 const SCRUB_NOTES: &str = "\
-It prints 'group G findings N': in what group G holds, N columns were wrong or
-could not be read, and were written anew.
+It is not there yet. It is to print 'group G findings N': in what group G holds,
+N columns were wrong or could not be read, and were written anew.
 
 Example:
   zpool scrub a b c";
