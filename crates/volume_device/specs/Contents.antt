@@ -1,7 +1,8 @@
 -- What a pool has whose one volume is written, and what reads, writes and flushes of it make of that.
-use Rattle.std.specs.Prelude.{◌≡◌, ◌⊎◌, ℕ, List, ◌++◌}
+use Rattle.std.specs.Prelude.{◌≡◌, ◌⊎◌, ℕ, ◌+◌, ◌≤◌, List, [], ◌++◌, length, Some, false}
+use Rattle.pool_model.specs.declared.volume.PlainVolume.{PlainVolume}
 use Rattle.pool_model.specs.Machine.{AreBytesOf}
-use Rattle.pool_model.specs.Pools.{PlainPool, written}
+use Rattle.pool_model.specs.Pools.{AreAscending, PlainPool, is_snapshot, volume_at, written}
 use Rattle.pool_model.specs.View.{View}
 
 -- now: after all that was written; safe: what is committed, and so outlives a stop
@@ -17,6 +18,11 @@ at_rest v = record { now = v.pools v.committed; safe = v.pools v.committed }
 abbrev pub overwritten : List ℕ → ℕ → List ℕ → PlainPool → PlainPool
 overwritten name offset bytes pool = written pool (record { writer = 1; number = 1; volume = name; offset = offset; bytes = bytes })
 
+-- So a pool became another: what it has at each name is that; and it is that pool, where the one before had its volumes in the order of their names, each name once.
+pub record IsOverwritten (name : List ℕ) (offset : ℕ) (bytes : List ℕ) (before after : PlainPool) : Type 0 where
+  pub each : (other : List ℕ) → volume_at other after ≡ volume_at other (overwritten name offset bytes before)
+  pub whole : AreAscending before.volumes → after ≡ overwritten name offset bytes before
+
 abbrev pub IsSame : Contents → Contents → Type 0
 IsSame c d = d ≡ c
 
@@ -24,9 +30,17 @@ IsSame c d = d ≡ c
 abbrev pub AreRead : List ℕ → ℕ → ℕ → List ℕ → Contents → Contents → Type 0
 AreRead name offset len bytes c d = AreBytesOf c.now name offset len bytes × (d ≡ c)
 
--- The bytes are written, as by one write. What is committed stays; or all is committed, these bytes too.
+-- the range lies within the volume of that name, which is no snapshot
+pub record FitsIn (pool : PlainPool) (name : List ℕ) (offset len : ℕ) : Type 0 where
+  pub volume : PlainVolume
+  pub there : volume_at name pool ≡ Some volume
+  pub plain : is_snapshot volume.kind ≡ false
+  pub within : offset + len ≤ length volume.bytes
+
+-- The bytes are written, as by one write, where they fit (or there are none). What is committed stays; or all is committed, these bytes too.
 pub record IsWritten (name : List ℕ) (offset : ℕ) (bytes : List ℕ) (c d : Contents) : Type 0 where
-  pub now : d.now ≡ overwritten name offset bytes c.now
+  pub fits : (bytes ≡ []) ⊎ FitsIn c.now name offset (length bytes)
+  pub now : IsOverwritten name offset bytes c.now d.now
   pub safe : (d.safe ≡ c.safe) ⊎ (d.safe ≡ d.now)
 
 -- a front of the bytes is written, and nothing more is committed
@@ -34,7 +48,7 @@ pub record IsCutOff (name : List ℕ) (offset : ℕ) (bytes : List ℕ) (c d : C
   pub front : List ℕ
   pub back : List ℕ
   pub parts : bytes ≡ front ++ back
-  pub now : d.now ≡ overwritten name offset front c.now
+  pub now : IsOverwritten name offset front c.now d.now
   pub safe : d.safe ≡ c.safe
 
 -- all that was written is committed

@@ -1,5 +1,5 @@
 -- What a device shows, and what its calls lead to.
-use Rattle.std.specs.Prelude.{◌≡◌, ℕ, suc, Bool, true, false, List, [], ◌∷◌, Option, Some, None, nat_lt}
+use Rattle.std.specs.Prelude.{◌≡◌, ℕ, suc, Bool, true, false, List, [], ◌∷◌, Option, Some, None}
 use Rattle.pool_model.specs.declared.group.Holder.{Holder}
 use Rattle.pool_model.specs.declared.refusal.Refusal.{Refusal}
 use Rattle.pool_model.specs.Pools.{no_items}
@@ -21,19 +21,19 @@ abbrev pub holds_of : ℕ → Bool → List Holder
 holds_of group true = record { writer = 1; group = group } ∷ []
 holds_of group false = []
 
--- The session goes on from this view: no group waits or is synced, nobody else holds one, and nothing is written that isn't counted as pending.
-pub record GoesOnFrom (v : View) (number pending : ℕ) : Type 0 where
+-- The session goes on from this view: no group waits or is synced, nobody else holds one, and the open one has nothing but writes, each of them counted as pending.
+pub record GoesOnFrom (v : View) (number pending : ℕ) (held : Bool) : Type 0 where
   pub idle : v.sync ≡ Idle
   pub none_waits : v.waiting ≡ None
-  pub held : Bool
   pub holds : v.holds ≡ holds_of (suc v.committed) held
   pub numbers : v.next 1 ≡ number
+  pub only_writes : (v.ledger (suc v.committed)).actions ≡ []
   pub counts : pending ≡ 0 → v.ledger (suc v.committed) ≡ no_items
 
 -- a commit was refused, and the session writes no more; or it goes on
-abbrev pub MayGoOn : Option Refusal → View → ℕ → ℕ → Type 0
-MayGoOn (Some cause) v number pending = Unit {0}
-MayGoOn None v number pending = GoesOnFrom v number pending
+abbrev pub MayGoOn : Option Refusal → View → ℕ → ℕ → Bool → Type 0
+MayGoOn (Some cause) v number pending held = Unit {0}
+MayGoOn None v number pending held = GoesOnFrom v number pending held
 
 module _ {P : Type 0} (steps : Ghosts P) where
   -- the pool has this
@@ -42,7 +42,7 @@ module _ {P : Type 0} (steps : Ghosts P) where
     pub represents : steps.represents device.core view
     pub now : now_of view ≡ c.now
     pub safe : view.pools view.committed ≡ c.safe
-    pub goes_on : MayGoOn device.refused view device.number device.pending
+    pub goes_on : MayGoOn device.refused view device.number device.pending device.held
 
   -- whatever the pool had, where the disks answered truly it has become this
   abbrev pub Leads : Device P → Device P → (Contents → Contents → Type 0) → Type 0

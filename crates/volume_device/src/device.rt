@@ -21,6 +21,8 @@ pub struct Device<P> {
     number: u64,
     /// Bytes that were written since the last commit.
     pending: u64,
+    /// Whether the writer holds the open group.
+    held: bool,
     /// Why a commit was refused: from then on nothing is written or flushed.
     refused: Option<Refusal>,
 }
@@ -38,6 +40,7 @@ impl<P: PoolSteps> Device<P> {
             timestamp,
             number: 1,
             pending: 0,
+            held: false,
             refused: None,
         }
     }

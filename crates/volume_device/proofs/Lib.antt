@@ -1,0 +1,2 @@
+pub mod Nows
+pub mod Pieces
