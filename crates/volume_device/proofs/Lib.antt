@@ -1,2 +1,3 @@
 pub mod Nows
 pub mod Pieces
+pub mod Committing

@@ -1,3 +1,4 @@
 pub mod Contents
 pub mod Devices
 pub mod Causes
+pub mod Commits

@@ -1,0 +1,37 @@
+//! The commit of the open group.
+ghost use Rattle.std.specs.Prelude.{◌≡◌};
+ghost use Rattle.volume_device.specs.Commits.{Commits, next_of};
+
+use pool_model::{Reply, Step};
+use pool_steps::PoolSteps;
+
+/// The one writer of a session.
+pub(crate) const WRITER: u32 = 1;
+
+/// Gives the writer's hold back, closes the open group and commits it: the last reply. `Committed` says that it is committed. Where the
+/// disks answer truly, a reply that is no refusal either comes only after 2^64 steps.
+pub(crate) fn commit<P: PoolSteps>(core: &mut P, timestamp: u64) -> Reply
+    ensures { Commits P.PoolSteps core.old result core.new }
+{
+    let mut reply = core.take_step(Step::Release(WRITER));
+    for _ in 0..u64::MAX {
+        let Some(step) = next_step(&reply, timestamp) else {
+            return reply;
+        };
+        reply = core.take_step(step);
+    }
+    reply
+}
+
+/// The step that brings the group on after this reply, unless it is committed or refused.
+fn next_step(reply: &Reply, timestamp: u64) -> Option<Step>
+    ensures { result ≡ next_of timestamp reply.now }
+{
+    match reply {
+        Reply::Released => Some(Step::Close),
+        Reply::Closed(_) => Some(Step::Quiesce),
+        Reply::Quiesced(_) | Reply::Replan(_) => Some(Step::Plan { timestamp }),
+        Reply::Planned(_) | Reply::Moved(_) => Some(Step::Device),
+        _ => None,
+    }
+}
