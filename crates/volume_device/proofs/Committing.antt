@@ -1,5 +1,5 @@
 -- How far each step of a commit comes.
-use Rattle.std.proofs.Common.{◌≡◌, ◌⊎◌, ⊎_elim, inl, inr, ℕ, suc, List, [], Bool, true, Some, None, refl, sym, ap, ◌∙◌, subst, arith}
+use Rattle.std.proofs.Common.{◌≡◌, ◌⊎◌, ⊎_elim, inl, inr, ℕ, suc, List, [], ◌∷◌, Bool, true, false, None, refl, sym, ap, ◌∙◌, subst, arith}
 use Rattle.std.specs.Prelude.{cond, if◌then◌else◌, ◌==◌}
 use Rattle.std.proofs.lemmas.Bool.Decides.{nat_tests}
 use Rattle.pool_model.specs.declared.group.Holder.{Holder}
@@ -16,8 +16,10 @@ use Rattle.pool_model.specs.Pools.{applied}
 use Rattle.pool_model.specs.View.{View, DueCall, Given, Sync, Unplanned, is_syncing}
 use Rattle.pool_steps.specs.declared.steps.PoolSteps.{Ghosts}
 use Rattle.pool_steps.specs.Goes.{Goes}
+use Rattle.command_steps.specs.Due.{next_of}
 use Rattle.volume_device.specs.Causes.{flushing}
-use Rattle.volume_device.specs.Commits.{Commits, IsAbout, IsBetween, IsCommitted, MayCommit, Reaches, next_of}
+use Rattle.volume_device.specs.Devices.{holds_of}
+use Rattle.volume_device.specs.Commits.{Commits, IsAbout, IsBetween, IsCommitted, MayCommit, Reaches}
 
 itself : (n : ℕ) → (n == n) ≡ true
 itself n = grind (arith, nat_tests)
@@ -82,24 +84,38 @@ flows v w f e all committed ledger next = record {
   next = ap (λ (x : Flow). x.next) e ∙ next;
 }
 
-release_answered : (v : View) (given : Given) (r : Reply) (w : View) → MayCommit v → MayAnswer v given (step.Release 1) r w → Reaches v r w
-release_answered v given reply.Released w may a = (
-  flows v w _ a.0 a.1 refl refl refl,
-  (
-    ap (λ (x : View). x.sync) a.1 ∙ may.idle,
-    ap (λ (x : Flow). x.waiting) a.0 ∙ may.none_waits,
-    ap (λ (x : Flow). x.holds) a.0 ∙ ap (λ (l : List Holder). released_by l 1) may.holds,
-  ),
-)
-release_answered v given (reply.Refused cause) w may a = absurd a
-release_answered v given r w may a = absurd a
+release_answered : (v : View) (given : Given) (r : Reply) (w : View) → MayAnswer v given (step.Release 1) r w → IsBetween v w
+release_answered v given reply.Released w a = flows v w _ a.0 a.1 refl refl refl
+release_answered v given r w a = absurd a
 
-close_answered : (v : View) (given : Given) (r : Reply) (w : View) → IsAbout reply.Released v → MayAnswer v given step.Close r w → Reaches v r w
-close_answered v given (reply.Closed group) w about a = (
+-- a hold that is given back, or not, commits nothing
+pub release_keeps : (v : View) (given : Given) (r : Reply) (w : View) → StepOf v given (step.Release 1) r w → IsBetween v w
+release_keeps v given r w is = ⊎_elim
+    (λ (x : (cause : Refusal) × (r ≡ reply.Refused cause) × IsBetween v w). x.2)
+    (release_answered v given r w)
+    (refusal v given (step.Release 1) r w is)
+
+-- the one hold is gone once it is given back
+pub release_frees : (v : View) (given : Given) (w : View) (held : Bool) → v.holds ≡ holds_of (suc v.committed) held → StepOf v given (step.Release 1) reply.Released w → (w.sync ≡ v.sync) × (w.waiting ≡ v.waiting) × (w.holds ≡ [])
+release_frees v given w held holds is = ⊎_elim
+    (λ (x : (cause : Refusal) × (reply.Released ≡ reply.Refused cause) × IsBetween v w). let e = x.1 in absurd cc)
+    (λ (a : MayAnswer v given (step.Release 1) reply.Released w). (
+      ap (λ (x : View). x.sync) a.1,
+      ap (λ (x : Flow). x.waiting) a.0,
+      ap (λ (x : Flow). x.holds) a.0 ∙ (ap (λ (l : List Holder). released_by l 1) holds ∙ none_left held),
+    ))
+    (refusal v given (step.Release 1) reply.Released w is)
+  where
+    none_left : (b : Bool) → released_by (holds_of (suc v.committed) b) 1 ≡ []
+    none_left true = refl
+    none_left false = refl
+
+close_answered : (v : View) (given : Given) (r : Reply) (w : View) → MayCommit v → MayAnswer v given step.Close r w → Reaches v r w
+close_answered v given (reply.Closed group) w may a = (
   flows v w _ a.0.3 a.1 refl refl refl,
-  (ap (λ (x : View). x.sync) a.1 ∙ about.0, ap (λ (x : Flow). x.holds) a.0.3 ∙ about.2),
+  (ap (λ (x : View). x.sync) a.1 ∙ may.idle, ap (λ (x : Flow). x.holds) a.0.3 ∙ may.no_holds),
 )
-close_answered v given r w about a = absurd a
+close_answered v given r w may a = absurd a
 
 quiesce_answered : (v : View) (given : Given) (r : Reply) (w : View) (group : ℕ) → IsAbout (reply.Closed group) v → MayAnswer v given step.Quiesce r w → Reaches v r w
 quiesce_answered v given (reply.Quiesced n) w group about a = (
@@ -166,63 +182,59 @@ device_answered v given r w waits holds a = absurd a
 
 -- ---- the steps of a commit, one after another
 
-release_step : (v : View) (given : Given) (r : Reply) (w : View) → MayCommit v → StepOf v given (step.Release 1) r w → Reaches v r w
-release_step v given r w may is = by_answer v given (step.Release 1) r w is (release_answered v given r w may)
+close_step : (v : View) (given : Given) (r : Reply) (w : View) → MayCommit v → StepOf v given step.Close r w → Reaches v r w
+close_step v given r w may is = by_answer v given step.Close r w is (close_answered v given r w may)
 
 -- behind what nothing was committed by
 further : (u v w : View) (r : Reply) → IsBetween u v → Reaches v r w → Reaches u r w
 further u v w (reply.Committed group) between reaches = between_then u v w between reaches
 further u v w r between reaches = (between_both u v w between reaches.0, reaches.1)
 
-some_step : (s next : Step) → Some s ≡ Some next → s ≡ next
-some_step s next e = cc
+one_step : (s next : Step) → s ∷ [] ≡ next ∷ [] → s ≡ next
+one_step s next e = cc
 
-next_step : (u : View) (t : ℕ) (last : Reply) (v : View) (given : Given) (next : Step) (r : Reply) (w : View) → next_of t last ≡ Some next → Reaches u last v → StepOf v given next r w → Reaches u r w
-next_step u t reply.Released v given next r w e so is =
-    let s = subst (λ (x : Step). StepOf v given x r w) (sym (some_step step.Close next e)) is in
-    further u v w r so.0 (by_answer v given step.Close r w s (close_answered v given r w so.1))
+next_step : (u : View) (t : ℕ) (last : Reply) (v : View) (given : Given) (next : Step) (r : Reply) (w : View) → next_of t last ≡ next ∷ [] → Reaches u last v → StepOf v given next r w → Reaches u r w
 next_step u t (reply.Closed group) v given next r w e so is =
-    let s = subst (λ (x : Step). StepOf v given x r w) (sym (some_step step.Quiesce next e)) is in
+    let s = subst (λ (x : Step). StepOf v given x r w) (sym (one_step step.Quiesce next e)) is in
     further u v w r so.0 (by_answer v given step.Quiesce r w s (quiesce_answered v given r w group so.1))
 next_step u t (reply.Quiesced group) v given next r w e so is =
-    let s = subst (λ (x : Step). StepOf v given x r w) (sym (some_step (step.Plan t) next e)) is in
+    let s = subst (λ (x : Step). StepOf v given x r w) (sym (one_step (step.Plan t) next e)) is in
     let may : MayPlan v = (ap (λ (x : Sync). if is_syncing x then v.waiting else None) so.1.0, so.1.1) in
     further u v w r so.0 (by_answer v given (step.Plan t) r w s (plan_answered v given t r w may))
 next_step u t (reply.Replan disk) v given next r w e so is =
-    let s = subst (λ (x : Step). StepOf v given x r w) (sym (some_step (step.Plan t) next e)) is in
+    let s = subst (λ (x : Step). StepOf v given x r w) (sym (one_step (step.Plan t) next e)) is in
     let may : MayPlan v = (ap (λ (x : Sync). if is_syncing x then v.waiting else None) so.1.0 ∙ so.1.1, so.1.2) in
     further u v w r so.0 (by_answer v given (step.Plan t) r w s (plan_answered v given t r w may))
 next_step u t (reply.Planned group) v given next r w e so is =
-    let s = subst (λ (x : Step). StepOf v given x r w) (sym (some_step step.Device next e)) is in
+    let s = subst (λ (x : Step). StepOf v given x r w) (sym (one_step step.Device next e)) is in
     further u v w r so.0 (by_answer v given step.Device r w s (device_answered v given r w so.1.0 so.1.1))
 next_step u t (reply.Moved phase) v given next r w e so is =
-    let s = subst (λ (x : Step). StepOf v given x r w) (sym (some_step step.Device next e)) is in
+    let s = subst (λ (x : Step). StepOf v given x r w) (sym (one_step step.Device next e)) is in
     further u v w r so.0 (by_answer v given step.Device r w s (device_answered v given r w so.1.0 so.1.1))
 next_step u t last v given next r w e so is = absurd cc
 
-is_flushing : (t : ℕ) (last : Reply) (next : Step) → next_of t last ≡ Some next → flushing next
-is_flushing t reply.Released next e = subst flushing (some_step step.Close next e) tt
-is_flushing t (reply.Closed group) next e = subst flushing (some_step step.Quiesce next e) tt
-is_flushing t (reply.Quiesced group) next e = subst flushing (some_step (step.Plan t) next e) tt
-is_flushing t (reply.Replan disk) next e = subst flushing (some_step (step.Plan t) next e) tt
-is_flushing t (reply.Planned group) next e = subst flushing (some_step step.Device next e) tt
-is_flushing t (reply.Moved phase) next e = subst flushing (some_step step.Device next e) tt
+is_flushing : (t : ℕ) (last : Reply) (next : Step) → next_of t last ≡ next ∷ [] → flushing next
+is_flushing t (reply.Closed group) next e = subst flushing (one_step step.Quiesce next e) tt
+is_flushing t (reply.Quiesced group) next e = subst flushing (one_step (step.Plan t) next e) tt
+is_flushing t (reply.Replan disk) next e = subst flushing (one_step (step.Plan t) next e) tt
+is_flushing t (reply.Planned group) next e = subst flushing (one_step step.Device next e) tt
+is_flushing t (reply.Moved phase) next e = subst flushing (one_step step.Device next e) tt
 is_flushing t last next e = absurd cc
 
 module _ {P : Type 0} (g : Ghosts P) where
   abbrev EachGoes : P → Step → Reply → P → Type 0
   EachGoes = Goes g.represents g.answers_truly g.links
 
-  pub begins : ((core : P) → g.came_from core core) → (old : P) (r : Reply) (new : P) → g.came_from old new → EachGoes old (step.Release 1) r new → Commits g old r new
+  pub begins : ((core : P) → g.came_from core core) → (old : P) (r : Reply) (new : P) → g.came_from old new → EachGoes old step.Close r new → Commits g old r new
   begins itself old r new follows goes = record {
     follows = follows;
-    last = record { before = old; from_old = itself old; step = step.Release 1; kind = refl; goes = goes };
-    reaches = λ v represents truly may. let one = goes v represents truly in (one.after, one.represents_after, release_step v one.given r one.after may one.is_step);
+    last = record { before = old; from_old = itself old; step = step.Close; kind = tt; goes = goes };
+    reaches = λ v represents truly may. let one = goes v represents truly in (one.after, one.represents_after, close_step v one.given r one.after may one.is_step);
   }
 
   pub goes_on : ((first mid last : P) → g.came_from first mid → g.came_from mid last → g.came_from first last)
       → ((first mid last : P) → g.came_from first mid → g.came_from mid last → g.answers_truly first last → g.answers_truly first mid × g.answers_truly mid last)
-      → (t : ℕ) (old : P) (last : Reply) (mid : P) (next : Step) (r : Reply) (new : P) → next_of t last ≡ Some next → Commits g old last mid → g.came_from mid new → EachGoes mid next r new → Commits g old r new
+      → (t : ℕ) (old : P) (last : Reply) (mid : P) (next : Step) (r : Reply) (new : P) → next_of t last ≡ next ∷ [] → Commits g old last mid → g.came_from mid new → EachGoes mid next r new → Commits g old r new
   goes_on further parts t old last mid next r new is so_far follows goes = record {
     follows = further old mid new so_far.follows follows;
     last = record { before = mid; from_old = so_far.follows; step = next; kind = is_flushing t last next is; goes = goes };

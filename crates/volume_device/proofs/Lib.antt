@@ -1,3 +1,4 @@
 pub mod Nows
 pub mod Pieces
 pub mod Committing
+pub mod Flushing

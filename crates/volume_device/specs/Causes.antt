@@ -4,6 +4,7 @@ use Rattle.pool_model.specs.declared.refusal.Refusal.{Refusal}
 use Rattle.pool_model.specs.declared.refusal.Refusal.TheVariants.{NoMemory}
 use Rattle.pool_model.specs.declared.step.Step.{Step}
 use Rattle.pool_model.specs.declared.step.Step.TheVariants as step
+use Rattle.pool_model.specs.declared.step.Reply.{Reply}
 use Rattle.pool_model.specs.declared.step.Reply.TheVariants.{Refused}
 use Rattle.pool_steps.specs.declared.steps.PoolSteps.{Ghosts}
 use Rattle.pool_steps.specs.Goes.{Goes}
@@ -28,6 +29,11 @@ abbrev pub writing : List ℕ → ℕ → List ℕ → Step → Type 0
 writing name offset bytes (step.Hold writer) = writer ≡ 1
 writing name offset bytes (step.Write w) = (w.writer ≡ 1) × (w.volume ≡ name) × (offset ≤ w.offset) × (w.offset + length w.bytes ≤ offset + length bytes)
 writing name offset bytes other = flushing other
+
+-- why a step was not answered as it should be
+abbrev pub cause_of : Reply → Refusal
+cause_of (Refused cause) = cause
+cause_of reply = NoMemory
 
 module _ {P : Type 0} (steps : Ghosts P) where
   -- a step of this kind was taken, and refused for this cause

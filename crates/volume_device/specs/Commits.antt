@@ -1,31 +1,19 @@
--- What a commit makes of a pool, from the writer's hold of the open group on.
-use Rattle.std.specs.Prelude.{◌≡◌, ℕ, suc, true, [], Option, Some, None}
+-- What a commit makes of a pool.
+use Rattle.std.specs.Prelude.{◌≡◌, suc, [], None}
 use Rattle.pool_model.specs.declared.step.Step.{Step}
-use Rattle.pool_model.specs.declared.step.Step.TheVariants as step
 use Rattle.pool_model.specs.declared.step.Reply.{Reply}
-use Rattle.pool_model.specs.declared.step.Reply.TheVariants.{Released, Closed, Quiesced, Planned, Moved, Replan, Committed, Refused}
+use Rattle.pool_model.specs.declared.step.Reply.TheVariants.{Closed, Quiesced, Planned, Moved, Replan, Committed, Refused}
 use Rattle.pool_model.specs.Pools.{applied}
 use Rattle.pool_model.specs.View.{View, Idle, Unplanned}
 use Rattle.pool_steps.specs.declared.steps.PoolSteps.{Ghosts}
 use Rattle.pool_steps.specs.Goes.{Goes}
 use Rattle.volume_device.specs.Causes.{flushing}
-use Rattle.volume_device.specs.Devices.{holds_of}
 
--- the step that brings the group on after this reply, unless it is committed or refused
-abbrev pub next_of : ℕ → Reply → Option Step
-next_of timestamp Released = Some step.Close
-next_of timestamp (Closed group) = Some step.Quiesce
-next_of timestamp (Quiesced group) = Some (step.Plan timestamp)
-next_of timestamp (Planned group) = Some step.Device
-next_of timestamp (Moved phase) = Some step.Device
-next_of timestamp (Replan disk) = Some (step.Plan timestamp)
-next_of timestamp reply = None
-
--- the writer holds the open group, nobody else does, and no group waits or is synced
+-- nobody holds a group, and none waits or is synced
 pub record MayCommit (v : View) : Type 0 where
   pub idle : v.sync ≡ Idle
   pub none_waits : v.waiting ≡ None
-  pub holds : v.holds ≡ holds_of (suc v.committed) true
+  pub no_holds : v.holds ≡ []
 
 -- no group is committed, and no item accepted
 pub record IsBetween (v w : View) : Type 0 where
@@ -46,7 +34,6 @@ pub record IsCommitted (v w : View) : Type 0 where
 
 -- how far the group is after this reply
 abbrev pub IsAbout : Reply → View → Type 0
-IsAbout Released w = (w.sync ≡ Idle) × (w.waiting ≡ None) × (w.holds ≡ [])
 IsAbout (Closed group) w = (w.sync ≡ Idle) × (w.holds ≡ [])
 IsAbout (Quiesced group) w = (w.sync ≡ Idle) × (w.holds ≡ [])
 IsAbout (Planned group) w = (w.waiting ≡ None) × (w.holds ≡ [])

@@ -1,14 +1,18 @@
 //! The device.
-ghost use Rattle.std.specs.Prelude.{◌≡◌, IfErr, IfOk, OnErr, OnOk};
+ghost use Rattle.std.specs.Prelude.{◌≡◌, None, Some, false, IfErr, IfOk, OnErr, OnOk};
 ghost use Rattle.pool_model.specs.View.{View};
 ghost use Rattle.command_steps.specs.Made.{IsAtRest};
 ghost use Rattle.volume_device.specs.Contents.{AreRead, IsCutOff, IsFlushed, IsSame, IsWritten, at_rest};
 ghost use Rattle.volume_device.specs.Devices.{Leads, Shows, core_of, name_of};
-ghost use Rattle.volume_device.specs.Causes.{IsCaused, reading, writing, flushing};
+ghost use Rattle.volume_device.specs.Causes.{IsCaused, cause_of, reading, writing, flushing};
 
-use pool_model::{Name, Refusal};
+use crate::commit::commit;
+use pool_model::{Name, Refusal, Reply, Step};
 use pool_steps::PoolSteps;
 use std::alloc::Global;
+
+/// The one writer of a session.
+const WRITER: u32 = 1;
 
 /// A volume or a snapshot of an opened pool, which nobody else changes meanwhile.
 #[derive(Drop)]
@@ -83,7 +87,68 @@ impl<P: PoolSteps> Device<P> {
         ensures refused { IfErr result (λ cause. Leads P.PoolSteps self.old self.new IsSame) }
         ensures caused { IfErr result (IsCaused P.PoolSteps flushing self.old self.new) }
     {
-        Err(Refusal::NoMemory)
+        if let Some(cause) = self.refused {
+            return Err(cause);
+        }
+        self.release()?;
+        self.commit()
+    }
+
+    /// Gives the hold of the open group back, where there is one.
+    fn release(&mut self) -> Result<(), Refusal>
+        requires { self.old.refused ≡ None }
+        ensures follows { P.came_from (core_of self.old) (core_of self.new) }
+        ensures name { name_of self.new ≡ name_of self.old }
+        ensures same { Leads P.PoolSteps self.old self.new IsSame }
+        ensures released { OnOk result (self.new ≡ record self.old {
+          core = core_of self.new;
+          held = false;
+        }) }
+        ensures caused { IfErr result (IsCaused P.PoolSteps flushing self.old self.new) }
+    {
+        if !self.held {
+            return Ok(());
+        }
+        let reply = self.core.take_step(Step::Release(WRITER));
+        if let Reply::Released = reply {
+            self.held = false;
+            return Ok(());
+        }
+        Err(self.stop(&reply))
+    }
+
+    /// Commits what is pending, if anything is, once the hold is given back.
+    fn commit(&mut self) -> Result<(), Refusal>
+        requires goes_on { self.old.refused ≡ None }
+        requires free { self.old.held ≡ false }
+        ensures follows { P.came_from (core_of self.old) (core_of self.new) }
+        ensures name { name_of self.new ≡ name_of self.old }
+        ensures flushed { OnOk result (Leads P.PoolSteps self.old self.new IsFlushed) }
+        ensures refused { IfErr result (λ cause. Leads P.PoolSteps self.old self.new IsSame) }
+        ensures caused { IfErr result (IsCaused P.PoolSteps flushing self.old self.new) }
+    {
+        if self.pending == 0 {
+            return Ok(());
+        }
+        let reply = commit(&mut self.core, self.timestamp);
+        if let Reply::Committed(_) = reply {
+            self.pending = 0;
+            return Ok(());
+        }
+        Err(self.stop(&reply))
+    }
+
+    /// A step of a commit was not answered as it should be: nothing is written or flushed from now on.
+    fn stop(&mut self, reply: &Reply) -> Refusal
+        ensures stopped { self.new ≡ record self.old { refused = Some result } }
+        ensures caused { result ≡ cause_of reply.now }
+    {
+        let cause = match reply {
+            Reply::Refused(cause) => *cause,
+            _ => Refusal::NoMemory,
+        };
+        self.refused = Some(cause);
+        cause
     }
 
     pub fn into_core(self) -> P
