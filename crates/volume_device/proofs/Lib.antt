@@ -2,3 +2,4 @@ pub mod Nows
 pub mod Pieces
 pub mod Committing
 pub mod Flushing
+pub mod Writing

@@ -43,11 +43,12 @@ pub record IsWritten (name : List ℕ) (offset : ℕ) (bytes : List ℕ) (c d : 
   pub now : IsOverwritten name offset bytes c.now d.now
   pub safe : (d.safe ≡ c.safe) ⊎ (d.safe ≡ d.now)
 
--- a front of the bytes is written, and nothing more is committed
+-- a front of the bytes is written, which fits (or is empty), and nothing more is committed
 pub record IsCutOff (name : List ℕ) (offset : ℕ) (bytes : List ℕ) (c d : Contents) : Type 0 where
   pub front : List ℕ
   pub back : List ℕ
   pub parts : bytes ≡ front ++ back
+  pub fits : (front ≡ []) ⊎ FitsIn c.now name offset (length front)
   pub now : IsOverwritten name offset front c.now d.now
   pub safe : d.safe ≡ c.safe
 

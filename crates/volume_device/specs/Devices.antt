@@ -36,7 +36,14 @@ MayGoOn (Some cause) v number pending held = Unit {0}
 MayGoOn None v number pending held = GoesOnFrom v number pending held
 
 module _ {P : Type 0} (steps : Ghosts P) where
-  -- the pool has this
+  -- the core is in a state in which its pool has this
+  pub record Has (core : P) (c : Contents) : Type 0 where
+    pub view : View
+    pub represents : steps.represents core view
+    pub now : now_of view ≡ c.now
+    pub safe : view.pools view.committed ≡ c.safe
+
+  -- the device's pool has this, and the session may go on
   pub record Shows (device : Device P) (c : Contents) : Type 0 where
     pub view : View
     pub represents : steps.represents device.core view

@@ -2,8 +2,8 @@
 ghost use Rattle.std.specs.Prelude.{◌≡◌, None, Some, false, IfErr, IfOk, OnErr, OnOk};
 ghost use Rattle.pool_model.specs.View.{View};
 ghost use Rattle.command_steps.specs.Made.{IsAtRest};
-ghost use Rattle.volume_device.specs.Contents.{AreRead, IsCutOff, IsFlushed, IsSame, IsWritten, at_rest};
-ghost use Rattle.volume_device.specs.Devices.{Leads, Shows, core_of, name_of};
+ghost use Rattle.volume_device.specs.Contents.{AreRead, Contents, IsCutOff, IsFlushed, IsSame, IsWritten, at_rest};
+ghost use Rattle.volume_device.specs.Devices.{Has, Leads, Shows, core_of, name_of};
 ghost use Rattle.volume_device.specs.Causes.{IsCaused, cause_of, reading, writing, flushing};
 
 use crate::commit::commit;
@@ -152,7 +152,8 @@ impl<P: PoolSteps> Device<P> {
     }
 
     pub fn into_core(self) -> P
-        ensures { result ≡ core_of self }
+        ensures core { result ≡ core_of self }
+        ensures has { (c : Contents) → Shows P.PoolSteps self c → Has P.PoolSteps result c }
     {
         self.core
     }

@@ -1,4 +1,4 @@
-use Rattle.std.proofs.Common.{[], refl}
+use Rattle.std.proofs.Common.{[], inl, refl}
 use Rattle.volume_device.proofs.Pieces.{overwritten_none}
 use Rattle.volume_device.proofs.device.Device.write.Goals as goal
 
@@ -10,6 +10,7 @@ returns-clause-refused g c = λ contents shows truly. (
     front = [];
     back = c.args.bytes.now;
     parts = refl;
+    fits = inl refl;
     now = overwritten_none c.args.self.now.name c.args.offset contents.now;
     safe = refl;
   },
