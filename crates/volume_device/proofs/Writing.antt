@@ -1,6 +1,6 @@
 -- What a write that is accepted makes of NOW.
-use Rattle.std.proofs.Common.{◌≡◌, ◌⊎◌, ⊎_elim, ℕ, suc, ◌+◌, ◌≤◌, ◌<◌, ◌^◌, List, [], ◌∷◌, ◌++◌, length, Bool, true, false, Option, Some, None, refl, sym, ap, ◌∙◌, subst, arith}
-use Rattle.std.specs.Prelude.{cond, fold, not, nat_le, ◌==◌, ◌&&◌}
+use Rattle.std.proofs.Common.{◌≡◌, ⊎_elim, ℕ, suc, ◌+◌, ◌≤◌, ◌<◌, List, [], ◌∷◌, ◌++◌, length, Bool, true, false, Option, Some, None, refl, sym, ap, ◌∙◌, subst, arith}
+use Rattle.std.specs.Prelude.{cond, fold, not, nat_le, ◌==◌}
 use Rattle.std.proofs.lemmas.Bool.Decides.{nat_tests}
 use Rattle.std.proofs.lemmas.List.Sums.{fold_push}
 use Rattle.pool_model.specs.declared.group.Holder.{Holder}
@@ -15,7 +15,7 @@ use Rattle.pool_model.specs.declared.step.Reply.TheVariants as reply
 use Rattle.pool_model.specs.declared.volume.PlainVolume.{PlainVolume}
 use Rattle.pool_model.specs.Flow.{Flow, FlowStep, flow_of, added, ledger_accepted, opened}
 use Rattle.pool_model.specs.Machine.{IsAnswered, IsRefused, LacksMemory, StepOf, MayAnswer, with_flow}
-use Rattle.pool_model.specs.Pools.{Entry, PlainPool, applied, changed, is_snapshot, no_items, volume_at, written}
+use Rattle.pool_model.specs.Pools.{Entry, PlainPool, applied, changed, is_snapshot, volume_at, written}
 use Rattle.pool_model.specs.Refusals.{first_cause, greatest, is_aligned, is_in_range, number_refusal, or_else, place_refusal, refusal_of, write_refusal}
 use Rattle.pool_model.specs.Sound.{IsSound}
 use Rattle.pool_model.specs.View.{View, Given, hold_group, is_suspended, now_of}
@@ -201,7 +201,7 @@ hold_answered v given number pending group w goes_on a =
       sync = ap (λ (u : View). u.sync) a.1;
       waiting = ap (λ (f : Flow). f.waiting) flow;
       holds = ap (λ (f : Flow). f.holds) flow
-      ∙ ((λ i. goes_on.holds i ++ record { writer = 1; group = (a.0.1 ∙ top) i } ∷ []) ∙ sym (ap (λ n. holds_of (suc n) true) committed));
+          ∙ ((λ i. goes_on.holds i ++ record { writer = 1; group = (a.0.1 ∙ top) i } ∷ []) ∙ sym (ap (λ n. holds_of (suc n) true) committed));
     }
 
 pub was_held : (v : View) (given : Given) (number pending group : ℕ) (w : View) → GoesOnFrom v number pending false → StepOf v given (step.Hold 1) (reply.Held group) w → IsHeld v w

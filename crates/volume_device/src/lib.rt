@@ -3,5 +3,7 @@
 
 mod commit;
 mod device;
+mod laws;
 
 pub use device::Device;
+pub use laws::{names_still_ascend, parts_are_one};
