@@ -70,6 +70,20 @@ module _ {P : Type 0} (g : Ghosts P) where
     goes = is.goes;
   }))
 
+  -- what the first call asks for the second one asks too
+  pub caused_in : (takes more : Step → Type 0) (old new : Device P) (cause : Refusal) → ((s : Step) → takes s → more s) → IsCaused g takes old new cause → IsCaused g more old new cause
+  caused_in takes more old new cause wider (inl lacks) = inl lacks
+  caused_in takes more old new cause wider (inr (inl before)) = inr (inl before)
+  caused_in takes more old new cause wider (inr (inr is)) = inr (inr (record {
+    before = is.before;
+    after = is.after;
+    from_old = is.from_old;
+    to_new = is.to_new;
+    step = is.step;
+    kind = wider is.step is.kind;
+    goes = is.goes;
+  }))
+
   -- a step was not answered as it should be
   pub caused_by : ((core : P) → g.came_from core core) → (takes : Step → Type 0) (old new : Device P) (before : P) (s : Step) (r : Reply) → takes s → g.came_from old.core before → EachGoes before s r new.core → IsCaused g takes old new (cause_of r)
   caused_by itself takes old new before s (reply.Refused cause) kind from goes = inr (inr (record {
@@ -86,7 +100,7 @@ module _ {P : Type 0} (g : Ghosts P) where
   -- ---- what a device shows
 
   module _ (sound : AreSound) where
-    on_from : (device : Device P) (c : Contents) → device.refused ≡ None → (shows : Shows g device c) → GoesOnFrom shows.view device.number device.pending device.held
+    pub on_from : (device : Device P) (c : Contents) → device.refused ≡ None → (shows : Shows g device c) → GoesOnFrom shows.view device.number device.pending device.held
     on_from device c goes_on shows = subst (λ (o : Option Refusal). MayGoOn o shows.view device.number device.pending device.held) goes_on shows.goes_on
 
     -- with nothing pending all is committed

@@ -3,3 +3,4 @@ pub mod Pieces
 pub mod Committing
 pub mod Flushing
 pub mod Writing
+pub mod Holding

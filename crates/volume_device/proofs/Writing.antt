@@ -154,6 +154,10 @@ abbrev pub IsNoReceipt : Reply → Type 0
 IsNoReceipt (reply.Receipt group) = ⊥
 IsNoReceipt r = Unit {0}
 
+pub is_no_receipt : (r : Reply) → ((group : ℕ) → r ≡ reply.Receipt group → ⊥) → IsNoReceipt r
+is_no_receipt (reply.Receipt group) not = absurd (not group refl)
+is_no_receipt r not = tt
+
 not_answered : (v : View) (given : Given) (x : Write) (r : Reply) (w : View) → IsNoReceipt r → MayAnswer v given (step.Write x) r w → w ≡ v
 not_answered v given x (reply.Receipt group) w not a = absurd not
 not_answered v given x r w not a = absurd a
@@ -171,6 +175,10 @@ not_wrote v given x r w not is = ⊎_elim
 abbrev pub IsNoHold : Reply → Type 0
 IsNoHold (reply.Held group) = ⊥
 IsNoHold r = Unit {0}
+
+pub is_no_hold : (r : Reply) → ((group : ℕ) → r ≡ reply.Held group → ⊥) → IsNoHold r
+is_no_hold (reply.Held group) not = absurd (not group refl)
+is_no_hold r not = tt
 
 hold_not_answered : (v : View) (given : Given) (r : Reply) (w : View) → IsNoHold r → MayAnswer v given (step.Hold 1) r w → w ≡ v
 hold_not_answered v given (reply.Held group) w not a = absurd not

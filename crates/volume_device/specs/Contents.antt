@@ -43,6 +43,12 @@ pub record IsWritten (name : List ℕ) (offset : ℕ) (bytes : List ℕ) (c d : 
   pub now : IsOverwritten name offset bytes c.now d.now
   pub safe : (d.safe ≡ c.safe) ⊎ (d.safe ≡ d.now)
 
+-- the bytes are written so, and nothing more is committed
+pub record IsWrittenOn (name : List ℕ) (offset : ℕ) (bytes : List ℕ) (c d : Contents) : Type 0 where
+  pub fits : (bytes ≡ []) ⊎ FitsIn c.now name offset (length bytes)
+  pub now : IsOverwritten name offset bytes c.now d.now
+  pub safe : d.safe ≡ c.safe
+
 -- a front of the bytes is written, which fits (or is empty), and nothing more is committed
 pub record IsCutOff (name : List ℕ) (offset : ℕ) (bytes : List ℕ) (c d : Contents) : Type 0 where
   pub front : List ℕ
@@ -56,3 +62,7 @@ pub record IsCutOff (name : List ℕ) (offset : ℕ) (bytes : List ℕ) (c d : C
 pub record IsFlushed (c d : Contents) : Type 0 where
   pub now : d.now ≡ c.now
   pub safe : d.safe ≡ c.now
+
+-- nothing has changed, or all that was written is committed
+abbrev pub IsSettled : Contents → Contents → Type 0
+IsSettled c d = (d ≡ c) ⊎ IsFlushed c d

@@ -1,18 +1,26 @@
 //! The device.
-ghost use Rattle.std.specs.Prelude.{◌≡◌, None, Some, false, IfErr, IfOk, OnErr, OnOk};
+ghost use Rattle.std.specs.Prelude.{◌≡◌, ◌<◌, ℕ, List, length, None, Some, true, false, IfErr, IfOk, OnErr, OnOk};
+ghost use Rattle.pool_model.specs.declared.refusal.Refusal.TheVariants.{NoMemory};
 ghost use Rattle.pool_model.specs.View.{View};
 ghost use Rattle.command_steps.specs.Made.{IsAtRest};
-ghost use Rattle.volume_device.specs.Contents.{AreRead, Contents, IsCutOff, IsFlushed, IsSame, IsWritten, at_rest};
+ghost use Rattle.volume_device.specs.Contents.{AreRead, Contents, IsCutOff, IsFlushed, IsSame, IsSettled, IsWritten, IsWrittenOn, at_rest};
 ghost use Rattle.volume_device.specs.Devices.{Has, Leads, Shows, core_of, name_of};
 ghost use Rattle.volume_device.specs.Causes.{IsCaused, cause_of, reading, writing, flushing};
 
 use crate::commit::commit;
-use pool_model::{Name, Refusal, Reply, Step};
+use crate::laws::parts_are_one;
+use pool_model::{Bytes, Name, Refusal, Reply, Step, Write};
 use pool_steps::PoolSteps;
 use std::alloc::Global;
 
 /// The one writer of a session.
 const WRITER: u32 = 1;
+
+/// The most bytes that one step reads or writes: 1 MiB.
+const MOST_BYTES: usize = 1 << 20;
+
+/// So many bytes may wait for a commit, once a write is done: 32 MiB.
+const MOST_PENDING: u64 = 32 << 20;
 
 /// A volume or a snapshot of an opened pool, which nobody else changes meanwhile.
 #[derive(Drop)]
@@ -74,10 +82,137 @@ impl<P: PoolSteps> Device<P> {
         ensures caused { IfErr result (IsCaused P.PoolSteps
             (writing (name_of self.old) offset bytes.now) self.old self.new) }
     {
-        let _ = alloc;
-        let _ = offset;
-        let _ = bytes;
-        Err(Refusal::NoMemory)
+        if let Some(cause) = self.refused {
+            return Err(cause);
+        }
+        self.write_pieces(alloc, offset, bytes)?;
+        self.settle()
+    }
+
+    /// Writes the bytes, a piece after another.
+    fn write_pieces(&mut self, alloc: Global, offset: u64, bytes: &[u8]) -> Result<(), Refusal>
+        requires { self.old.refused ≡ None }
+        ensures follows { P.came_from (core_of self.old) (core_of self.new) }
+        ensures name { name_of self.new ≡ name_of self.old }
+        ensures goes_on { self.new.refused ≡ None }
+        ensures written { OnOk result (Leads P.PoolSteps self.old self.new
+            (IsWrittenOn (name_of self.old) offset bytes.now)) }
+        ensures refused { IfErr result (λ cause. Leads P.PoolSteps self.old self.new
+            (IsCutOff (name_of self.old) offset bytes.now)) }
+        ensures caused { IfErr result (IsCaused P.PoolSteps
+            (writing (name_of self.old) offset bytes.now) self.old self.new) }
+    {
+        parts_are_one();
+        let mut done = 0;
+        while done < bytes.len() {
+            let len = (bytes.len() - done).min(MOST_BYTES);
+            let Some(at) = offset.checked_add(done as u64) else {
+                return Err(Refusal::NoMemory);
+            };
+            self.write_piece(alloc, at, &bytes[done..done + len])?;
+            done += len;
+        }
+        Ok(())
+    }
+
+    /// Writes at most 1 MiB, under a hold of the open group.
+    fn write_piece(&mut self, alloc: Global, offset: u64, piece: &[u8]) -> Result<(), Refusal>
+        requires goes_on { self.old.refused ≡ None }
+        requires some { 0 < length piece.now }
+        ensures follows { P.came_from (core_of self.old) (core_of self.new) }
+        ensures name { name_of self.new ≡ name_of self.old }
+        ensures goes_on { self.new.refused ≡ None }
+        ensures written { OnOk result (Leads P.PoolSteps self.old self.new
+            (IsWrittenOn (name_of self.old) offset piece.now)) }
+        ensures refused { IfErr result (λ cause. Leads P.PoolSteps self.old self.new IsSame) }
+        ensures caused { IfErr result (IsCaused P.PoolSteps
+            (writing (name_of self.old) offset piece.now) self.old self.new) }
+    {
+        let write = self.numbered(alloc, offset, piece)?;
+        self.hold()?;
+        self.take(write)
+    }
+
+    /// The write with the writer's next number.
+    fn numbered(&self, alloc: Global, offset: u64, piece: &[u8]) -> Result<Write, Refusal>
+        ensures write { IfOk result (λ write. write ≡ record { writer = 1; number = self.now.number;
+            volume = name_of self.now; offset = offset; bytes = piece.now }) }
+        ensures refused { IfErr result (λ cause. cause ≡ NoMemory) }
+    {
+        let Ok(volume) = self.name.copied(alloc) else {
+            return Err(Refusal::NoMemory);
+        };
+        let Ok(bytes) = Vec::from_slice(alloc, piece) else {
+            return Err(Refusal::NoMemory);
+        };
+        Ok(Write {
+            writer: WRITER,
+            number: self.number,
+            volume,
+            offset,
+            bytes: Bytes::new(bytes),
+        })
+    }
+
+    /// Takes a hold of the open group, where there is none.
+    fn hold(&mut self) -> Result<(), Refusal>
+        requires { self.old.refused ≡ None }
+        ensures follows { P.came_from (core_of self.old) (core_of self.new) }
+        ensures same { Leads P.PoolSteps self.old self.new IsSame }
+        ensures held { OnOk result (self.new ≡ record self.old {
+            core = core_of self.new; held = true }) }
+        ensures not_held { OnErr result (self.new ≡ record self.old { core = core_of self.new }) }
+        ensures caused { IfErr result (λ cause. (name : List ℕ) (offset : ℕ) (bytes : List ℕ) →
+            IsCaused P.PoolSteps (writing name offset bytes) self.old self.new cause) }
+    {
+        if self.held {
+            return Ok(());
+        }
+        let reply = self.core.take_step(Step::Hold(WRITER));
+        if let Reply::Held(_) = reply {
+            self.held = true;
+            return Ok(());
+        }
+        Err(cause_of(&reply))
+    }
+
+    /// Takes the write, which has the next number, under the hold.
+    fn take(&mut self, write: Write) -> Result<(), Refusal>
+        requires goes_on { self.old.refused ≡ None }
+        requires held { self.old.held ≡ true }
+        requires numbered { (write.writer ≡ 1) × (write.number ≡ self.old.number) }
+        requires some { 0 < length write.bytes }
+        ensures follows { P.came_from (core_of self.old) (core_of self.new) }
+        ensures name { name_of self.new ≡ name_of self.old }
+        ensures goes_on { self.new.refused ≡ None }
+        ensures written { OnOk result (Leads P.PoolSteps self.old self.new
+            (IsWrittenOn write.volume write.offset write.bytes)) }
+        ensures refused { IfErr result (λ cause. Leads P.PoolSteps self.old self.new IsSame) }
+        ensures caused { IfErr result (IsCaused P.PoolSteps
+            (writing write.volume write.offset write.bytes) self.old self.new) }
+    {
+        let len = write.bytes.len() as u64;
+        let reply = self.core.take_step(Step::Write(write));
+        if let Reply::Receipt(_) = reply {
+            self.number = self.number.saturating_add(1);
+            self.pending = self.pending.saturating_add(len);
+            return Ok(());
+        }
+        Err(cause_of(&reply))
+    }
+
+    /// Commits what is pending, where it is too much.
+    fn settle(&mut self) -> Result<(), Refusal>
+        ensures follows { P.came_from (core_of self.old) (core_of self.new) }
+        ensures name { name_of self.new ≡ name_of self.old }
+        ensures settled { OnOk result (Leads P.PoolSteps self.old self.new IsSettled) }
+        ensures refused { IfErr result (λ cause. Leads P.PoolSteps self.old self.new IsSame) }
+        ensures caused { IfErr result (IsCaused P.PoolSteps flushing self.old self.new) }
+    {
+        if self.pending <= MOST_PENDING {
+            return Ok(());
+        }
+        self.flush()
     }
 
     pub fn flush(&mut self) -> Result<(), Refusal>
@@ -143,10 +278,7 @@ impl<P: PoolSteps> Device<P> {
         ensures stopped { self.new ≡ record self.old { refused = Some result } }
         ensures caused { result ≡ cause_of reply.now }
     {
-        let cause = match reply {
-            Reply::Refused(cause) => *cause,
-            _ => Refusal::NoMemory,
-        };
+        let cause = cause_of(reply);
         self.refused = Some(cause);
         cause
     }
@@ -156,5 +288,15 @@ impl<P: PoolSteps> Device<P> {
         ensures has { (c : Contents) → Shows P.PoolSteps self c → Has P.PoolSteps result c }
     {
         self.core
+    }
+}
+
+/// Why a step was not answered as it should be.
+fn cause_of(reply: &Reply) -> Refusal
+    ensures { result ≡ cause_of reply.now }
+{
+    match reply {
+        Reply::Refused(cause) => *cause,
+        _ => Refusal::NoMemory,
     }
 }
