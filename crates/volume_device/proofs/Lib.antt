@@ -4,3 +4,4 @@ pub mod Committing
 pub mod Flushing
 pub mod Writing
 pub mod Holding
+pub mod Looping
