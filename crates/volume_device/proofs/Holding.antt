@@ -1,5 +1,5 @@
 -- What a device shows once it holds the open group, and has written a piece.
-use Rattle.std.proofs.Common.{◌≡◌, inr, ℕ, suc, ◌+◌, ◌<◌, ◌≤◌, length, Bool, true, false, Option, Ok, Err, Some, None, refl, sym, ap, ◌∙◌, subst, arith}
+use Rattle.std.proofs.Common.{◌≡◌, inr, ℕ, suc, ◌+◌, ◌<◌, ◌≤◌, length, true, false, Option, Ok, Err, None, refl, sym, ap, ◌∙◌, subst, arith}
 use Rattle.std.specs.Prelude.{min, IfErr}
 use Rattle.std.specs.Result.{IsErrAnd}
 use Rattle.std.specs.declared.result.Result.{Result}
@@ -10,13 +10,13 @@ use Rattle.pool_model.specs.declared.step.Step.TheVariants as step
 use Rattle.pool_model.specs.declared.step.Reply.{Reply}
 use Rattle.pool_model.specs.declared.step.Reply.TheVariants as reply
 use Rattle.pool_model.specs.Machine.{StepOf}
-use Rattle.pool_model.specs.Pools.{PlainPool, volume_at, written}
+use Rattle.pool_model.specs.Pools.{PlainPool}
 use Rattle.pool_model.specs.Refusals.{greatest}
 use Rattle.pool_model.specs.View.{View, Given, now_of}
 use Rattle.pool_steps.specs.declared.steps.PoolSteps.{Ghosts}
 use Rattle.volume_device.specs.Causes.{IsCaused, cause_of}
-use Rattle.volume_device.specs.Contents.{Contents, FitsIn, IsSame, IsWrittenOn, overwritten}
-use Rattle.volume_device.specs.Devices.{GoesOnFrom, Leads, MayGoOn, Shows}
+use Rattle.volume_device.specs.Contents.{FitsIn, IsSame, IsWrittenOn, overwritten}
+use Rattle.volume_device.specs.Devices.{GoesOnFrom, Leads, MayGoOn}
 use Rattle.volume_device.specs.declared.device.Device.{Device}
 use Rattle.volume_device.proofs.Flushing.{AreSound, EachGoes, caused_by, on_from}
 use Rattle.volume_device.proofs.Nows.{now_between, on_between, safe_between}

@@ -1,13 +1,13 @@
 -- A write, piece by piece.
 use Rattle.std.proofs.Common.{◌≡◌, ◌⊎◌, inl, inr, ℕ, ◌+◌, ◌≤◌, List, [], ◌++◌, length, take, drop, None, refl, sym, ap, ◌∙◌, subst, arith}
 use Rattle.std.proofs.Math.Seq.{take-add}
-use Rattle.std.proofs.lemmas.List.{length-take-le, take-append-drop, take_all}
+use Rattle.std.proofs.lemmas.List.{append-nil, length-drop, length-take-le, take-append-drop, take_all}
 use Rattle.pool_model.specs.declared.refusal.Refusal.{Refusal}
 use Rattle.pool_model.specs.declared.step.Step.{Step}
 use Rattle.pool_model.specs.declared.step.Step.TheVariants as step
 use Rattle.pool_steps.specs.declared.steps.PoolSteps.{Ghosts}
-use Rattle.volume_device.specs.Causes.{IsCaused, writing}
-use Rattle.volume_device.specs.Contents.{Contents, FitsIn, IsCutOff, IsOverwritten, IsSame, IsWritten, IsWrittenOn}
+use Rattle.volume_device.specs.Causes.{IsCaused, flushing, writing}
+use Rattle.volume_device.specs.Contents.{Contents, FitsIn, IsCutOff, IsOverwritten, IsSame, IsSettled, IsWritten, IsWrittenOn}
 use Rattle.volume_device.specs.Devices.{Leads}
 use Rattle.volume_device.specs.declared.device.Device.{Device}
 use Rattle.volume_device.proofs.Flushing.{CameFurther, PartsAreTrue, caused_in, caused_then}
@@ -56,6 +56,11 @@ wider name offset at bytes piece low high (step.Plan timestamp) is = is
 wider name offset at bytes piece low high step.Device is = is
 wider name offset at bytes piece low high s is = absurd is
 
+flushes : (name : List ℕ) (offset : ℕ) (bytes : List ℕ) (s : Step) → flushing s → writing name offset bytes s
+flushes name offset bytes (step.Hold writer) is = absurd is
+flushes name offset bytes (step.Write w) is = absurd is
+flushes name offset bytes s is = is
+
 -- ---- devices
 
 module _ {P : Type 0} (g : Ghosts P) where
@@ -90,8 +95,8 @@ module _ {P : Type 0} (g : Ghosts P) where
           second.0,
           second.1,
           with_piece fit one old.name offset done len bytes c first.0 second.0 within first.2
-          (subst (λ (n : List ℕ). IsWrittenOn n (offset + done) (take len (drop done bytes)) first.0 second.0) so_far.name
-          (subst (λ (xs : List ℕ). IsWrittenOn mid.name (offset + done) xs first.0 second.0) is (subst (λ (n : ℕ). IsWrittenOn mid.name n piece first.0 second.0) place second.2))),
+              (subst (λ (n : List ℕ). IsWrittenOn n (offset + done) (take len (drop done bytes)) first.0 second.0) so_far.name
+              (subst (λ (xs : List ℕ). IsWrittenOn mid.name (offset + done) xs first.0 second.0) is (subst (λ (n : ℕ). IsWrittenOn mid.name n piece first.0 second.0) place second.2))),
         );
   }
 
@@ -121,9 +126,66 @@ module _ {P : Type 0} (g : Ghosts P) where
       let second = same first.0 first.1 both.1 in
       (second.0, second.1, subst (IsCutOff old.name offset bytes c) (sym second.2) first.2)
 
-  pub caused_at : CameFurther g → (old : Device P) (offset : ℕ) (bytes : List ℕ) (done : ℕ) (mid new : Device P) (at : ℕ) (piece : List ℕ) (cause : Refusal) → old.refused ≡ None → HasWritten old offset bytes done mid → at ≡ offset + done → done + length piece ≤ length bytes
-      → IsCaused g (writing mid.name at piece) mid new cause → IsCaused g (writing old.name offset bytes) old new cause
-  caused_at further old offset bytes done mid new at piece cause goes_on so_far place within caused =
+  pub caused_at : CameFurther g → (old : Device P) (offset : ℕ) (bytes : List ℕ) (done : ℕ) (mid new : Device P) (len at : ℕ) (piece : List ℕ) (cause : Refusal) → old.refused ≡ None → HasWritten old offset bytes done mid → at ≡ offset + done
+      → piece ≡ take len (drop done bytes) → done + len ≤ length bytes → IsCaused g (writing mid.name at piece) mid new cause → IsCaused g (writing old.name offset bytes) old new cause
+  caused_at further old offset bytes done mid new len at piece cause goes_on so_far place is within caused =
+      let size : length piece ≡ len = ap length is ∙ length-take-le len (drop done bytes) (omega (arith, length-drop done bytes)) in
       caused_then g further (writing old.name offset bytes) old mid new cause so_far.follows (so_far.goes_on ∙ sym goes_on)
       (caused_in g (writing mid.name at piece) (writing old.name offset bytes) mid new cause
-      (λ s is. wider old.name offset at bytes piece (omega arith) (omega arith) s (subst (λ (n : List ℕ). writing n at piece s) so_far.name is)) caused)
+      (λ s kind. wider old.name offset at bytes piece (omega arith) (omega arith) s (subst (λ (n : List ℕ). writing n at piece s) so_far.name kind)) caused)
+
+  -- ---- behind the last piece
+
+  settled_as : (name : List ℕ) (offset : ℕ) (bytes : List ℕ) (c d e : Contents) → IsWrittenOn name offset bytes c d → IsSettled d e → IsWritten name offset bytes c e
+  settled_as name offset bytes c d e on (inl same) = subst (IsWritten name offset bytes c) (sym same) (is_written name offset bytes c d on)
+  settled_as name offset bytes c d e on (inr flushed) = record {
+    fits = on.fits;
+    now = subst (IsOverwritten name offset bytes c.now) (sym flushed.now) on.now;
+    safe = inr (flushed.safe ∙ sym flushed.now);
+  }
+
+  pub then_settled : PartsAreTrue g → (old mid new : Device P) (offset : ℕ) (bytes : List ℕ) → g.came_from old.core mid.core → g.came_from mid.core new.core → Leads g old mid (IsWrittenOn old.name offset bytes) → Leads g mid new IsSettled
+      → Leads g old new (IsWritten old.name offset bytes)
+  then_settled parts old mid new offset bytes first second written settled c shows truly =
+      let both = parts old.core mid.core new.core first second truly in
+      let one = written c shows both.0 in
+      let two = settled one.0 one.1 both.1 in
+      (two.0, two.1, settled_as old.name offset bytes c one.0 two.0 one.2 two.2)
+
+  -- all is written, and not committed
+  pub then_not_settled : PartsAreTrue g → (old mid new : Device P) (offset : ℕ) (bytes : List ℕ) → g.came_from old.core mid.core → g.came_from mid.core new.core → Leads g old mid (IsWrittenOn old.name offset bytes) → Leads g mid new IsSame
+      → Leads g old new (IsCutOff old.name offset bytes)
+  then_not_settled parts old mid new offset bytes first second written same c shows truly =
+      let both = parts old.core mid.core new.core first second truly in
+      let one = written c shows both.0 in
+      let two = same one.0 one.1 both.1 in (
+        two.0,
+        two.1,
+        record {
+          front = bytes;
+          back = [];
+          parts = sym (append-nil bytes);
+          fits = one.2.fits;
+          now = subst (λ (d : Contents). IsOverwritten old.name offset bytes c.now d.now) (sym two.2) one.2.now;
+          safe = ap (λ (d : Contents). d.safe) two.2 ∙ one.2.safe;
+        },
+      )
+
+  pub caused_behind : CameFurther g → (old mid new : Device P) (offset : ℕ) (bytes : List ℕ) (cause : Refusal) → old.refused ≡ None → mid.refused ≡ None → g.came_from old.core mid.core → IsCaused g flushing mid new cause → IsCaused g (writing old.name offset bytes) old new cause
+  caused_behind further old mid new offset bytes cause goes_on still first caused =
+      caused_then g further (writing old.name offset bytes) old mid new cause first (still ∙ sym goes_on) (caused_in g flushing (writing old.name offset bytes) mid new cause (flushes old.name offset bytes) caused)
+
+  -- nothing is written once a commit was refused
+  pub none_written : (old : Device P) (offset : ℕ) (bytes : List ℕ) → Leads g old old (IsCutOff old.name offset bytes)
+  none_written old offset bytes c shows truly = (
+    c,
+    shows,
+    record {
+      front = [];
+      back = bytes;
+      parts = refl;
+      fits = inl refl;
+      now = overwritten_none old.name offset c.now;
+      safe = refl;
+    },
+  )

@@ -135,8 +135,13 @@ impl<P: PoolSteps> Device<P> {
 
     /// The write with the writer's next number.
     fn numbered(&self, alloc: Global, offset: u64, piece: &[u8]) -> Result<Write, Refusal>
-        ensures write { IfOk result (λ write. write ≡ record { writer = 1; number = self.now.number;
-            volume = name_of self.now; offset = offset; bytes = piece.now }) }
+        ensures write { IfOk result (λ write. write ≡ record {
+          writer = 1;
+          number = self.now.number;
+          volume = name_of self.now;
+          offset = offset;
+          bytes = piece.now;
+        }) }
         ensures refused { IfErr result (λ cause. cause ≡ NoMemory) }
     {
         let Ok(volume) = self.name.copied(alloc) else {
@@ -160,7 +165,9 @@ impl<P: PoolSteps> Device<P> {
         ensures follows { P.came_from (core_of self.old) (core_of self.new) }
         ensures same { Leads P.PoolSteps self.old self.new IsSame }
         ensures held { OnOk result (self.new ≡ record self.old {
-            core = core_of self.new; held = true }) }
+          core = core_of self.new;
+          held = true;
+        }) }
         ensures not_held { OnErr result (self.new ≡ record self.old { core = core_of self.new }) }
         ensures caused { IfErr result (λ cause. (name : List ℕ) (offset : ℕ) (bytes : List ℕ) →
             IsCaused P.PoolSteps (writing name offset bytes) self.old self.new cause) }
