@@ -32,7 +32,7 @@ still_some n len sum e some none = omega arith
 
 -- ---- causes
 
-pub passed_on : (r : Result (Unit {0}) Refusal) (cause : Refusal) (caused : Refusal → Type 0) → IsErrAnd r (λ e. e ≡ cause) → caused cause → IfErr r caused
+pub passed_on : {T : Type 0} (r : Result T Refusal) (cause : Refusal) (caused : Refusal → Type 0) → IsErrAnd r (λ e. e ≡ cause) → caused cause → IfErr r caused
 passed_on (Ok x) cause caused is c = tt
 passed_on (Err e) cause caused is c = subst caused (sym is) c
 

@@ -5,3 +5,4 @@ pub mod Flushing
 pub mod Writing
 pub mod Holding
 pub mod Looping
+pub mod Reading

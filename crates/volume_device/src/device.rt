@@ -1,5 +1,5 @@
 //! The device.
-ghost use Rattle.std.specs.Prelude.{◌≡◌, ◌<◌, ℕ, List, length, None, Some, true, false, IfErr, IfOk, OnErr, OnOk};
+ghost use Rattle.std.specs.Prelude.{◌≡◌, ◌<◌, ◌++◌, ℕ, List, length, None, Some, true, false, IfErr, IfOk, OnErr, OnOk};
 ghost use Rattle.pool_model.specs.declared.refusal.Refusal.TheVariants.{NoMemory};
 ghost use Rattle.pool_model.specs.View.{View};
 ghost use Rattle.command_steps.specs.Made.{IsAtRest};
@@ -66,10 +66,38 @@ impl<P: PoolSteps> Device<P> {
         ensures caused { IfErr result (IsCaused P.PoolSteps
             (reading (name_of self.old) offset len) self.old self.new) }
     {
-        let _ = alloc;
-        let _ = offset;
-        let _ = len;
-        Err(Refusal::NoMemory)
+        let mut done = len.min(MOST_BYTES as u64);
+        let mut bytes = self.read_piece(alloc, offset, done)?;
+        while done < len {
+            let more = (len - done).min(MOST_BYTES as u64);
+            let Some(at) = offset.checked_add(done) else {
+                return Err(Refusal::NoMemory);
+            };
+            let piece = self.read_piece(alloc, at, more)?;
+            append(&mut bytes, piece.as_slice())?;
+            done += more;
+        }
+        Ok(bytes)
+    }
+
+    /// Reads by one step.
+    fn read_piece(&mut self, alloc: Global, offset: u64, len: u64) -> Result<Vec<u8>, Refusal>
+        ensures follows { P.came_from (core_of self.old) (core_of self.new) }
+        ensures kept { self.new ≡ record self.old { core = core_of self.new } }
+        ensures read { IfOk result (λ bytes. Leads P.PoolSteps self.old self.new
+            (AreRead (name_of self.old) offset len bytes.items)) }
+        ensures refused { OnErr result (Leads P.PoolSteps self.old self.new IsSame) }
+        ensures caused { IfErr result (IsCaused P.PoolSteps
+            (reading (name_of self.old) offset len) self.old self.new) }
+    {
+        let Ok(name) = self.name.copied(alloc) else {
+            return Err(Refusal::NoMemory);
+        };
+        let reply = self.core.take_step(Step::Read { name, offset, len });
+        match reply {
+            Reply::Bytes(bytes) => Ok(bytes.into_vec()),
+            _ => Err(cause_of(&reply)),
+        }
     }
 
     pub fn write(&mut self, alloc: Global, offset: u64, bytes: &[u8]) -> Result<(), Refusal>
@@ -305,5 +333,16 @@ fn cause_of(reply: &Reply) -> Refusal
     match reply {
         Reply::Refused(cause) => *cause,
         _ => Refusal::NoMemory,
+    }
+}
+
+/// Puts more bytes behind these.
+fn append(bytes: &mut Vec<u8>, more: &[u8]) -> Result<(), Refusal>
+    ensures appended { OnOk result (bytes.new.items ≡ bytes.old.items ++ more.now) }
+    ensures refused { IfErr result (λ cause. cause ≡ NoMemory) }
+{
+    match bytes.extend_from_slice(more) {
+        Ok(()) => Ok(()),
+        Err(_) => Err(Refusal::NoMemory),
     }
 }
