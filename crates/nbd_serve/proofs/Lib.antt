@@ -1,0 +1,4 @@
+pub mod Consuming
+pub mod Leading
+pub mod Performing
+pub mod Stepping

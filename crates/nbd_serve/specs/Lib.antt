@@ -1,0 +1,5 @@
+pub mod Verdicts
+pub mod Exchanges
+pub mod Answers
+pub mod Sessions
+pub mod Steps
