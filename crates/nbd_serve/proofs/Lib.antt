@@ -1,4 +1,5 @@
 pub mod Consuming
+pub mod Dealing
 pub mod Leading
 pub mod Performing
 pub mod Stepping

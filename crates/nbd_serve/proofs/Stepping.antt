@@ -14,11 +14,7 @@ use Rattle.nbd_serve.specs.Steps.{IsAnswered, Steps}
 use Rattle.nbd_serve.specs.declared.ended.Ended.{Ended}
 use Rattle.nbd_serve.specs.declared.ended.Ended.TheVariants.{Hostile, NoMemory, Output, Refused, Torn}
 use Rattle.nbd_serve.specs.declared.export.Export.{Export}
-use Rattle.nbd_serve.proofs.Consuming.{appended_more, appended_none, consumed_more, consumed_none}
-
-one_more : (f : Exchange → List ℕ) (es : List Exchange) (e : Exchange) → flat_map f es ++ f e ≡ flat_map f (es ++ e ∷ [])
-one_more f [] e = sym (append-nil (f e))
-one_more f (x ∷ es) e = append_assoc (f x) (flat_map f es) (f e) ∙ ap (λ (l : List ℕ). f x ++ l) (one_more f es e)
+use Rattle.nbd_serve.proofs.Consuming.{appended_more, appended_none, consumed_more, consumed_none, one_more}
 
 -- the reply to a request that was answered was sent, or it couldn't be
 pub sent_or_not : {P : Type 0} (steps : Ghosts P) (export : Export) (head : RequestHead) (old new : Device P) (input left output written : Option (List ℕ)) (answered : IsAnswered steps export head old new input left output written)

@@ -1,5 +1,6 @@
 //! How a session ends.
 use pool_model::Refusal;
+use std::alloc::AllocError;
 
 /// Why a session ended otherwise than politely. At every end but `Refused` all that was written is committed.
 #[derive(Debug, Clone, Copy, Drop, thiserror::Error)]
@@ -20,4 +21,15 @@ pub enum Ended {
     /// No memory for an option's data.
     #[error("no memory")]
     NoMemory,
+}
+
+impl From<AllocError> for Ended {
+    ghost use Rattle.std.specs.Prelude.{◌≡◌};
+    ghost use Rattle.nbd_serve.specs.declared.ended.Ended.TheVariants.{NoMemory};
+
+    ghost from_gives = { λ _ ended. ended ≡ NoMemory };
+
+    fn from(_error: AllocError) -> Ended {
+        Ended::NoMemory
+    }
 }

@@ -63,7 +63,7 @@ fn drop_payload<R: Read>(input: &mut R, len: usize) -> Result<(), Ended>
     Ok(())
 }
 
-fn zeros(alloc: Global, len: usize) -> Result<Vec<u8>, AllocError>
+pub(crate) fn zeros(alloc: Global, len: usize) -> Result<Vec<u8>, AllocError>
     ensures { IfOk result (λ bytes. length bytes.items ≡ len) }
 {
     vec![in alloc; 0u8; len]

@@ -3,9 +3,12 @@
 #![tactic(auto)]
 
 mod answering;
+mod course;
 mod ended;
 mod export;
+mod haggling;
 mod input;
+mod options;
 mod output;
 mod transmission;
 mod verdicts;
