@@ -1,12 +1,12 @@
 -- Options that are answered one after another.
-use Rattle.std.proofs.Common.{◌≡◌, ◌≢◌, ◌⊎◌, inl, inr, ℕ, Bool, false, List, [], ◌∷◌, ◌++◌, Option, Some, Result, Ok, Err, refl, sym, ap, ◌∙◌, subst}
+use Rattle.std.proofs.Common.{◌≡◌, ◌≢◌, ◌⊎◌, inl, inr, ℕ, Bool, false, List, [], ◌∷◌, ◌++◌, Option, Some, Ok, Err, refl, sym, subst}
 use Rattle.std.specs.List.{AllByRecursion, flat_map}
 use Rattle.std.specs.Io.KnownBytes.{Appends, Consumes}
 use Rattle.nbd_wire.specs.Options.{option_kind_of}
 use Rattle.nbd_wire.specs.declared.options.OptionKind.TheVariants.{ExportName}
 use Rattle.nbd_serve.specs.Dealings.{DealsOne, IsDealtWith}
-use Rattle.nbd_serve.specs.Haggling.{Deals, EndsOptions, IsAnswered, IsNoOption, IsShort}
-use Rattle.nbd_serve.specs.Options.{Dealing, answered, is_known, optioned, wished}
+use Rattle.nbd_serve.specs.Haggling.{Deals, EndsOptions, IsAnswered, IsNoOption}
+use Rattle.nbd_serve.specs.Options.{answered, is_known, optioned, wished}
 use Rattle.nbd_serve.specs.declared.course.Course.{Course}
 use Rattle.nbd_serve.specs.declared.course.Course.TheVariants.{GoesOn}
 use Rattle.nbd_serve.specs.declared.ended.Ended.{Ended}

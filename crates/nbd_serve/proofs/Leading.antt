@@ -1,8 +1,8 @@
 -- What leads from device to device.
-use Rattle.std.proofs.Common.{◌≡◌, List, ℕ, refl, sym, subst}
+use Rattle.std.proofs.Common.{refl}
 use Rattle.pool_steps.specs.declared.steps.PoolSteps.{Ghosts}
 use Rattle.volume_device.specs.Contents.{Contents, IsSame}
-use Rattle.volume_device.specs.Devices.{Leads, Shows, core_of, name_of}
+use Rattle.volume_device.specs.Devices.{Leads, core_of}
 use Rattle.volume_device.specs.declared.device.Device.{Device}
 
 module _ {P : Type 0} (steps : Ghosts P) where

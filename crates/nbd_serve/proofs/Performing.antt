@@ -1,5 +1,5 @@
 -- What the pool was asked for, and how it is answered.
-use Rattle.std.proofs.Common.{◌≡◌, ◌⊎◌, inl, inr, List, ℕ, [], length, Bool, true, false, Option, Some, None, refl, sym, ap, ◌∙◌, subst}
+use Rattle.std.proofs.Common.{◌≡◌, [], length, Bool, true, false, Option, Some, None, refl, sym, ap, ◌∙◌, subst}
 use Rattle.std.specs.Prelude.{IfSome, nat_le, if◌then◌else◌}
 use Rattle.nbd_wire.specs.Requests.{command_of}
 use Rattle.nbd_wire.specs.declared.errors.ErrorCode.{ErrorCode}
@@ -8,7 +8,6 @@ use Rattle.nbd_wire.specs.declared.requests.Command.{Command}
 use Rattle.nbd_wire.specs.declared.requests.Command.TheVariants.{Disconnect, Flush, Read, Write}
 use Rattle.nbd_wire.specs.declared.requests.RequestHead.{RequestHead}
 use Rattle.pool_steps.specs.declared.steps.PoolSteps.{Ghosts}
-use Rattle.volume_device.specs.Contents.{Contents, IsSame}
 use Rattle.volume_device.specs.Devices.{Leads, core_of, name_of}
 use Rattle.volume_device.specs.declared.device.Device.{Device}
 use Rattle.nbd_serve.specs.Answers.{Fails, Performs, Responds}

@@ -1,7 +1,5 @@
 -- Requests that are answered one after another.
-use Rattle.std.proofs.Common.{◌≡◌, ℕ, List, [], ◌∷◌, ◌++◌, Option, Result, Ok, Err, OnOk, IfErr, inr, length, refl, sym, ap, ◌∙◌, subst, append_assoc, append-nil}
-use Rattle.std.proofs.lemmas.List.Concat.{flat_map-cons}
-use Rattle.std.specs.List.{flat_map}
+use Rattle.std.proofs.Common.{◌≡◌, ℕ, List, [], ◌∷◌, ◌++◌, Option, Result, Ok, Err, OnOk, IfErr, inr, length, refl, sym, ap, ◌∙◌, subst}
 use Rattle.std.specs.Io.KnownBytes.{Appends, Consumes}
 use Rattle.nbd_wire.specs.Requests.{SpellsRequest, request_bytes}
 use Rattle.nbd_wire.specs.declared.requests.RequestHead.{RequestHead}
@@ -64,15 +62,18 @@ module _ {P : Type 0} (steps : Ghosts P) (export : Export) where
       → (exchanges : List Exchange) × Serves steps export old exchanges new × Transmits input further output sent exchanges (Err ended)
   ends_at old now new input left head_read further output written sent so_far head bytes consumed spelled Torn step =
       (so_far.exchanges, subst (Serves steps export old so_far.exchanges) (sym step.same) so_far.serves, record { asked = (left, so_far.asked); replied = subst (λ (o : Option (List ℕ)). Appends output o (all_replied so_far.exchanges)) (sym step.silent) so_far.replied })
-  ends_at old now new input left head_read further output written sent so_far head bytes consumed spelled Hostile step =
-      (so_far.exchanges, subst (Serves steps export old so_far.exchanges) (sym step.0.same) so_far.serves, record {
-        last = bytes;
-        mid = left;
-        asked = so_far.asked;
-        broken = subst (λ (o : Option (List ℕ)). Consumes left o bytes) (sym step.1) consumed;
-        hostile = (ap length spelled.bytes_are, inr (head, spelled, step.2, step.3));
-        replied = subst (λ (o : Option (List ℕ)). Appends output o (all_replied so_far.exchanges)) (sym step.0.silent) so_far.replied;
-      })
+  ends_at old now new input left head_read further output written sent so_far head bytes consumed spelled Hostile step = (
+    so_far.exchanges,
+    subst (Serves steps export old so_far.exchanges) (sym step.0.same) so_far.serves,
+    record {
+      last = bytes;
+      mid = left;
+      asked = so_far.asked;
+      broken = subst (λ (o : Option (List ℕ)). Consumes left o bytes) (sym step.1) consumed;
+      hostile = (ap length spelled.bytes_are, inr (head, spelled, step.2, step.3));
+      replied = subst (λ (o : Option (List ℕ)). Appends output o (all_replied so_far.exchanges)) (sym step.0.silent) so_far.replied;
+    },
+  )
   ends_at old now new input left head_read further output written sent so_far head bytes consumed spelled Output step =
       let e = step.exchange in
       let is : bytes ≡ request_bytes e.head = spelled.bytes_are ∙ ap request_bytes (sym step.head_is) in

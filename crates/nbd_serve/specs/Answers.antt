@@ -1,5 +1,5 @@
 -- How requests are answered, and why not.
-use Rattle.std.specs.Prelude.{◌≡◌, ◌≢◌, ◌⊎◌, ℕ, true, List, [], ◌∷◌, length, Option, Some, None, IfSome, MatchOption}
+use Rattle.std.specs.Prelude.{◌≡◌, ◌≢◌, ◌⊎◌, ℕ, true, List, [], ◌∷◌, length, Option, Some, IfSome, MatchOption}
 use Rattle.nbd_wire.specs.Requests.{SpellsRequest, command_of, request_bytes}
 use Rattle.nbd_wire.specs.declared.errors.ErrorCode.{ErrorCode}
 use Rattle.nbd_wire.specs.declared.errors.ErrorCode.TheVariants.{Io}

@@ -6,3 +6,4 @@ pub mod Haggling
 pub mod Sessions
 pub mod Steps
 pub mod Dealings
+pub mod Serving

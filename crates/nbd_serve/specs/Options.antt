@@ -1,5 +1,5 @@
 -- NBD protocol, "Option types": how the options of a client are answered, and where they lead.
-use Rattle.std.specs.Prelude.{◌≡◌, ◌||◌, ◌+◌, ℕ, Bool, true, false, List, [], ◌++◌, length, replicate, Option, Some, None, nat_eq, nat_le, if◌then◌else◌}
+use Rattle.std.specs.Prelude.{◌≡◌, ◌||◌, ℕ, Bool, true, false, List, [], ◌++◌, length, replicate, Option, Some, None, nat_le, if◌then◌else◌}
 use Rattle.std.specs.Int.{w32, to_be_bytes}
 use Rattle.nbd_wire.specs.Options.{SpellsInfoRequest, option_head_bytes, option_kind_of}
 use Rattle.nbd_wire.specs.Replies.{block_size_info_bytes, export_bytes, export_info_bytes, option_reply_bytes}

@@ -1,5 +1,5 @@
 -- Which requests the pool is asked for, and which errors its refusals become.
-use Rattle.std.specs.Prelude.{◌==◌, ◌&&◌, ◌+◌, ◌%◌, ◌^◌, ℕ, Bool, not, Option, Some, None, nat_eq, nat_le, if◌then◌else◌}
+use Rattle.std.specs.Prelude.{◌&&◌, ◌+◌, ◌%◌, ◌^◌, Bool, not, Option, Some, None, nat_eq, nat_le, if◌then◌else◌}
 use Rattle.nbd_wire.specs.Requests.{command_of}
 use Rattle.nbd_wire.specs.declared.errors.ErrorCode.{ErrorCode}
 use Rattle.nbd_wire.specs.declared.errors.ErrorCode.TheVariants.{Invalid, Io, NoMemory, NoSpace, NotPermitted}

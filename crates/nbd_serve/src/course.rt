@@ -13,8 +13,16 @@ pub(crate) enum Course {
 
 impl Course {
     ghost use Rattle.std.specs.Prelude.{◌≡◌, ◌↔◌, IsTrue};
-    ghost use Rattle.nbd_serve.specs.declared.course.Course.TheVariants.{GoesOn};
+    ghost use Rattle.nbd_serve.specs.declared.course.Course.TheVariants.{GoesOn, Left};
 
+    /// Whether the client has left.
+    pub(crate) fn is_left(self) -> bool
+        ensures { IsTrue result ↔ (self ≡ Left) }
+    {
+        matches!(self, Course::Left)
+    }
+
+    /// Whether the next option comes.
     pub(crate) fn goes_on(self) -> bool
         ensures { IsTrue result ↔ (self ≡ GoesOn) }
     {

@@ -10,8 +10,10 @@ mod haggling;
 mod input;
 mod options;
 mod output;
+mod serving;
 mod transmission;
 mod verdicts;
 
 pub use ended::Ended;
 pub use export::Export;
+pub use serving::serve;

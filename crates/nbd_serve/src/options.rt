@@ -48,12 +48,7 @@ fn wish_of(export: &Export, data: &[u8]) -> Wish
 }
 
 /// Puts a reply behind what is answered already.
-fn put(
-    answer: &mut Vec<u8>,
-    option: u32,
-    reply: OptionReply,
-    data: &[u8],
-) -> Result<(), AllocError>
+fn put(answer: &mut Vec<u8>, option: u32, reply: OptionReply, data: &[u8]) -> Result<(), AllocError>
     requires { length «data».now < 2 ^ 32 }
     ensures { OnOk result (answer.new.items
         ≡ answer.old.items ++ replying option reply «data».now) }
@@ -83,7 +78,12 @@ fn info(alloc: Global, export: &Export, option: u32, wish: Wish) -> Result<Vec<u
             let mut answer = Vec::new(alloc);
             let told = encode_export_info(export.size, export.read_only);
             put(&mut answer, option, OptionReply::Info, &told)?;
-            put(&mut answer, option, OptionReply::Info, &encode_block_size_info())?;
+            put(
+                &mut answer,
+                option,
+                OptionReply::Info,
+                &encode_block_size_info(),
+            )?;
             put(&mut answer, option, OptionReply::Ack, &[])?;
             Ok(answer)
         }

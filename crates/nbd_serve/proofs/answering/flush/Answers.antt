@@ -1,7 +1,6 @@
-use Rattle.std.proofs.Common.{[], Some, refl, ◌∙◌}
+use Rattle.std.proofs.Common.{Some, refl}
 use Rattle.nbd_wire.specs.declared.requests.Command.TheVariants as commands
 use Rattle.nbd_serve.specs.Exchanges.{exchange}
-use Rattle.nbd_serve.specs.Verdicts.{error_of}
 use Rattle.nbd_serve.proofs.Performing.{done, failed}
 use Rattle.nbd_serve.proofs.answering.flush.Goals as goal
 

@@ -1,4 +1,4 @@
-use Rattle.std.proofs.Common.{[], Some, refl, ◌∙◌, ◌≡◌, inl, inr, arith, length}
+use Rattle.std.proofs.Common.{Some, refl, inl, inr, arith}
 use Rattle.nbd_wire.specs.declared.errors.ErrorCode.TheVariants.{Io}
 use Rattle.nbd_wire.specs.declared.requests.Command.TheVariants as commands
 use Rattle.volume_device.specs.Contents.{AreRead, IsSame}

@@ -1,4 +1,4 @@
-use Rattle.std.proofs.Common.{Some, None, sym, ap, subst, ◌∙◌, ◌≡◌, inl, refl, ℕ, List}
+use Rattle.std.proofs.Common.{Some, sym, ap, ◌∙◌, ◌≡◌, inl, refl}
 use Rattle.nbd_wire.specs.Requests.{command_of}
 use Rattle.nbd_wire.specs.declared.errors.ErrorCode.TheVariants.{NoMemory}
 use Rattle.nbd_wire.specs.declared.requests.Command.TheVariants as commands
@@ -8,7 +8,7 @@ use Rattle.volume_device.specs.Devices.{core_of, name_of}
 use Rattle.nbd_serve.specs.Exchanges.{IsNotDone, exchange}
 use Rattle.nbd_serve.specs.Verdicts.{is_forced}
 use Rattle.nbd_serve.proofs.Leading.{leads_nowhere, leads_also}
-use Rattle.nbd_serve.proofs.Performing.{asked_for, failed, judged-unknown}
+use Rattle.nbd_serve.proofs.Performing.{asked_for, failed}
 use Rattle.nbd_serve.proofs.answering.respond.Goals as goal
 
 pub returns-in-Some-Read : goal.returns-in-Some-Read

@@ -1,4 +1,4 @@
-use Rattle.std.proofs.Common.{[], Some, refl, sym, subst, ◌∙◌, ◌≡◌, inl, inr, Bool, true, false, List, ℕ}
+use Rattle.std.proofs.Common.{Some, refl, sym, subst, ◌∙◌, ◌≡◌, inl, inr, Bool, true, false, List, ℕ}
 use Rattle.nbd_wire.specs.declared.requests.Command.TheVariants as commands
 use Rattle.volume_device.specs.Contents.{Contents, IsCutOff, IsFlushed, IsSame, IsWritten}
 use Rattle.volume_device.specs.Devices.{Leads, core_of, name_of}

@@ -2,7 +2,7 @@ use Rattle.std.proofs.Common.{◌≡◌, subst}
 use Rattle.nbd_serve.specs.Dealings.{IsDealtWith}
 use Rattle.nbd_serve.specs.declared.course.Course.TheVariants.{GoesOn}
 use Rattle.std.proofs.lemmas.Result.{err_from_is_err_and}
-use Rattle.nbd_serve.proofs.Dealing.{deals_elsewhere, deals_more, deals_none, deals_short}
+use Rattle.nbd_serve.proofs.Dealing.{deals_more, deals_none, deals_short}
 use Rattle.nbd_serve.proofs.haggling.deal_all.Goals as goal
 
 pub loop-init : goal.loop-init

@@ -1,4 +1,4 @@
-use Rattle.std.proofs.Common.{◌≡◌, ◌+◌, ◌-◌, length, arith, subst, sym}
+use Rattle.std.proofs.Common.{◌≡◌, ◌+◌, ◌-◌, length, arith, subst}
 use Rattle.std.proofs.lemmas.List.{length-take}
 use Rattle.nbd_serve.proofs.Consuming.{HasDropped, dropped_more}
 use Rattle.nbd_serve.proofs.input.drop_payload.Goals as goal

@@ -1,7 +1,6 @@
-use Rattle.std.proofs.Common.{List, ℕ, ◌++◌, ◌≡◌, ◌∙◌, OnOk, [], ap, subst}
+use Rattle.std.proofs.Common.{List, ℕ, ◌++◌, ◌≡◌, ◌∙◌, OnOk, ap, subst}
 use Rattle.std.specs.Io.KnownBytes.{Appends}
 use Rattle.nbd_wire.specs.Requests.{simple_reply_bytes}
-use Rattle.nbd_serve.specs.Exchanges.{exchange, replied}
 use Rattle.nbd_serve.proofs.transmission.reply.Goals as goal
 
 pub returns-clause-sent : goal.returns-clause-sent

@@ -1,4 +1,4 @@
-use Rattle.std.proofs.Common.{◌∙◌, ◌≡◌, ap, sym, Err}
+use Rattle.std.proofs.Common.{◌∙◌, ◌≡◌, ap, sym}
 use Rattle.std.proofs.lemmas.Result.{err_from_is_err_and}
 use Rattle.nbd_wire.specs.Requests.{request_bytes}
 use Rattle.nbd_serve.proofs.Stepping.{answered_more, ends_at}
