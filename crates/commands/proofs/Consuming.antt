@@ -11,7 +11,7 @@ pub record SoFar (old now : Option (List ℕ)) (front : List ℕ) (len : ℕ) : 
   pub count : len ≡ counted (length read)
   pub kept : length read ≤ 2 ^ 20 → front ≡ read
 
-consumed_more : (a b c : Option (List ℕ)) (xs ys : List ℕ) → Consumes a b xs → Consumes b c ys → Consumes a c (xs ++ ys)
+pub consumed_more : (a b c : Option (List ℕ)) (xs ys : List ℕ) → Consumes a b xs → Consumes b c ys → Consumes a c (xs ++ ys)
 consumed_more None b c xs ys f g = tt
 consumed_more (Some x) None c xs ys f g = absurd f
 consumed_more (Some x) (Some y) None xs ys f g = absurd g

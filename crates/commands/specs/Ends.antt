@@ -1,5 +1,5 @@
 -- How a command ends.
-use Rattle.std.specs.Prelude.{ℕ}
+use Rattle.std.specs.Prelude.{ℕ, Result, Ok, Err}
 use Rattle.commands.specs.declared.status.ExitStatus.{ExitStatus}
 use Rattle.commands.specs.declared.status.ExitStatus.TheVariants as status
 use Rattle.commands.specs.declared.stop.Stop.{Stop}
@@ -16,5 +16,10 @@ status_of (stop.Pools cause) = status.Refused
 status_of (stop.Pool cause) = status.Refused
 status_of stop.DiskLost = status.Refused
 status_of stop.Input = status.Fault
+status_of stop.Protocol = status.Fault
 status_of stop.Output = status.Fault
 status_of stop.NotThere = status.Fault
+
+abbrev pub status_by : {R : Type 0} → Result (Unit {0}) (Stop R) → ExitStatus
+status_by (Ok done) = status.Done
+status_by (Err stop) = status_of stop

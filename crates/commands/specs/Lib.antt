@@ -3,4 +3,8 @@ pub mod Ends
 pub mod Input
 pub mod Lines
 pub mod Performs
+pub mod Pouring
 pub mod Rows
+pub mod Running
+pub mod Serves
+pub mod Streams

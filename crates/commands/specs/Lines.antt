@@ -1,13 +1,13 @@
 -- How a command line ends.
-use Rattle.std.specs.Prelude.{◌≡◌, ◌⊎◌, ℕ, true, false, List, Option, Ok}
+use Rattle.std.specs.Prelude.{◌≡◌, ◌⊎◌, ℕ, true, false, List, Option, Result, Ok}
 use Rattle.std.specs.Io.KnownBytes.{Appends}
 use Rattle.pool_command.specs.Causes.{Fails, is_answer}
 use Rattle.pool_command.specs.Reading.{command_of}
 use Rattle.pool_command.specs.declared.command.Command.{Command}
 use Rattle.pool_command.specs.declared.refusal.Refusal.{Refusal}
 use Rattle.pool_steps.specs.declared.steps.PoolSteps.{Ghosts as StepGhosts}
-use Rattle.commands.specs.Ends.{status_of}
-use Rattle.commands.specs.Performs.{Does, Stops}
+use Rattle.commands.specs.Ends.{status_by, status_of}
+use Rattle.commands.specs.Performs.{Does, IsPlain, Stops, Streams}
 use Rattle.commands.specs.declared.pools.Pools.{Ghosts}
 use Rattle.commands.specs.declared.status.ExitStatus.{ExitStatus}
 use Rattle.commands.specs.declared.status.ExitStatus.TheVariants.{Done, Fault}
@@ -37,10 +37,19 @@ module _ {S P F R : Type 0} (pools : Ghosts S P F R) (steps : StepGhosts P) (wor
   pub record IsStopped (before after : Option (List ℕ)) (status : ExitStatus) : Type 0 where
     pub command : Command
     pub asked : command_of words ≡ Ok command
+    pub plain : IsPlain command
     pub stop : Stop R
     pub stops : Stops pools steps command timestamp input old stop new
     pub status_is : status ≡ status_of stop
     pub silent : after ≡ before
+
+  -- it was done, or not, while it printed
+  pub record IsStreamed (before after : Option (List ℕ)) (status : ExitStatus) : Type 0 where
+    pub command : Command
+    pub asked : command_of words ≡ Ok command
+    pub ended : Result (Unit {0}) (Stop R)
+    pub streams : Streams pools steps command input old before after ended new
+    pub status_is : status ≡ status_by ended
 
   -- the words are no command, for that cause, or there was no memory to read them: nothing is opened or printed
   pub record IsNoCommand (before after : Option (List ℕ)) (status : ExitStatus) : Type 0 where
@@ -61,4 +70,4 @@ module _ {S P F R : Type 0} (pools : Ghosts S P F R) (steps : StepGhosts P) (wor
 
   abbrev pub EndsCommand : Option (List ℕ) → Option (List ℕ) → ExitStatus → Type 0
   EndsCommand before after status =
-      IsWhole before after status ⊎ IsUnprinted status ⊎ IsStopped before after status ⊎ IsNoCommand before after status ⊎ IsAnswered status
+      IsWhole before after status ⊎ IsUnprinted status ⊎ IsStopped before after status ⊎ IsStreamed before after status ⊎ IsNoCommand before after status ⊎ IsAnswered status

@@ -1,5 +1,5 @@
 -- What each command does, and why it doesn't.
-use Rattle.std.specs.Prelude.{◌≡◌, ◌⊎◌, ℕ, List, [], Option}
+use Rattle.std.specs.Prelude.{◌≡◌, ◌⊎◌, ℕ, List, [], Option, Result, Ok, Err}
 use Rattle.pool_command.specs.declared.command.Command.{Command}
 use Rattle.pool_command.specs.declared.command.Command.TheVariants.{Zpool, Zfs}
 use Rattle.pool_command.specs.declared.command.ZpoolCommand.{ZpoolCommand}
@@ -10,9 +10,17 @@ use Rattle.pool_model.specs.declared.item.Change.TheVariants as change
 use Rattle.pool_steps.specs.declared.steps.PoolSteps.{Ghosts as StepGhosts}
 use Rattle.commands.specs.Does.{IsChanged, IsListed, IsNotChanged, IsNotRead, IsNotTold, IsRead, IsShown, act, written}
 use Rattle.commands.specs.Input.{IsInput, IsNoInput}
+use Rattle.commands.specs.Serves.{IsServed, IsServeStopped}
+use Rattle.commands.specs.Streams.{IsFilled, IsNotFilled, IsReadCut, IsReadWhole}
 use Rattle.commands.specs.declared.pools.Pools.{Ghosts}
 use Rattle.commands.specs.declared.stop.Stop.{Stop}
 use Rattle.commands.specs.declared.stop.Stop.TheVariants as stop
+
+-- what it prints is printed at its end
+abbrev pub IsPlain : Command → Type 0
+IsPlain (Zfs (zfs.ReadAll name files)) = ⊥
+IsPlain (Zfs (zfs.Serve name files)) = ⊥
+IsPlain other = Unit {0}
 
 -- it isn't there yet, and nothing is opened
 abbrev pub IsNotThere : {S R : Type 0} → S → Stop R → S → Type 0
@@ -75,6 +83,7 @@ module _ {S P F R : Type 0} (pools : Ghosts S P F R) where
     DoesZfs (zfs.Write offset name files) timestamp input old printed new =
         (printed ≡ []) × ((bytes : List ℕ) × IsInput input bytes
         × IsChanged pools steps old files timestamp (written name offset bytes) new)
+    DoesZfs (zfs.WriteAll name files) timestamp input old printed new = (printed ≡ []) × IsFilled pools steps old files name input new
     DoesZfs (zfs.Read offset len name files) timestamp input old printed new = IsRead pools steps old files name offset len printed new
     DoesZfs other timestamp input old printed new = ⊥
 
@@ -92,8 +101,9 @@ module _ {S P F R : Type 0} (pools : Ghosts S P F R) where
     StopsZfs (zfs.Write offset name files) timestamp input old s new =
         (IsNoInput s × (new ≡ old)) ⊎ ((bytes : List ℕ) × IsInput input bytes
         × IsNotChanged pools steps old files timestamp (written name offset bytes) new s)
+    StopsZfs (zfs.WriteAll name files) timestamp input old s new = IsNotFilled pools steps old files name input new s
     StopsZfs (zfs.Read offset len name files) timestamp input old s new = IsNotRead pools steps old files name offset len new s
-    StopsZfs other timestamp input old s new = IsNotThere old s new
+    StopsZfs other timestamp input old s new = ⊥
 
     abbrev pub Does : Command → ℕ → Option (List ℕ) → S → List ℕ → S → Type 0
     Does (Zpool command) timestamp input old printed new = DoesZpool command old printed new
@@ -102,3 +112,11 @@ module _ {S P F R : Type 0} (pools : Ghosts S P F R) where
     abbrev pub Stops : Command → ℕ → Option (List ℕ) → S → Stop R → S → Type 0
     Stops (Zpool command) timestamp input old s new = StopsZpool command old s new
     Stops (Zfs command) timestamp input old s new = StopsZfs command timestamp input old s new
+
+    -- a line that prints as it goes on ended so: all of a volume is printed, or one is served
+    abbrev pub Streams : Command → Option (List ℕ) → S → Option (List ℕ) → Option (List ℕ) → Result (Unit {0}) (Stop R) → S → Type 0
+    Streams (Zfs (zfs.ReadAll name files)) input old before after (Ok done) new = IsReadWhole pools steps old files name before after new
+    Streams (Zfs (zfs.ReadAll name files)) input old before after (Err s) new = IsReadCut pools steps old files name before after new s
+    Streams (Zfs (zfs.Serve name files)) input old before after (Ok done) new = (left : Option (List ℕ)) × IsServed pools steps old files name input left before after new
+    Streams (Zfs (zfs.Serve name files)) input old before after (Err s) new = (left : Option (List ℕ)) × IsServeStopped pools steps old files name input left before after new s
+    Streams other input old before after ended new = ⊥

@@ -21,7 +21,7 @@ struct Given {
 }
 
 /// Reads more into a buffer: how many bytes, and none at the end.
-fn read_more<R: Read>(input: &mut R, buffer: &mut [u8]) -> io::Result<usize>
+pub(crate) fn read_more<R: Read>(input: &mut R, buffer: &mut [u8]) -> io::Result<usize>
     requires { 0 < length buffer.old }
     ensures { IfOk result (λ got. (got ≡ length (take got buffer.new))
         × Consumes (R.remaining input.old) (R.remaining input.new) (take got buffer.new)
@@ -31,7 +31,7 @@ fn read_more<R: Read>(input: &mut R, buffer: &mut [u8]) -> io::Result<usize>
 }
 
 /// Puts these bytes behind the others.
-fn put(front: &mut Vec<u8>, bytes: &[u8]) -> Result<(), AllocError>
+pub(crate) fn put(front: &mut Vec<u8>, bytes: &[u8]) -> Result<(), AllocError>
     ensures { OnOk result (front.new.items ≡ front.old.items ++ bytes.now) }
 {
     front.extend_from_slice(bytes)

@@ -6,9 +6,13 @@ mod changing;
 mod input;
 mod performing;
 mod pools;
+mod pouring;
 mod running;
+mod serving;
+mod sizes;
 mod status;
 mod stop;
+mod streaming;
 mod telling;
 
 pub use pools::Pools;

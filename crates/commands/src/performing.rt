@@ -1,13 +1,15 @@
 //! What a command does, up to what it prints.
 ghost use Rattle.std.specs.Prelude.{◌≡◌, [], IfErr, IfOk, OnOk};
+ghost use Rattle.pool_command.specs.declared.command.Command.TheVariants.{Zfs};
 ghost use Rattle.pool_command.specs.declared.command.ZpoolCommand.TheVariants.{Create};
 ghost use Rattle.commands.specs.Does.{IsChanged, IsNotChanged, act};
-ghost use Rattle.commands.specs.Performs.{Does, DoesZfs, DoesZpool, IsExported, IsNotExported, Stops, StopsZfs, StopsZpool};
+ghost use Rattle.commands.specs.Performs.{Does, DoesZfs, DoesZpool, IsExported, IsNotExported, IsPlain, Stops, StopsZfs, StopsZpool};
 
 use crate::changing::{act, changed, write};
 use crate::input::read_input;
 use crate::pools::Pools;
 use crate::stop::Stop;
+use crate::streaming::write_all;
 use crate::telling::{list, read, status};
 use pool_command::{Command, Files, NewPool, ZfsCommand, ZpoolCommand};
 use pool_model::Change;
@@ -87,6 +89,7 @@ fn zfs<S: Pools, R: Read>(
     timestamp: u64,
     input: &mut R,
 ) -> Result<Vec<u8>, Stop<S::Refusal>>
+    requires { IsPlain (Zfs command) }
     ensures done { IfOk result (λ printed. DoesZfs
         S.Pools S.Pool.PoolSteps command timestamp (R.remaining input.old) pools.old printed.items pools.new) }
     ensures stopped { IfErr result (λ stop. StopsZfs
@@ -135,7 +138,11 @@ fn zfs<S: Pools, R: Read>(
             changed(alloc, pools, &files, write(name, offset, bytes), timestamp)?;
             return Ok(Vec::new(alloc));
         }
-        _ => return Err(Stop::NotThere),
+        ZfsCommand::WriteAll { name, files } => {
+            write_all(alloc, pools, &files, name, timestamp, input)?;
+            return Ok(Vec::new(alloc));
+        }
+        ZfsCommand::ReadAll { .. } | ZfsCommand::Serve { .. } => return Ok(Vec::new(alloc)),
     };
     make(alloc, pools, &files, change, timestamp)
 }
@@ -148,6 +155,7 @@ pub(crate) fn perform<S: Pools, R: Read>(
     timestamp: u64,
     input: &mut R,
 ) -> Result<Vec<u8>, Stop<S::Refusal>>
+    requires { IsPlain command }
     ensures done { IfOk result (λ printed. Does
         S.Pools S.Pool.PoolSteps command timestamp (R.remaining input.old) pools.old printed.items pools.new) }
     ensures stopped { IfErr result (λ stop. Stops

@@ -34,7 +34,7 @@ impl ExitStatus {
     {
         match stop {
             Stop::Pools(_) | Stop::Pool(_) | Stop::DiskLost => ExitStatus::Refused,
-            Stop::Input | Stop::Output | Stop::NotThere => ExitStatus::Fault,
+            Stop::Input | Stop::Protocol | Stop::Output | Stop::NotThere => ExitStatus::Fault,
         }
     }
 }

@@ -12,8 +12,10 @@ pub enum Stop<R> {
     Pool(Refusal),
     /// The change is committed, and a disk failed on the way: what it lacks isn't kept, and the next command would take it as good.
     DiskLost,
-    /// Standard input failed, before any file was opened.
+    /// Standard input failed: of a write of one range, before any file was opened. Or it ended inside a request of a session.
     Input,
+    /// Who is at the other end of a session breaks its protocol.
+    Protocol,
     /// Standard output failed, when all was done but that.
     Output,
     /// A command that isn't there yet.
@@ -39,6 +41,7 @@ impl<R: fmt::Display> fmt::Display for Stop<R> {
             Stop::Pool(cause) => write!(f, "refused {cause}"),
             Stop::DiskLost => f.write_str("refused 2 DiskFault"),
             Stop::Input => f.write_str("input"),
+            Stop::Protocol => f.write_str("protocol"),
             Stop::Output => f.write_str("output"),
             Stop::NotThere => f.write_str("not there yet"),
         }

@@ -68,26 +68,44 @@ pub(crate) fn remove<F: Files<File = File>>(files: &F, paths: &Paths, count: usi
     }
 }
 
-/// Makes the files of a new pool, of zeros; where one of them can't be made the others are removed.
+/// Makes a file of so many zeros and locks it, where it can be locked.
+fn make_one<F: Files<File = File>>(
+    files: &F,
+    path: &str,
+    bytes: u64,
+) -> Option<(FileDisk, Option<File>)> {
+    let disk = FileDisk::create(files, path, bytes).ok()?;
+    match lock(files, path) {
+        Ok(lock) => Some((disk, lock)),
+        Err(_) => None,
+    }
+}
+
+/// Makes the files of a new pool, of zeros, and keeps other commands from them; where one of them can't be made the others are removed.
 pub(crate) fn make<F: Files<File = File>>(
     alloc: Global,
     files: &F,
     pool: &NewPool,
-) -> Result<Vec<FileDisk>, Refusal>
+) -> Result<HeldDisks, Refusal>
     ensures { IfErr result (IsNotMade pool.now) }
 {
     let paths = &pool.files;
     let mut disks = Vec::new(alloc);
+    let mut locks = Vec::new(alloc);
     for path in paths.as_slice() {
         let made = disks.len();
-        let Ok(disk) = FileDisk::create(files, path.as_str(), pool.bytes) else {
+        let Some((disk, lock)) = make_one(files, path.as_str(), pool.bytes) else {
             remove(files, paths, made);
             return Err(Refusal::NotMade);
         };
-        if disks.push(disk).is_err() {
+        let kept = match lock {
+            Some(lock) => locks.push(lock).is_ok(),
+            None => true,
+        };
+        if disks.push(disk).is_err() || !kept {
             remove(files, paths, made + 1);
             return Err(Refusal::Pool(pool_create::Refusal::NoMemory));
         }
     }
-    Ok(disks)
+    Ok(HeldDisks { disks, locks })
 }

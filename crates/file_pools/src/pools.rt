@@ -116,8 +116,9 @@ impl<'a, F: Files<File = File>> Pools for FilePools<'a, F> {
         if sectors_for_blocks(pool.bytes).is_none() {
             return Err(Refusal::Pool(pool_create::Refusal::BadConfig));
         }
-        let disks = make(alloc, self.files, &pool)?;
+        let HeldDisks { disks, locks } = make(alloc, self.files, &pool)?;
         let ended = made(alloc, disks, &pool);
+        drop(locks);
         if ended.is_err() {
             remove(self.files, &pool.files, pool.files.as_slice().len());
         }

@@ -71,19 +71,35 @@ const HANDSHAKES: [(&str, &str, &str); 19] = [
         "Ok(())",
     ),
     // EXPORT_NAME of another export
-    ("00000003 option 00000001 00000001 77", "greeting", "Err(Hostile)"),
+    (
+        "00000003 option 00000001 00000001 77",
+        "greeting",
+        "Err(Hostile)",
+    ),
     // no FIXED_NEWSTYLE, and a flag that is unknown
     ("00000002", "greeting", "Err(Hostile)"),
     ("00000005", "greeting", "Err(Hostile)"),
     // another magic number, and more data than may be
-    ("00000003 49484156454f5055 00000002 00000000", "greeting", "Err(Hostile)"),
-    ("00000003 option 000000ff 00010001", "greeting", "Err(Hostile)"),
+    (
+        "00000003 49484156454f5055 00000002 00000000",
+        "greeting",
+        "Err(Hostile)",
+    ),
+    (
+        "00000003 option 000000ff 00010001",
+        "greeting",
+        "Err(Hostile)",
+    ),
     // torn: at once, in the flags, between options, in an option's head, in its data
     ("", "greeting", "Err(Torn)"),
     ("0000", "greeting", "Err(Torn)"),
     ("00000003", "greeting", "Err(Torn)"),
     ("00000003 option 0000", "greeting", "Err(Torn)"),
-    ("00000003 option 00000003 00000002 00", "greeting", "Err(Torn)"),
+    (
+        "00000003 option 00000003 00000002 00",
+        "greeting",
+        "Err(Torn)",
+    ),
 ];
 
 /// Requests behind EXPORT_NAME, and the replies to them; whether the export is read-only, and how the session ends.
@@ -187,7 +203,10 @@ const TRANSMISSIONS: [(bool, &str, &str, &str); 14] = [
 ];
 
 /// What a client sends to be served the default export, and gets.
-const BEGUN: (&str, &str) = ("00000003 option 00000001 00000000 ", "greeting 0000000000001000 ");
+const BEGUN: (&str, &str) = (
+    "00000003 option 00000001 00000000 ",
+    "greeting 0000000000001000 ",
+);
 
 /// The bytes of a line: words, numbers in hexadecimal digits, and bytes so many times.
 fn bytes_of(alloc: Global, line: &str) -> Result<Vec<u8>, Fail> {
@@ -283,7 +302,8 @@ fn requests_are_answered(rt: HostRuntime) -> Result<(), Fail> {
 #[test]
 fn the_end_commits(rt: HostRuntime) -> Result<(), Fail> {
     let alloc = rt.alloc();
-    let line = "00000003 option 00000001 00000000 request 0000 0001 0000000000000001 0000000000000200 00000200 07*512 request";
+    let line =
+        "00000003 option 00000001 00000000 request 0000 0001 0000000000000001 0000000000000200 00000200 07*512 request";
     let sent = bytes_of(alloc, line)?;
     let (_, ended, mut machine) = served(alloc, false, sent.as_slice())?;
     assert!(rt; ended.as_str() == "Err(Torn)", "{ended}");

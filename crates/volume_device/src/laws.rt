@@ -32,3 +32,9 @@ pub fn names_still_ascend()
     pools_are_maps();
     pools_ascend_by_name();
 }
+
+/// A write of nothing changes nothing.
+pub fn nothing_is_overwritten()
+    ensures { (name : List ℕ) (offset : ℕ) (pool : PlainPool) →
+        IsOverwritten name offset [] pool pool }
+{}

@@ -6,4 +6,4 @@ mod device;
 mod laws;
 
 pub use device::Device;
-pub use laws::{names_still_ascend, parts_are_one};
+pub use laws::{names_still_ascend, nothing_is_overwritten, parts_are_one};
