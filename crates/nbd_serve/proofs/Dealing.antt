@@ -5,7 +5,7 @@ use Rattle.std.specs.Io.KnownBytes.{Appends, Consumes}
 use Rattle.nbd_wire.specs.Options.{option_kind_of}
 use Rattle.nbd_wire.specs.declared.options.OptionKind.TheVariants.{ExportName}
 use Rattle.nbd_serve.specs.Dealings.{DealsOne, IsDealtWith}
-use Rattle.nbd_serve.specs.Haggling.{Deals, EndsOptions, IsAnswered, IsNoOption}
+use Rattle.nbd_serve.specs.Haggling.{Deals, EndsOptions, IsSettled, IsNoOption}
 use Rattle.nbd_serve.specs.Options.{answered, is_known, optioned, wished}
 use Rattle.nbd_serve.specs.declared.course.Course.{Course}
 use Rattle.nbd_serve.specs.declared.course.Course.TheVariants.{GoesOn}
@@ -43,7 +43,7 @@ module _ (export : Export) (no_zeroes : Bool) where
   pub deals_more : (input left further output written sent : Option (List ℕ)) → Deals export no_zeroes input left output written → IsDealtWith export no_zeroes left further written sent GoesOn → Deals export no_zeroes input further output sent
   deals_more input left further output written sent so_far one = record {
     dealings = so_far.dealings ++ one.dealing ∷ [];
-    each = each_more (λ d. IsAnswered export no_zeroes d GoesOn) so_far.dealings one.dealing so_far.each one.is_answered;
+    each = each_more (λ d. IsSettled export no_zeroes d GoesOn) so_far.dealings one.dealing so_far.each one.is_settled;
     asked = subst (Consumes input further) (one_more wished so_far.dealings one.dealing) (consumed_more input left further (flat_map wished so_far.dealings) (wished one.dealing) so_far.asked one.asked);
     told = subst (Appends output sent) (one_more answered so_far.dealings one.dealing) (appended_more output written sent (flat_map answered so_far.dealings) one.dealing.answer so_far.told one.told);
   }
@@ -51,7 +51,7 @@ module _ (export : Export) (no_zeroes : Bool) where
   pub deals_elsewhere : (course : Course) (input left further output written sent : Option (List ℕ)) → course ≢ GoesOn → Deals export no_zeroes input left output written → IsDealtWith export no_zeroes left further written sent course
       → EndsOptions export no_zeroes input further output sent (Ok course)
   deals_elsewhere course input left further output written sent ends so_far one =
-      record { between = left; sent = written; before = so_far; last = one.dealing; ends = ends; is_answered = one.is_answered; asked = one.asked; told = one.told }
+      record { between = left; sent = written; before = so_far; last = one.dealing; ends = ends; is_settled = one.is_settled; asked = one.asked; told = one.told }
 
   pub deals_short : (ended : Ended) (input left further output written sent : Option (List ℕ)) → Deals export no_zeroes input left output written → DealsOne export no_zeroes left further written sent (Err ended)
       → EndsOptions export no_zeroes input further output sent (Err ended)

@@ -1,7 +1,7 @@
 -- How one option is answered, and how the handshake ends at it.
 use Rattle.std.specs.Prelude.{◌≡◌, ℕ, Bool, List, Option, Result, Ok, Err}
 use Rattle.std.specs.Io.KnownBytes.{Appends, Consumes}
-use Rattle.nbd_serve.specs.Haggling.{IsAnswered, IsNoOption}
+use Rattle.nbd_serve.specs.Haggling.{IsSettled, IsNoOption}
 use Rattle.nbd_serve.specs.Options.{Dealing, wished}
 use Rattle.nbd_serve.specs.declared.course.Course.{Course}
 use Rattle.nbd_serve.specs.declared.ended.Ended.{Ended}
@@ -11,7 +11,7 @@ use Rattle.nbd_serve.specs.declared.export.Export.{Export}
 module _ (export : Export) (no_zeroes : Bool) (input left output written : Option (List ℕ)) where
   pub record IsDealtWith (course : Course) : Type 0 where
     pub dealing : Dealing
-    pub is_answered : IsAnswered export no_zeroes dealing course
+    pub is_settled : IsSettled export no_zeroes dealing course
     pub asked : Consumes input left (wished dealing)
     pub told : Appends output written dealing.answer
 

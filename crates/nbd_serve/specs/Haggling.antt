@@ -20,7 +20,7 @@ pub record IsShort (option : ℕ) (content : List ℕ) : Type 0 where
   pub content_fits : length content ≤ 2 ^ 16
 
 -- an option of a client was answered, and led there
-pub record IsAnswered (export : Export) (no_zeroes : Bool) (d : Dealing) (course : Course) : Type 0 where
+pub record IsSettled (export : Export) (no_zeroes : Bool) (d : Dealing) (course : Course) : Type 0 where
   pub short : IsShort d.option d.content
   pub dealt : IsDealt export no_zeroes d course
 
@@ -34,7 +34,7 @@ module _ (export : Export) (no_zeroes : Bool) where
   -- options were answered, and each led to the next
   pub record Deals (input left output written : Option (List ℕ)) : Type 0 where
     pub dealings : List Dealing
-    pub each : AllByRecursion (λ d. IsAnswered export no_zeroes d GoesOn) dealings
+    pub each : AllByRecursion (λ d. IsSettled export no_zeroes d GoesOn) dealings
     pub asked : Consumes input left (flat_map wished dealings)
     pub told : Appends output written (flat_map answered dealings)
 
@@ -45,7 +45,7 @@ module _ (export : Export) (no_zeroes : Bool) where
     pub before : Deals input between output sent
     pub last : Dealing
     pub ends : course ≢ GoesOn
-    pub is_answered : IsAnswered export no_zeroes last course
+    pub is_settled : IsSettled export no_zeroes last course
     pub asked : Consumes between left (wished last)
     pub told : Appends sent written last.answer
 

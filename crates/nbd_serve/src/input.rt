@@ -32,7 +32,8 @@ fn read_more<R: Read>(input: &mut R, buffer: &mut [u8; REQUEST_LEN]) -> io::Resu
 /// The bytes of the next request's head, or `None` where the input ends before it.
 pub(crate) fn read_head<R: Read>(input: &mut R) -> Result<Option<[u8; REQUEST_LEN]>, Ended>
     ensures read { IfOk result (λ found. MatchOption found
-        (Consumes (R.remaining input.old) (R.remaining input.new) [] × IsAtEnd (R.remaining input.new))
+        (Consumes (R.remaining input.old) (R.remaining input.new) []
+        × IsAtEnd (R.remaining input.new))
         (Consumes (R.remaining input.old) (R.remaining input.new))) }
     ensures torn { IfErr result (λ ended. ended ≡ Torn) }
 {

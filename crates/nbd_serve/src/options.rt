@@ -142,7 +142,8 @@ pub(crate) fn deal(
     ensures dealt { IfOk result (λ dealt. IsDealt export.now no_zeroes
         (dealing option «data».now dealt) dealt.course) }
     ensures failed { IfErr result (λ ended. (ended ≡ NoMemory) ⊎ ((ended ≡ Hostile)
-        × (option_kind_of option ≡ Some kinds.ExportName) × (is_known export.now «data».now ≡ false))) }
+        × (option_kind_of option ≡ Some kinds.ExportName)
+        × (is_known export.now «data».now ≡ false))) }
 {
     let (course, answer) = match OptionKind::of(option) {
         Some(OptionKind::ExportName) => {

@@ -14,8 +14,7 @@ use crate::ended::Ended;
 use crate::export::Export;
 use crate::input::{read_head, read_payload};
 use crate::output::send;
-use crate::verdicts::MOST_BYTES;
-use nbd_wire::{Command, RequestHead, decode_request, encode_simple_reply};
+use nbd_wire::{Command, MAXIMUM_PAYLOAD, RequestHead, decode_request, encode_simple_reply};
 use pool_steps::PoolSteps;
 use std::alloc::Global;
 use std::io::{Read, Write};
@@ -63,7 +62,7 @@ fn answer_one<P: PoolSteps, R: Read, W: Write>(
         (W.contents output.old) (W.contents output.new) result }
 {
     let len = payload_len(head);
-    if len > MOST_BYTES {
+    if len > MAXIMUM_PAYLOAD {
         return Err(Ended::Hostile);
     }
     let payload = read_payload(alloc, input, len as usize)?;
@@ -79,7 +78,8 @@ pub(crate) fn transmit<P: PoolSteps, R: Read, W: Write>(
     input: &mut R,
     output: &mut W,
 ) -> Result<(), Ended>
-    ensures { (exchanges : List Exchange) × Serves P.PoolSteps export.now device.old exchanges device.new
+    ensures { (exchanges : List Exchange)
+        × Serves P.PoolSteps export.now device.old exchanges device.new
         × Transmits (R.remaining input.old) (R.remaining input.new)
         (W.contents output.old) (W.contents output.new) exchanges result }
 {

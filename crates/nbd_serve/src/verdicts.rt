@@ -3,14 +3,10 @@ ghost use Rattle.std.specs.Prelude.{◌≡◌};
 ghost use Rattle.nbd_serve.specs.Verdicts.{error_of, error_of_write, is_forced, is_in_blocks, is_within, judged, judged_flush, judged_read, judged_write};
 
 use crate::export::Export;
-use nbd_wire::{Command, ErrorCode, RequestHead};
+use nbd_wire::{Command, ErrorCode, MAXIMUM_PAYLOAD, MINIMUM_BLOCK, RequestHead};
 use pool_model::Refusal;
 
-/// The smallest block of a request, in bytes.
-const BLOCK: u64 = 512;
-
-/// The most bytes of a request: 32 MiB.
-pub(crate) const MOST_BYTES: u32 = 1 << 25;
+const BLOCK: u64 = MINIMUM_BLOCK as u64;
 
 /// Whether all is to be committed before the reply.
 pub(crate) fn is_forced(head: &RequestHead) -> bool
@@ -22,20 +18,20 @@ pub(crate) fn is_forced(head: &RequestHead) -> bool
 fn is_in_blocks(head: &RequestHead) -> bool
     ensures { result ≡ is_in_blocks head.now }
 {
-    head.offset % BLOCK == 0 && u64::from(head.len) % BLOCK == 0 && head.len != 0
+    head.offset % BLOCK == 0 && head.len as u64 % BLOCK == 0 && head.len != 0
 }
 
 fn is_within(export: &Export, head: &RequestHead) -> bool
     ensures { result ≡ is_within export.now head.now }
 {
-    let len = u64::from(head.len);
+    let len = head.len as u64;
     len <= export.size && head.offset <= export.size - len
 }
 
 fn judge_read(export: &Export, head: &RequestHead) -> Option<ErrorCode>
     ensures { result ≡ judged_read export.now head.now }
 {
-    if is_in_blocks(head) && head.len <= MOST_BYTES && is_within(export, head) {
+    if is_in_blocks(head) && head.len <= MAXIMUM_PAYLOAD && is_within(export, head) {
         return None;
     }
     Some(ErrorCode::Invalid)

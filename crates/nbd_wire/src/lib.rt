@@ -18,8 +18,9 @@ pub use options::{
     OPTION_HEAD_LEN, OptionHead, OptionKind, decode_info_request, decode_option_head,
 };
 pub use replies::{
-    BLOCK_SIZE_INFO_LEN, EXPORT_INFO_LEN, EXPORT_LEN, OPTION_REPLY_LEN, OptionReply,
-    encode_block_size_info, encode_export, encode_export_info, encode_option_reply,
+    BLOCK_SIZE_INFO_LEN, EXPORT_INFO_LEN, EXPORT_LEN, MAXIMUM_PAYLOAD, MINIMUM_BLOCK,
+    OPTION_REPLY_LEN, OptionReply, encode_block_size_info, encode_export, encode_export_info,
+    encode_option_reply,
 };
 pub use requests::{
     Command, REQUEST_LEN, RequestHead, SIMPLE_REPLY_LEN, decode_request, encode_simple_reply,

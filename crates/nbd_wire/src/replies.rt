@@ -13,13 +13,13 @@ const EXPORT_INFO: u16 = 0;
 /// NBD_INFO_BLOCK_SIZE
 const BLOCK_SIZE_INFO: u16 = 3;
 
-/// The smallest block of a request, in bytes, and what each is a multiple of.
-const MINIMUM_BLOCK: u32 = 512;
+/// The smallest block of a request, in bytes: offsets and lengths are multiples of it.
+pub const MINIMUM_BLOCK: u32 = 512;
 
 const PREFERRED_BLOCK: u32 = 4096;
 
 /// The most bytes of one request: 32 MiB.
-const MAXIMUM_PAYLOAD: u32 = 1 << 25;
+pub const MAXIMUM_PAYLOAD: u32 = 1 << 25;
 
 /// How many bytes stand before an option reply's data.
 pub const OPTION_REPLY_LEN: usize = 20;

@@ -28,7 +28,7 @@ returns g c =
     let content : c.as_slice-content.result.now ≡ wished.content.items = c.as_slice-content.ensures.value in
     let answer : c.as_slice.result.now ++ [] ≡ dealt.answer.items = append-nil c.as_slice.result.now ∙ c.as_slice.ensures.value in record {
       dealing = dealing wished.option wished.content.items dealt;
-      is_answered = record {
+      is_settled = record {
         short = c.in_ok-wished.ensures.read.0;
         dealt = subst (λ (x : List ℕ). IsDealt c.args.export.now c.args.no_zeroes (dealing wished.option x dealt) dealt.course) content c.in_ok-dealt.ensures.dealt;
       };
