@@ -8,6 +8,8 @@ mod changes;
 #[cfg(test)]
 mod command_lines;
 #[cfg(test)]
+mod devices;
+#[cfg(test)]
 mod help_texts;
 #[cfg(test)]
 mod tables;
