@@ -9,7 +9,7 @@ use std::test::Fail;
 /// come of it.
 type Case = (&'static str, (u8, usize), u8, &'static str, &'static str);
 
-const LIFE: [Case; 36] = [
+const LIFE: [Case; 46] = [
     (
         "zpool create --seed 7 --bytes 8388608 tank raidz1 a b c",
         (0, 0),
@@ -184,12 +184,46 @@ const LIFE: [Case; 36] = [
         "",
         "zpool: refused 18 BadLabel tail\n",
     ),
+    ("zfs write --all v a b c", (0xcc, 1024), 0, "", ""),
+    ("zfs read v a c", (0, 0), 0, "ccx1024 ", ""),
+    ("zfs write --all v a b c", (0xdd, 512), 0, "", ""),
+    ("zfs read v a b c", (0, 0), 0, "ddx512 ccx512 ", ""),
+    ("zfs read v@s a b c", (0, 0), 0, "aax512 00x512 ", ""),
+    (
+        "zfs write --all v a b c",
+        (0xee, 1536),
+        1,
+        "",
+        "zfs: refused 11 OutOfRange\n",
+    ),
+    (
+        "zfs write --all v a b c",
+        (0xee, 700),
+        1,
+        "",
+        "zfs: refused 12 Misaligned\n",
+    ),
+    (
+        "zfs write --all v@s a b c",
+        (0xee, 512),
+        1,
+        "",
+        "zfs: refused 8 NoSuchName\n",
+    ),
+    (
+        "zfs read x a b c",
+        (0, 0),
+        1,
+        "",
+        "zfs: refused 8 NoSuchName\n",
+    ),
+    ("zfs write --all w a b c", (0, 0), 0, "", ""),
     ("zpool export a b c", (0, 0), 0, "", ""),
     (
         "zpool status a b c",
         (0, 0),
         0,
-        "pool tank\nclaim 27\ngroup 8\nvdev 0 raidz1\n  disk 0 b7f69bbf566b8b1b online\n  disk 1 beb75bd9e7833e65 online\n  disk 2 24e2fbb94d9b2064 online\n",
+        "pool tank\nclaim 37\ngroup 10\nvdev 0 raidz1\n  disk 0 b7f69bbf566b8b1b online\n  disk 1 beb75bd9e7833e65 online\n  disk 2 24e2fbb94d9b2064 online\n",
         "",
     ),
     (
