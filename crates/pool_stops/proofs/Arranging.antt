@@ -24,11 +24,11 @@ use Rattle.pool_format.specs.declared.labeling.PoolIdentity.{PoolIdentity}
 use Rattle.pool_stops.proofs.Steps.{same_flags}
 use Rattle.pool_stops.specs.Found.{AreChildren}
 use Rattle.pool_stops.specs.Unhindered.{AnswerTruly}
-use Rattle.pool_stops.specs.Handed.{AreHandedIn, AreUncalled}
+use Rattle.pool_stops.specs.Handed.{AreHandedIn, AreHolding}
 use Rattle.pool_stops.specs.Own.{AreDisksOf, IsKnownAs}
 use Rattle.pool_stops.specs.OwnReopening.{AreReturned}
 use Rattle.pool_stops.proofs.FoundDisks.{own_disks_are_ordered}
-use Rattle.pool_stops.proofs.Handed.{bytes_handed}
+use Rattle.pool_stops.proofs.Handed.{held_handed}
 use Rattle.pool_stops.proofs.Lists.{below_or, same_lists, same_some}
 
 -- ---- children
@@ -59,22 +59,31 @@ start_at handed child place is = ap (λ m. unwrap_or (option_map (bytes_of hande
 calls_at : (logs : List (List Call)) (child : Child) (place : ℕ) → child.disk ≡ Some place → calls_for logs child ≡ log_of logs place
 calls_at logs child place is = ap (λ m. unwrap_or (option_map (log_of logs) m) []) is
 
--- so the starts are the images
-starts_are : (images handed : List (List ℕ)) (order : List ℕ) (children : List Child) → AreHandedIn images handed order → AreChildren order children
-    → map (start_for handed) children ≡ images
-starts_are images handed order children is are =
-    same_lists images (map (start_for handed) children) (λ k. ⊎_elim
+-- so the sizes are those of the images
+lengths_are : (images handed starts : List (List ℕ)) (order : List ℕ) (children : List Child) → AreHandedIn images handed order → AreChildren order children
+    → ((place : ℕ) → length (bytes_of starts place) ≡ length (bytes_of handed place)) → map length (map (start_for starts) children) ≡ map length images
+lengths_are images handed starts order children is are sizes =
+    same_lists (map length images) (map length (map (start_for starts) children)) (λ k. slice_get-map length (map (start_for starts) children) k ∙ ⊎_elim
     (λ (below : k < length order).
     let place = slice_get_some order k below in
     let child = disk_at order children k place.0 are place.1 in
     let image = slice_get_some images k (omega (arith, below, is.count)) in
     let bytes : bytes_of images k ≡ image.0 = ap (λ o. unwrap_or o []) image.1 in
-    slice_get-map (start_for handed) children k ∙ ap (option_map (start_for handed)) child.1
-    ∙ ap Some (start_at handed child.0 place.0 child.2 ∙ (is.each k place.0 place.1).1 ∙ bytes) ∙ sym image.1)
+    let size : length (start_for starts child.0) ≡ length image.0 =
+    ap length (start_at starts child.0 place.0 child.2) ∙ sizes place.0 ∙ ap length ((is.each k place.0 place.1).1 ∙ bytes) in
+    ap (option_map length) (slice_get-map (start_for starts) children k ∙ ap (option_map (start_for starts)) child.1) ∙ ap Some size
+    ∙ sym (slice_get-map length images k ∙ ap (option_map length) image.1))
     (λ (past : length order ≤ k).
-    slice_get_past (map (start_for handed) children) k (omega (arith, past, length-map children (start_for handed), as_many order children are))
-    ∙ sym (slice_get_past images k (omega (arith, past, is.count))))
+    ap (option_map length) (slice_get_past (map (start_for starts) children) k (omega (arith, past, length-map children (start_for starts), as_many order children are)))
+    ∙ sym (slice_get-map length images k ∙ ap (option_map length) (slice_get_past images k (omega (arith, past, is.count)))))
     (below_or k (length order)))
+
+-- the size of one
+sizes_of : (xs : List (List ℕ)) (k : ℕ) → length (bytes_of xs k) ≡ unwrap_or (slice_get (map length xs) k) 0
+sizes_of [] zero = refl
+sizes_of [] (suc k) = refl
+sizes_of (x ∷ xs) zero = refl
+sizes_of (x ∷ xs) (suc k) = sizes_of xs k
 
 none_out : (disk : ℕ) → is_out [] disk ≡ false
 none_out zero = refl
@@ -95,27 +104,52 @@ none_marked (child ∷ children) (place ∷ order) are (suc disk) =
 -- it has the pool's disks in order, with nothing unflushed
 pub record IsArranged (images : List (List ℕ)) (shapes : List VdevShape) (out : List Bool) (array : Disks) (its_shapes : List VdevShape) (its_out : List Bool)
     : Type 0 where
-  pub starts : array.starts ≡ images
+  pub lengths : map length array.starts ≡ map length images
+  pub sizes : (which : ℕ) → length (bytes_of array.starts which) ≡ length (bytes_of images which)
   pub contents : content array ≡ content (fresh images)
   pub settled : (which : ℕ) → IsSettled (calls_on which array.calls)
   pub shapes_are : its_shapes ≡ shapes
   pub out_is : its_out ≡ out
 
 module _ {D : Type 0} where
-  -- disks that were returned weren't called yet
-  pub uncalled_yet : (g : disk.Ghosts D) (images : List (List ℕ)) (disks : List D) (order : List ℕ) (old : Disks) → AreReturned g images disks order
-      → IsArrayOf g disks old → AreUncalled (map g.start disks) old
-  uncalled_yet g images disks order old returned array = record {
-    starts_are = array.0;
-    none = λ which. array.1 which ∙ ⊎_elim
-        (λ (below : which < length disks).
-        let d = slice_get_some disks which below in
-        ap (λ o. unwrap_or o []) (slice_get-map g.calls disks which ∙ ap (option_map g.calls) d.1)
-        ∙ returned.uncalled d.0 (contains_at disks which d.0 d.1))
-        (λ (past : length disks ≤ which).
-        ap (λ o. unwrap_or o []) (slice_get_past (map g.calls disks) which (omega (arith, past, length-map disks g.calls))))
-        (below_or which (length disks));
-  }
+  -- disks that were returned hold what they should
+  pub still_holding : (g : disk.Ghosts D) (images : List (List ℕ)) (disks : List D) (order : List ℕ) (old : Disks) → (returned : AreReturned g images disks order)
+      → IsArrayOf g disks old → AreHolding returned.handed old
+  still_holding g images disks order old returned array =
+      let handed : List (List ℕ) = returned.handed in
+      let count : length old.starts ≡ length handed = ap length array.0 ∙ length-map disks g.start ∙ returned.hold.count in
+      let start : (which : ℕ) (d : D) → slice_get disks which ≡ Some d → bytes_of old.starts which ≡ g.start d =
+      λ which d at. ap (λ starts. bytes_of starts which) array.0 ∙ ap (λ o. unwrap_or o []) (slice_get-map g.start disks which ∙ ap (option_map g.start) at) in
+      let calls : (which : ℕ) (d : D) → slice_get disks which ≡ Some d → calls_on which old.calls ≡ g.calls d =
+      λ which d at. array.1 which ∙ ap (λ o. unwrap_or o []) (slice_get-map g.calls disks which ∙ ap (option_map g.calls) at) in
+      let none : (which : ℕ) → length disks ≤ which → calls_on which old.calls ≡ [] =
+      λ which past. array.1 which ∙ ap (λ o. unwrap_or o []) (slice_get_past (map g.calls disks) which (omega (arith, past, length-map disks g.calls))) in
+      let no_bytes : (which : ℕ) → length disks ≤ which → bytes_of old.starts which ≡ [] =
+      λ which past. ap (λ o. unwrap_or o []) (slice_get_past old.starts which (omega (arith, past, count, returned.hold.count))) in
+      let no_handed : (which : ℕ) → length disks ≤ which → bytes_of handed which ≡ [] =
+      λ which past. ap (λ o. unwrap_or o []) (slice_get_past handed which (omega (arith, past, returned.hold.count))) in
+      record {
+        count = count;
+        sizes = λ which. ⊎_elim
+            (λ (below : which < length disks).
+            let d = slice_get_some disks which below in
+            ap length (start which d.0 d.1) ∙ (returned.hold.each which d.0 d.1).size)
+            (λ (past : length disks ≤ which). ap length (no_bytes which past ∙ sym (no_handed which past)))
+            (below_or which (length disks));
+        held = λ which i. ⊎_elim
+            (λ (below : which < length disks).
+            let d = slice_get_some disks which below in
+            (λ j. byte_at (start which d.0 d.1 j) (calls which d.0 d.1 j) i) ∙ (returned.hold.each which d.0 d.1).held i)
+            (λ (past : length disks ≤ which).
+            (λ j. byte_at (no_bytes which past j) (none which past j) i) ∙ ap (λ bytes. slice_get bytes i) (sym (no_handed which past)))
+            (below_or which (length disks));
+        settled = λ which. ⊎_elim
+            (λ (below : which < length disks).
+            let d = slice_get_some disks which below in
+            subst (λ them. IsSettled them) (sym (calls which d.0 d.1)) (returned.hold.each which d.0 d.1).settled)
+            (λ (past : length disks ≤ which). subst (λ them. IsSettled them) (sym (none which past)) (λ i. refl))
+            (below_or which (length disks));
+      }
 
   -- the configuration that was found is the pool's, and so are the name and the guid
   pub own_found : (g : disk.Ghosts D) (pool : PoolIdentity) (vdevs : List PlainVdev) (images : List (List ℕ)) (shapes : List VdevShape) (out : List Bool) (disks : List D)
@@ -124,9 +158,9 @@ module _ {D : Type 0} where
       → AnswerTruly ordered.found.old ordered.found.new → (config_view ordered.config ≡ vdevs) × IsKnownAs pool ordered.found.layout.identity
   own_found g pool vdevs images shapes out disks order rewind array its_shapes its_out are returned ordered truly =
       let found = ordered.found in
-      let handed : List (List ℕ) = map g.start disks in
-      let uncalled : AreUncalled handed found.old = uncalled_yet g images disks order found.old returned found.read.before in
-      let laid = own_disks_are_ordered pool vdevs shapes out images handed order found.old found.new rewind found.layout are returned.handed_in uncalled truly found.laid_out in
+      let handed : List (List ℕ) = returned.handed in
+      let holding : AreHolding handed found.old = still_holding g images disks order found.old returned found.read.before in
+      let laid = own_disks_are_ordered pool vdevs shapes out images handed order found.old found.new rewind found.layout are returned.handed_in holding truly found.laid_out in
       (ap config_view found.config_is ∙ laid.2, laid.3)
 
   pub is_arranged : (g : disk.Ghosts D) (pool : PoolIdentity) (vdevs : List PlainVdev) (images : List (List ℕ)) (shapes : List VdevShape) (out : List Bool) (disks : List D)
@@ -135,15 +169,17 @@ module _ {D : Type 0} where
       → AnswerTruly ordered.found.old ordered.found.new → IsArranged images shapes out array its_shapes its_out
   is_arranged g pool vdevs images shapes out disks order rewind array its_shapes its_out are returned ordered truly =
       let found = ordered.found in
-      let handed : List (List ℕ) = map g.start disks in
+      let handed : List (List ℕ) = returned.handed in
       let is = returned.handed_in in
-      let uncalled : AreUncalled handed found.old = uncalled_yet g images disks order found.old returned found.read.before in
-      let laid = own_disks_are_ordered pool vdevs shapes out images handed order found.old found.new rewind found.layout are is uncalled truly found.laid_out in
+      let holding : AreHolding handed found.old = still_holding g images disks order found.old returned found.read.before in
+      let laid = own_disks_are_ordered pool vdevs shapes out images handed order found.old found.new rewind found.layout are is holding truly found.laid_out in
       let children : List Child = found.layout.children.items in
       let reads : Makes no_write found.old found.new = reads_made found.read.only in
-      let after : map g.start found.after ≡ handed = sym found.array.0 ∙ reads.starts ∙ uncalled.starts_are in
-      let starts : array.starts ≡ images =
-      ordered.starts ∙ found.arranged.same_start ∙ ap (λ them. map (start_for them) children) after ∙ starts_are images handed order children is laid.0 in
+      let after : map g.start found.after ≡ found.old.starts = sym found.array.0 ∙ reads.starts in
+      let starts : array.starts ≡ map (start_for found.old.starts) children =
+      ordered.starts ∙ found.arranged.same_start ∙ ap (λ them. map (start_for them) children) after in
+      let lengths : map length array.starts ≡ map length images =
+      ap (map length) starts ∙ lengths_are images handed found.old.starts order children is laid.0 holding.sizes in
       let calls : (child place : ℕ) → slice_get order child ≡ Some place → calls_on child array.calls ≡ calls_on place found.new.calls =
       λ child place at.
       let c = disk_at order children child place laid.0 at in
@@ -159,21 +195,33 @@ module _ {D : Type 0} where
       λ child i. ⊎_elim
       (λ (below : child < length order).
       let place = slice_get_some order child below in
-      let bytes : bytes_of found.new.starts place.0 ≡ bytes_of images child =
-      ap (λ s. bytes_of s place.0) reads.starts ∙ bytes_handed images handed order found.old child place.0 is uncalled place.1 in
-      let mine : bytes_of array.starts child ≡ bytes_of found.new.starts place.0 = ap (λ s. bytes_of s child) starts ∙ sym bytes in
+      let c = disk_at order children child place.0 laid.0 place.1 in
+      let mine : bytes_of array.starts child ≡ bytes_of found.new.starts place.0 =
+      ap (λ s. bytes_of s child) starts
+      ∙ ap (λ o. unwrap_or o []) (slice_get-map (start_for found.old.starts) children child ∙ ap (option_map (start_for found.old.starts)) c.1)
+      ∙ start_at found.old.starts c.0 place.0 c.2 ∙ ap (λ s. bytes_of s place.0) (sym reads.starts) in
       (λ j. byte_at (mine j) (calls child place.0 place.1 j) i) ∙ none_same found.old found.new place.0 i reads
-      ∙ (λ j. byte_at (bytes_handed images handed order found.old child place.0 is uncalled place.1 j) (uncalled.none place.0 j) i))
-      (λ (past : length order ≤ child). λ j. byte_at (ap (λ s. bytes_of s child) starts j) (none child past j) i)
+      ∙ held_handed images handed order found.old child place.0 is holding place.1 i)
+      (λ (past : length order ≤ child).
+      let gone : bytes_of array.starts child ≡ [] = ap (λ o. unwrap_or o []) (slice_get_past array.starts child (omega (
+        arith,
+        past,
+        ap length lengths,
+        length-map array.starts length,
+        length-map images length,
+        is.count,
+      ))) in
+      let none_there : bytes_of images child ≡ [] = ap (λ o. unwrap_or o []) (slice_get_past images child (omega (arith, past, is.count))) in
+      (λ j. byte_at (gone j) (none child past j) i) ∙ ap (λ bytes. slice_get bytes i) (sym none_there))
       (below_or child (length order)) in
       record {
-        starts = starts;
+        lengths = lengths;
+        sizes = λ which. sizes_of array.starts which ∙ ap (λ (sizes : List ℕ). unwrap_or (slice_get sizes which) 0) lengths ∙ sym (sizes_of images which);
         contents = λ j. λ child. λ i. same child i j;
         settled = λ which. ⊎_elim
             (λ (below : which < length order).
             let place = slice_get_some order which below in
-            let clean : IsSettled (calls_on place.0 found.old.calls) = subst (λ them. IsSettled them) (sym (uncalled.none place.0)) (λ i. refl) in
-            subst (λ them. IsSettled them) (sym (calls which place.0 place.1)) (settled_later found.old found.new place.0 reads clean))
+            subst (λ them. IsSettled them) (sym (calls which place.0 place.1)) (settled_later found.old found.new place.0 reads (holding.settled place.0)))
             (λ (past : length order ≤ which). subst (λ them. IsSettled them) (sym (none which past)) (λ i. refl))
             (below_or which (length order));
         shapes_are = found.shapes_are ∙ laid.1;

@@ -34,7 +34,7 @@ use Rattle.pool_stops.proofs.Holding.{get_in_use}
 use Rattle.pool_stops.specs.Found.{AreChildren, OwnDisksAreFound, OwnDisksAreOrdered, ShowHighest}
 use Rattle.pool_stops.specs.Own.{disk_guids}
 use Rattle.pool_stops.proofs.Children.{IsChildAt, are_enough, at_child, length_children}
-use Rattle.pool_stops.proofs.Handed.{place_of_child}
+use Rattle.pool_stops.proofs.Handed.{place_of_child, size_handed}
 use Rattle.pool_stops.proofs.Scanned.{IsHanded, IsOwnAt, allowed_of, one_disk, own_at, read_shown, shown_read, slot_read, valid_shown}
 use Rattle.pool_stops.proofs.Shapes.{same_shapes}
 use Rattle.pool_stops.proofs.Lists.{below_or, same_lists, same_some}
@@ -113,11 +113,10 @@ module _ {pool : PoolIdentity} {vdevs : List PlainVdev} {shapes : List VdevShape
       let child : mine.child ≡ which = it.is.once mine.child which place (mine.at ∙ ap Some read.4) at in
       let guid_is : mine.guid ≡ guid =
       same_some (slice_get (disk_guids vdevs) which) mine.guid guid (ap (slice_get (disk_guids vdevs)) (sym child) ∙ mine.named) named in
-      let below : place < length old.starts = omega (arith, (it.is.each which place at).0, ap length it.uncalled.starts_are) in
+      let below : place < length old.starts = omega (arith, (it.is.each which place at).0, it.holding.count) in
       let d = slice_get_some scan.disks.items place (omega (arith, below, it.read.count)) in
       let scanned = it.read.disks place d.0 d.1 in
-      let bytes : bytes_of old.starts place ≡ bytes_of images which = ap (λ starts. bytes_of starts place) it.uncalled.starts_are ∙ (it.is.each which place at).1 in
-      let size : d.0.size ≡ size_of images which = scanned.size ∙ ap length bytes in
+      let size : d.0.size ≡ size_of images which = scanned.size ∙ size_handed images handed order old which place it.is it.holding at in
       absurd (member place (record {
         i = read.0;
         s = read.1;
@@ -262,9 +261,9 @@ module _ {pool : PoolIdentity} {vdevs : List PlainVdev} {shapes : List VdevShape
 -- ---- the laws
 
 pub own_disks_are_found : OwnDisksAreFound
-own_disks_are_found pool vdevs shapes out images handed order old new refusal are shows is uncalled truly why = ⊎_elim
+own_disks_are_found pool vdevs shapes out images handed order old new refusal are shows is holding truly why = ⊎_elim
     (λ memory. memory)
-    (λ (scan, read, refuses). refused_so (record { are = are; is = is; uncalled = uncalled; truly = truly; read = read }) shows refusal refuses)
+    (λ (scan, read, refuses). refused_so (record { are = are; is = is; holding = holding; truly = truly; read = read }) shows refusal refuses)
     why
 
 -- the disks of children, in order
@@ -286,9 +285,9 @@ ordered_as pool vdevs shapes out images handed order old new scan members it are
     (below_or k (length order)))
 
 pub own_disks_are_ordered : OwnDisksAreOrdered
-own_disks_are_ordered pool vdevs shapes out images handed order old new rewind layout are is uncalled truly laid =
+own_disks_are_ordered pool vdevs shapes out images handed order old new rewind layout are is holding truly laid =
     let it : IsHanded pool vdevs shapes out images handed order old new laid.scan =
-    record { are = are; is = is; uncalled = uncalled; truly = truly; read = laid.read } in
+    record { are = are; is = is; holding = holding; truly = truly; read = laid.read } in
     let c = laid.chosen.configured in
     let own = (own_at it laid.choice.source c.s laid.chosen.l c.source.at.at c.source.at.valid).own in
     let same : config_view laid.chosen.l.config ≡ vdevs = own.config_is in

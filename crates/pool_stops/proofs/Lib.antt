@@ -32,3 +32,4 @@ mod StoppedDisks
 mod Arranging
 mod OwnReopening
 mod Fitting
+mod Begun

@@ -1,8 +1,11 @@
 -- Pools are opened again on their own disks.
-use Rattle.std.proofs.Common.{ℕ, ◌≡◌, ⊎_elim, inl, inr, ◌<◌, ◌≤◌, Bool, List, [], length, map, Option, Some, refl, sym, ap, subst, ◌∙◌, arith}
+use Rattle.std.proofs.Common.{ℕ, ◌+◌, ◌≡◌, ⊎_elim, inl, inr, ◌<◌, ◌≤◌, Bool, List, [], ◌∷◌, ◌++◌, length, map, Option, Some, refl, sym, ap, subst, ◌∙◌, arith, append_assoc}
+use Rattle.std.proofs.lemmas.List.{length-map}
 use Rattle.model_disk.specs.Joint.{Disks, bytes_of, content}
 use Rattle.model_disk.specs.declared.disk.Disk as disk
 use Rattle.raidz_io.specs.Reads.{IsHonestSince}
+use Rattle.block_store.specs.Config.{IsAllowedSize, sectors_of}
+use Rattle.block_store.specs.Opened.{FitsDisks, LieOn}
 use Rattle.block_store.specs.declared.shape.VdevShape.{VdevShape}
 use Rattle.uberblock_ring.specs.declared.uberblock.Uberblock.{Uberblock}
 use Rattle.raidz_io.proofs.Written.{slice_get_some}
@@ -12,6 +15,7 @@ use Rattle.vdev_label.specs.Plain.{PlainVdev, config_view}
 use Rattle.pool_create.specs.Slots.{IsStampOf}
 use Rattle.pool_create.specs.CoreState.{CoreState, config_of, disks_of}
 use Rattle.pool_model.specs.Pools.{PlainPool}
+use Rattle.pool_create.specs.Calls.{GrewTo}
 use Rattle.pool_create.specs.OpenCauses.{of_labels}
 use Rattle.pool_create.specs.OpenOpening.{IsKeptThrough, IsNotOpenedOver, IsOpenedOver}
 use Rattle.std.specs.Prelude.{◌^◌}
@@ -23,13 +27,14 @@ use Rattle.pool_create.specs.Trees.{NamesConfigOf}
 use Rattle.pool_create.specs.Words.{stamp_of}
 use Rattle.pool_create.specs.OpenRefusal.{Refusal}
 use Rattle.pool_create.specs.OpenRefusal.TheVariants.{NoMemory}
+use Rattle.pool_create.proofs.OpenThrough.{through_made}
 use Rattle.pool_create.proofs.OpenRetried.{undiminished_opens_claim_once, unfailing_opens_claim_once}
-use Rattle.pool_slots.specs.Commits.{AreOffLabels}
 use Rattle.pool_slots.specs.Configs.{IsConfigured}
 use Rattle.pool_slots.specs.Marks.{IsUsedUp}
 use Rattle.pool_slots.specs.Labels.{IsLabelShown}
-use Rattle.pool_slots.specs.Opens.{IsHighestShown, IsRead, IsReadOn, IsShownOn, OpenGives}
-use Rattle.pool_slots.specs.Possible.{IsInReach, Leads, Possible}
+use Rattle.pool_slots.specs.Opens.{IsHighestShown, IsKnown, IsRead, IsReadOn, IsShownOn, OpenGives}
+use Rattle.pool_slots.specs.Possible.{IsInReach, IsPossible, LeadsOn, Possible, Trees}
+use Rattle.pool_slots.specs.Slots.{IsOffLabels}
 use Rattle.pool_format.specs.declared.labeling.PoolIdentity.{PoolIdentity}
 use Rattle.pool_stops.specs.OneConfig.{IsOpenedAs, OpenedPoolsRunAs, StoppedOpensAreOfConfig}
 use Rattle.pool_stops.specs.Reopening.{AreByGroup, IsPossibleBehind, LeavesImages}
@@ -42,7 +47,8 @@ use Rattle.pool_stops.specs.Own.{AreDisksOf, IsLabeled, IsOwnDisk, disk_guids}
 use Rattle.pool_stops.specs.OwnReopening.{AreReturned, IsRefusedTruly, LeadToOwnPools, OwnPoolsOpenAgain, StoppedExportsLeadToOwnPools, StoppedOpensLeadToOwnPools, StoppedRunsLeadToOwnPools}
 use Rattle.pool_stops.specs.OwnRunning.{AreOfSum, IsOnItsDisks, OpenedPoolsAreOnTheirDisks, RunsStayOnTheirDisks}
 use Rattle.pool_stops.specs.Stopping.{AreLabelsUntorn, LedDisksAreBound, OwnDisksAreNotFour, StoppedExportsLeaveDisks, StoppedOpensAreOfSum, StoppedOpensLeaveDisks, StoppedRunsLeaveDisks}
-use Rattle.pool_stops.proofs.Arranging.{IsArranged, is_arranged, own_found, uncalled_yet}
+use Rattle.pool_stops.proofs.Arranging.{IsArranged, is_arranged, own_found, still_holding}
+use Rattle.pool_stops.proofs.Handed.{fresh_known}
 use Rattle.pool_stops.proofs.Steps.{used_below}
 use Rattle.pool_stops.proofs.FoundDisks.{own_disks_are_found}
 
@@ -76,18 +82,37 @@ show_highest pool vdevs digest images shapes out p pools it left = record {
 -- ---- the array has what the images have
 
 module _ {images : List (List ℕ)} {shapes : List VdevShape} {out : List Bool} {array : Disks} {its_shapes : List VdevShape} {its_out : List Bool} where
-  -- what holds of starts and bytes
-  same_of : (P : List (List ℕ) → (ℕ → ℕ → Option ℕ) → Type 0) → IsArranged images shapes out array its_shapes its_out → P images (content (fresh images))
-      → P array.starts (content array)
-  same_of P is it =
-      let Q : List (List ℕ) × (ℕ → ℕ → Option ℕ) → Type 0 = λ x. P x.0 x.1 in
-      subst Q (λ j. (sym is.starts j, sym is.contents j)) it
+  -- what holds of a disk's size and of all bytes
+  same_of : (which : ℕ) (P : ℕ → (ℕ → ℕ → Option ℕ) → Type 0) → IsArranged images shapes out array its_shapes its_out
+      → P (length (bytes_of images which)) (content (fresh images)) → P (length (bytes_of array.starts which)) (content array)
+  same_of which P is it =
+      let Q : ℕ × (ℕ → ℕ → Option ℕ) → Type 0 = λ x. P x.0 x.1 in
+      subst Q (λ j. (sym (is.sizes which) j, sym is.contents j)) it
 
-  back_of : (P : List (List ℕ) → (ℕ → ℕ → Option ℕ) → Type 0) → IsArranged images shapes out array its_shapes its_out → P array.starts (content array)
-      → P images (content (fresh images))
-  back_of P is it =
-      let Q : List (List ℕ) × (ℕ → ℕ → Option ℕ) → Type 0 = λ x. P x.0 x.1 in
-      subst Q (λ j. (is.starts j, is.contents j)) it
+  -- its bytes are known
+  known_so : IsArranged images shapes out array its_shapes its_out → (which : ℕ) → IsKnown array which
+  known_so is which = same_of which (λ size held. (i : ℕ) → i < size → (value : ℕ) × (held which i ≡ Some value)) is (fresh_known images which)
+
+  back_of : (which : ℕ) (P : ℕ → (ℕ → ℕ → Option ℕ) → Type 0) → IsArranged images shapes out array its_shapes its_out
+      → P (length (bytes_of array.starts which)) (content array) → P (length (bytes_of images which)) (content (fresh images))
+  back_of which P is it =
+      let Q : ℕ × (ℕ → ℕ → Option ℕ) → Type 0 = λ x. P x.0 x.1 in
+      subst Q (λ j. (is.sizes which j, is.contents j)) it
+
+  -- a tree is one on disks of the same sizes
+  tree_so : (trees : Trees) (u : Uberblock) (pool : PlainPool) → IsArranged images shapes out array its_shapes its_out → WholeTreeOf trees images shapes out u pool
+      → WholeTreeOf trees array.starts shapes out u pool
+  tree_so trees u pool is it = record {
+    tree = record {
+      stored = it.tree.stored;
+      spells = it.tree.spells;
+      mapped = it.tree.mapped;
+      configured = it.tree.configured;
+      made = it.tree.made;
+      held = λ disks same. it.tree.held disks (same ∙ is.lengths);
+    };
+    whole = record { once = it.whole.once; apart = it.whole.apart };
+  }
 
   lead_so : (p : Possible) (pools : Uberblock → PlainPool) → IsArranged images shapes out array its_shapes its_out → LeadToWholePools (fresh images) shapes out p pools
       → LeadToWholePools array shapes out p pools
@@ -95,27 +120,47 @@ module _ {images : List (List ℕ)} {shapes : List VdevShape} {out : List Bool} 
       let trees = it.led.trees in
       let can = it.led.can in
       let each : (u : Uberblock) → IsInReach p u → WholeTreeOf trees array.starts shapes out u (pools u) =
-      λ u reach. subst (λ s. WholeTreeOf trees s shapes out u (pools u)) (sym is.starts) (record { tree = it.led.tree u reach; whole = it.whole u reach }) in
+      λ u reach. tree_so trees u (pools u) is (record { tree = it.led.tree u reach; whole = it.whole u reach }) in
       record {
         led = record {
           trees = trees;
           can = record {
             some = can.some;
-            off_labels = subst (λ s. AreOffLabels trees out s) (sym is.starts) can.off_labels;
-            known = λ which used.
-                same_of (λ s held. (i : ℕ) → i < length (bytes_of s which) → (value : ℕ) × (held which i ≡ Some value)) is (can.known which used);
+            off_labels = λ root which i value used has.
+                subst (λ (size : ℕ). IsOffLabels size i) (sym (is.sizes which)) (can.off_labels root which i value used has);
+            known = λ which used. known_so is which;
             settled = λ which used. is.settled which;
-            leads = same_of (λ s held. Leads trees out s held p) is can.leads;
+            leads = λ which used.
+                same_of which (λ size held. LeadsOn size (held which) p.last (IsPossible trees out held p)) is (can.leads which used);
           };
           tree = λ u reach. (each u reach).tree;
         };
         whole = λ u reach. (each u reach).whole;
-        configured = λ u reach which used.
-            same_of (λ s held. IsConfigured (length (bytes_of s which)) (held which) u.config_digest) is (it.configured u reach which used);
+        configured = λ u reach which used. same_of which (λ size held. IsConfigured size (held which) u.config_digest) is (it.configured u reach which used);
       }
 
+  count_so : IsArranged images shapes out array its_shapes its_out → length array.starts ≡ length images
+  count_so is = sym (length-map array.starts length) ∙ ap length is.lengths ∙ length-map images length
+
+  -- the vdevs take them too
+  fits_so : (shape : VdevShape) → IsArranged images shapes out array its_shapes its_out → FitsDisks images shape → FitsDisks array.starts shape
+  fits_so shape is it = record {
+    there = omega (arith, it.there, count_so is);
+    sizes = λ disk from to. subst IsAllowedSize (sym (is.sizes disk)) (it.sizes disk from to);
+    sectors = λ disk from to. subst (λ (size : ℕ). shape.child_sectors ≤ sectors_of size) (sym (is.sizes disk)) (it.sectors disk from to);
+    regions = it.regions;
+    few = it.few;
+  }
+
+  lie_so : (first : ℕ) (them : List VdevShape) → IsArranged images shapes out array its_shapes its_out → LieOn images first them → LieOn array.starts first them
+  lie_so first [] is it = it ∙ sym (count_so is)
+  lie_so first (shape ∷ them) is it = (it.0, fits_so shape is it.1, lie_so (first + shape.vdev.geometry.children) them is it.2)
+
   all_there_so : IsArranged images shapes out array its_shapes its_out → AreAllThere images shapes out → AreAllThere array.starts shapes out
-  all_there_so is there = subst (λ s. AreAllThere s shapes out) (sym is.starts) there
+  all_there_so is there = record {
+    none = there.none;
+    may = record { some = there.may.some; few = there.may.few; lie = lie_so 0 shapes is there.may.lie; flags = there.may.flags ∙ sym (count_so is) };
+  }
 
   are_so : (pool : PoolIdentity) (vdevs : List PlainVdev) → IsArranged images shapes out array its_shapes its_out → AreDisksOf pool vdevs shapes out (fresh images)
       → AreDisksOf pool vdevs shapes out array
@@ -124,12 +169,10 @@ module _ {images : List (List ℕ)} {shapes : List VdevShape} {out : List Bool} 
     shapes_are = are.shapes_are;
     there = all_there_so is are.there;
     own = record {
-      count = ap length is.starts ∙ are.own.count;
-      each = λ which guid named.
-          same_of (λ s held. IsOwnDisk pool vdevs guid (length (bytes_of s which)) (held which)) is (are.own.each which guid named);
+      count = count_so is ∙ are.own.count;
+      each = λ which guid named. same_of which (λ size held. IsOwnDisk pool vdevs guid size (held which)) is (are.own.each which guid named);
       labeled = λ which below.
-          same_of (λ s held. IsLabeled (length (bytes_of s which)) (held which)) is
-          (are.own.labeled which (omega (arith, below, ap length is.starts)));
+          same_of which (λ size held. IsLabeled size (held which)) is (are.own.labeled which (omega (arith, below, count_so is)));
     };
   }
 
@@ -138,7 +181,7 @@ module _ {images : List (List ℕ)} {shapes : List VdevShape} {out : List Bool} 
   read_back is u read = record {
     which = read.which;
     used = read.used;
-    on = back_of (λ s held. IsReadOn (length (bytes_of s read.which)) (held read.which) u) is read.on;
+    on = back_of read.which (λ size held. IsReadOn size (held read.which) u) is read.on;
   }
 
   highest_back : IsArranged images shapes out array its_shapes its_out → (u : Uberblock) → IsHighestShown out array u → IsHighestShown out (fresh images) u
@@ -147,7 +190,7 @@ module _ {images : List (List ℕ)} {shapes : List VdevShape} {out : List Bool} 
     greatest = λ v shown. top.greatest v (record {
       which = shown.which;
       used = shown.used;
-      on = same_of (λ s held. IsShownOn (length (bytes_of s shown.which)) (held shown.which) v) is shown.on;
+      on = same_of shown.which (λ size held. IsShownOn size (held shown.which) v) is shown.on;
     });
   }
 
@@ -159,7 +202,7 @@ module _ {images : List (List ℕ)} {shapes : List VdevShape} {out : List Bool} 
       which = shown.which;
       used = shown.used;
       number = shown.number;
-      shown = back_of (λ s held. IsLabelShown (length (bytes_of s shown.which)) (held shown.which) shown.number l) is shown.shown;
+      shown = back_of shown.which (λ size held. IsLabelShown size (held shown.which) shown.number l) is shown.shown;
     },
     claim,
   )
@@ -202,6 +245,18 @@ names_own pool vdevs digest images shapes out p pools array rewind claimed core 
       digest = ap (λ (u : Uberblock). u.config_digest) claim.is ∙ sym shown.config ∙ ap (λ (them : List PlainVdev). sha256 (config_bytes them)) same;
     })
 
+-- its disks were called
+opened_grew : (old : Disks) (shapes : List VdevShape) (out : List Bool) (rewind : ℕ) (claimed : Uberblock) (core : CoreState)
+    → IsOpenedOver old shapes out rewind claimed core → GrewTo old (disks_of core)
+opened_grew old shapes out rewind claimed core is =
+    let reads = through_made out is.later old is.calls.read is.calls.before in
+    let claims = is.calls.claims.makes in
+    record {
+      starts = claims.starts ∙ reads.starts;
+      newer = claims.newer ++ reads.newer;
+      calls = claims.calls ∙ ap (λ cs. claims.newer ++ cs) reads.calls ∙ sym (append_assoc claims.newer reads.newer old.calls);
+    }
+
 opened_so : OpenedPoolsRunAs → OpenedPoolsAreOnTheirDisks → (pool : PoolIdentity) (vdevs : List PlainVdev) (digest : List ℕ) (images : List (List ℕ))
     (shapes : List VdevShape) (out : List Bool) (p : Possible) (pools : Uberblock → PlainPool) (array : Disks) (its_shapes : List VdevShape)
     (its_out : List Bool) (rewind : ℕ) (claimed : Uberblock) (core : CoreState) → LeadToOwnPools pool vdevs digest images shapes out p pools
@@ -214,7 +269,7 @@ opened_so runs own pool vdevs digest images shapes out p pools array its_shapes 
     let led = lead_so p pools are it.led in
     subst P (λ j. (sym are.shapes_are j, sym are.out_is j))
     (λ is all. (
-      runs array shapes out rewind p pools claimed core digest it.one led.led is all it.are.there.none (omega (arith, few, ap length are.starts))
+      runs array shapes out rewind p pools claimed core digest it.one led.led is all it.are.there.none (omega (arith, few, count_so are))
           (names_own pool vdevs digest images shapes out p pools array rewind claimed core led (are_so pool vdevs are it.are) it.sums honest is all config) honest,
       own pool vdevs array shapes out rewind p pools claimed core (are_so pool vdevs are it.are) it.sums led.led is all honest,
     ))
@@ -239,9 +294,9 @@ module _ {D : Type 0} where
       → LeadToOwnPools pool vdevs digest images shapes out p pools → AreReturned g images disks order → HaveLeft out (fresh images)
       → (why : OpenRefuses g disks 0 failed) → IsRefusedTruly g disks 0 failed why → refusal_of failed ≡ NoMemory
   refused_so law g pool vdevs digest images shapes out p pools disks order (NotFound refusal back) it returned left (cause, same, found) truly =
-      same ∙ ap of_labels (own_disks_are_found pool vdevs shapes out images (map g.start disks) order found.old found.new cause it.are
+      same ∙ ap of_labels (own_disks_are_found pool vdevs shapes out images returned.handed order found.old found.new cause it.are
       (show_highest pool vdevs digest images shapes out p pools it left) returned.handed_in
-      (uncalled_yet g images disks order found.old returned found.read.before) truly found.cause)
+      (still_holding g images disks order found.old returned found.read.before) truly found.cause)
   refused_so law g pool vdevs digest images shapes out p pools disks order (Refused refusal back) it returned left found truly =
       let once = unfailing_opens_claim_once found.array found.shapes found.out 0 found.new refusal found.refused truly.1.none_failed in
       unopened_so law images shapes out p pools found.array found.shapes found.out refusal
@@ -256,10 +311,10 @@ module _ {D : Type 0} where
     done = λ disks order rewind claimed core returned is truly few.
         let once = undiminished_opens_claim_once is.array is.shapes is.out rewind claimed core is.opened truly.all in
         let found = own_found g pool vdevs images shapes out disks order rewind is.array is.shapes is.out it.are returned is.ordered truly.found in
-        let both = opened_so runs own pool vdevs digest images shapes out p pools is.array is.shapes is.out rewind claimed core it
-        (is_arranged g pool vdevs images shapes out disks order rewind is.array is.shapes is.out it.are returned is.ordered truly.found) few truly.honest
+        let are = is_arranged g pool vdevs images shapes out disks order rewind is.array is.shapes is.out it.are returned is.ordered truly.found in
+        let both = opened_so runs own pool vdevs digest images shapes out p pools is.array is.shapes is.out rewind claimed core it are few truly.honest
         (ap config_view is.configured ∙ found.0) once.0 once.1 in
-        (both.0, both.1, found.1);
+        (both.0, both.1, found.1, record { grew = opened_grew is.array is.shapes is.out rewind claimed core once.0; known = λ which. known_so are which });
     stopped = λ disks order rewind array new its_shapes its_out left few by_group returned ordered truly kept honest leaves untorn.
         stopped_so stop pool vdevs digest images shapes out p pools array new its_shapes its_out rewind left it
         (is_arranged g pool vdevs images shapes out disks order rewind array its_shapes its_out it.are returned ordered truly) few by_group honest kept leaves untorn;

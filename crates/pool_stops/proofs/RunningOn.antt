@@ -40,7 +40,7 @@ use Rattle.pool_stops.proofs.Runs.{none_before, none_was_out}
 use Rattle.pool_stops.proofs.Steps.{used_below}
 use Rattle.pool_stops.proofs.StoppedDisks.{label_for_own}
 use Rattle.pool_stops.specs.Own.{IsOwn, disk_guids}
-use Rattle.pool_stops.specs.OwnRunning.{AreOfSum, CreatedPoolsAreOnTheirDisks, HoldOwn, IsOnItsDisks, OpenedPoolsAreOnTheirDisks, RunsStayOnTheirDisks}
+use Rattle.pool_stops.specs.OwnRunning.{AreOfSum, CreatedPoolsAreOnTheirDisks, HoldOwn, IsOnItsDisks, OpenedPoolsAreOnTheirDisks, RunsStayOnTheirDisks, StepsStayOnTheirDisks}
 use Rattle.pool_stops.proofs.OwnHolding.{steps_stay_own}
 
 -- ---- steps
@@ -113,19 +113,29 @@ chain_on law stay pool vdevs digest old v (step ∷ steps) (given ∷ givens) (r
     chain_on law stay pool vdevs digest chain.0 chain.1 steps givens replies mid between one.so.on.later one.so.on.earlier one.so.so one.on chain.5 none
 chain_on law stay pool vdevs digest old v steps givens replies mid between last before so on chain none = absurd chain
 
+-- one step of them
+pub steps_stay_on_their_disks : RunningPoolsStepOn → StepsStayConfigured → StepsStayOnTheirDisks
+steps_stay_on_their_disks law stay pool vdevs digest old new v w step given reply last before so on link moves none =
+    let it = goes_on law stay pool vdevs digest old new v w step given reply last before so on link moves none in
+    record {
+      stops = record {
+        at = record { last = last; earlier = before; runs = so.runs; steps = it.so.on };
+        lies = so.lies;
+        one = it.so.one;
+        held = it.so.held;
+        on = it.so.so;
+      };
+      last_is = refl;
+      before_is = refl;
+      on = record { was = on; held = it.held; sums = it.sums; on = it.on };
+    }
+
 pub runs_stay_on_their_disks : RunningPoolsStepOn → StepsStayConfigured → RunsStayOnTheirDisks
 runs_stay_on_their_disks law stay pool vdevs old mid new v between w steps replies step reply last before digest so on end none =
     let was : NoneIsOut mid.commit = none_was_out step mid.commit new.commit end.moves none in
     let led = chain_on law stay pool vdevs digest old v steps end.givens replies mid between last before so on end.before was in
-    let it = goes_on law stay pool vdevs digest mid new between w step end.given reply led.last led.before led.so led.on end.link end.moves none in
-    let stops : RunStopsAs digest mid between new w = record {
-      at = record { last = led.last; earlier = led.before; runs = led.so.runs; steps = it.so.on };
-      lies = led.so.lies;
-      one = it.so.one;
-      held = it.so.held;
-      on = it.so.so;
-    } in
-    (stops, record { was = led.on; held = it.held; sums = it.sums; on = it.on })
+    let it = steps_stay_on_their_disks law stay pool vdevs digest mid new between w step end.given reply led.last led.before led.so led.on end.link end.moves none in
+    (it.stops, it.on)
 
 -- ---- pools that were just made
 

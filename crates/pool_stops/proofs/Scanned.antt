@@ -33,9 +33,9 @@ use Rattle.pool_slots.specs.Opens.{IsKnown, IsRead, IsReadOn, IsShownOn}
 use Rattle.pool_format.specs.declared.labeling.PoolIdentity.{PoolIdentity}
 use Rattle.pool_stops.proofs.Holding.{get_in_use}
 use Rattle.pool_stops.specs.Unhindered.{AnswerTruly}
-use Rattle.pool_stops.specs.Handed.{AreHandedIn, AreUncalled}
+use Rattle.pool_stops.specs.Handed.{AreHandedIn, AreHolding}
 use Rattle.pool_stops.specs.Own.{AreDisksOf, IsOwn, disk_guids}
-use Rattle.pool_stops.proofs.Handed.{as_handed, as_own, child_at, handed_known}
+use Rattle.pool_stops.proofs.Handed.{as_handed, as_own, child_at, handed_known, size_handed}
 
 -- ---- lists, and sizes
 
@@ -117,7 +117,7 @@ pub record IsHanded (pool : PoolIdentity) (vdevs : List PlainVdev) (shapes : Lis
     (old new : Disks) (scan : Scan) : Type 0 where
   pub are : AreDisksOf pool vdevs shapes out (fresh images)
   pub is : AreHandedIn images handed order
-  pub uncalled : AreUncalled handed old
+  pub holding : AreHolding handed old
   pub truly : AnswerTruly old new
   pub read : IsScanOf old new scan
 
@@ -149,7 +149,7 @@ module _ {pool : PoolIdentity} {vdevs : List PlainVdev} {shapes : List VdevShape
   scanned_below it i s at =
       let has : Contains (map place_of scan.labels.items) (place_of s) = contains_at (map place_of scan.labels.items) i (place_of s) (slice_get-map place_of scan.labels.items i ∙ ap (option_map place_of) at) in
       let here : Contains (places_to old.starts (length old.starts)) (place_of s) = subst (λ xs. Contains xs (place_of s)) it.read.places has in
-      omega (arith, below_places old.starts (length old.starts) (place_of s) here, ap length it.uncalled.starts_are)
+      omega (arith, below_places old.starts (length old.starts) (place_of s) here, it.holding.count)
 
   -- what a valid one shows
   pub valid_shown : IsHanded pool vdevs shapes out images handed order old new scan → (i : ℕ) (s : ScannedLabel) (label : Label)
@@ -159,12 +159,12 @@ module _ {pool : PoolIdentity} {vdevs : List PlainVdev} {shapes : List VdevShape
   valid_shown it i s label at valid =
       let c = child_at images handed order s.disk it.is (scanned_below it i s at) in
       let read : IsScannedLabel old new s = all_at (IsScannedLabel old new) scan.labels.items i s it.read.labels at in
-      let known : IsKnown old s.disk = handed_known images handed order old c.0 s.disk it.is it.uncalled c.1 in
+      let known : IsKnown old s.disk = handed_known images handed order old c.0 s.disk it.is it.holding c.1 in
       let says = subst (λ r. IsReadingOf (length (bytes_of old.starts s.disk)) (content old s.disk) s.number r) valid (read.says known it.truly.honest) in (
         c.0,
         c.1,
         omega (arith, slice_get_within order c.0 s.disk c.1, it.is.count),
-        as_own (λ size held. IsLabelShown size held s.number (label_view label)) images handed order old c.0 s.disk it.is it.uncalled c.1 says.0,
+        as_own (λ size held. IsLabelShown size held s.number (label_view label)) images handed order old c.0 s.disk it.is it.holding c.1 says.0,
       )
 
   -- it is the pool's own
@@ -186,9 +186,9 @@ module _ {pool : PoolIdentity} {vdevs : List PlainVdev} {shapes : List VdevShape
       → IsAllowedSize (size_of images child) → number < 4
       → (i : ℕ) × (s : ScannedLabel) × (slice_get scan.labels.items i ≡ Some s) × (s.disk ≡ place) × (s.number ≡ number)
   label_read it child place number at allowed low =
-      let same : bytes_of old.starts place ≡ bytes_of images child = ap (λ starts. bytes_of starts place) it.uncalled.starts_are ∙ (it.is.each child place at).1 in
-      let below : place < length old.starts = omega (arith, (it.is.each child place at).0, ap length it.uncalled.starts_are) in
-      let has = has_places old.starts (length old.starts) place number below (subst (λ (xs : List ℕ). IsAllowedSize (length xs)) (sym same) allowed) low in
+      let same : length (bytes_of old.starts place) ≡ length (bytes_of images child) = size_handed images handed order old child place it.is it.holding at in
+      let below : place < length old.starts = omega (arith, (it.is.each child place at).0, it.holding.count) in
+      let has = has_places old.starts (length old.starts) place number below (subst (λ (n : ℕ). IsAllowedSize n) (sym same) allowed) low in
       let found = at_contains (map place_of scan.labels.items) (place, number) (subst (λ xs. Contains xs (place, number)) (sym it.read.places) has) in
       let s = found_in_map place_of scan.labels.items found.0 (place, number) found.1 in
       (found.0, s.0, s.1, ap (λ (x : ℕ × ℕ). x.0) s.2, ap (λ (x : ℕ × ℕ). x.1) s.2)
@@ -201,8 +201,8 @@ module _ {pool : PoolIdentity} {vdevs : List PlainVdev} {shapes : List VdevShape
       let there = label_read it child place number at allowed shown.is_label in
       let s : ScannedLabel = there.1 in
       let read : IsScannedLabel old new s = all_at (IsScannedLabel old new) scan.labels.items there.0 s it.read.labels there.2 in
-      let known : IsKnown old s.disk = subst (λ n. IsKnown old n) (sym there.3) (handed_known images handed order old child place it.is it.uncalled at) in
-      let mine = as_handed (λ size held. IsLabelShown size held number l) images handed order old child place it.is it.uncalled at shown in
+      let known : IsKnown old s.disk = subst (λ n. IsKnown old n) (sym there.3) (handed_known images handed order old child place it.is it.holding at) in
+      let mine = as_handed (λ size held. IsLabelShown size held number l) images handed order old child place it.is it.holding at shown in
       let here : IsLabelShown (length (bytes_of old.starts s.disk)) (content old s.disk) s.number l =
       subst (λ n. IsLabelShown (length (bytes_of old.starts s.disk)) (content old s.disk) n l) (sym there.4)
       (subst (λ d. IsLabelShown (length (bytes_of old.starts d)) (content old d) number l) (sym there.3) mine) in
@@ -231,8 +231,8 @@ module _ {pool : PoolIdentity} {vdevs : List PlainVdev} {shapes : List VdevShape
       (λ (lost : IsSlotLost old new place).
       absurd (it.truly.none_failed place (made_failed old new place (FailedRead (nth_slot_at (length (bytes_of old.starts place)) lost.number) 1024) lost.made refl)))
       (λ (all : HasAllSlots old new scan.slots.items place).
-      all (handed_known images handed order old child place it.is it.uncalled at) it.truly.honest u
-      (as_handed (λ size held. IsShownOn size held u) images handed order old child place it.is it.uncalled at shown))
+      all (handed_known images handed order old child place it.is it.holding at) it.truly.honest u
+      (as_handed (λ size held. IsShownOn size held u) images handed order old child place it.is it.holding at shown))
       (it.read.slots.all place (is_labeled it child place at allowed))
 
   -- and whatever was read is shown
@@ -243,11 +243,11 @@ module _ {pool : PoolIdentity} {vdevs : List PlainVdev} {shapes : List VdevShape
       let below : slot.which < length handed = subst (λ n. n < length handed) slot.labeled.valid.0 (scanned_below it s.0 slot.labeled.s s.1) in
       let c = child_at images handed order slot.which it.is below in
       let inside : c.0 < length out = omega (arith, slice_get_within order c.0 slot.which c.1, it.is.count, it.are.there.may.flags) in
-      let known = handed_known images handed order old c.0 slot.which it.is it.uncalled c.1 in
+      let known = handed_known images handed order old c.0 slot.which it.is it.holding c.1 in
       record {
         which = c.0;
         used = get_in_use out c.0 inside (it.are.there.none c.0);
-        on = as_own (λ size held. IsReadOn size held u) images handed order old c.0 slot.which it.is it.uncalled c.1 (slot.says known it.truly.honest);
+        on = as_own (λ size held. IsReadOn size held u) images handed order old c.0 slot.which it.is it.holding c.1 (slot.says known it.truly.honest);
       }
 
 -- ---- guids of disks

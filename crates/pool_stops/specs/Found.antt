@@ -18,7 +18,7 @@ use Rattle.vdev_label.specs.Config.{guid_sum}
 use Rattle.vdev_label.specs.Plain.{PlainVdev, config_view}
 use Rattle.pool_format.specs.declared.labeling.PoolIdentity.{PoolIdentity}
 use Rattle.pool_stops.specs.Unhindered.{AnswerTruly, HaveLeft}
-use Rattle.pool_stops.specs.Handed.{AreHandedIn, AreUncalled}
+use Rattle.pool_stops.specs.Handed.{AreHandedIn, AreHolding}
 use Rattle.pool_stops.specs.Own.{AreDisksOf, IsKnownAs}
 
 -- Each disk shows an uberblock, and of the highest of all it has the configuration in a label. The highest has the sum of the guids, and groups and
@@ -41,13 +41,13 @@ abbrev pub OwnDisksAreFound : Type 0
 OwnDisksAreFound =
     (pool : PoolIdentity) (vdevs : List PlainVdev) (shapes : List VdevShape) (out : List Bool) (images handed : List (List ℕ)) (order : List ℕ) (old new : Disks)
     (refusal : Refusal) → AreDisksOf pool vdevs shapes out (fresh images) → ShowHighest vdevs out (fresh images) → AreHandedIn images handed order
-    → AreUncalled handed old → AnswerTruly old new → LayoutRefuses old new 0 refusal → refusal ≡ NoMemory
+    → AreHolding handed old → AnswerTruly old new → LayoutRefuses old new 0 refusal → refusal ≡ NoMemory
 
 -- Where one is found, they are its children in order, its vdevs take them so, and it has the configuration, the name and the guid.
 abbrev pub OwnDisksAreOrdered : Type 0
 OwnDisksAreOrdered =
     (pool : PoolIdentity) (vdevs : List PlainVdev) (shapes : List VdevShape) (out : List Bool) (images handed : List (List ℕ)) (order : List ℕ) (old new : Disks)
-    (rewind : ℕ) (layout : _) → AreDisksOf pool vdevs shapes out (fresh images) → AreHandedIn images handed order → AreUncalled handed old
+    (rewind : ℕ) (layout : _) → AreDisksOf pool vdevs shapes out (fresh images) → AreHandedIn images handed order → AreHolding handed old
     → AnswerTruly old new → IsLayoutOf old new rewind layout → AreChildren order layout.children.items × (layout.shapes.items ≡ shapes) × (config_view layout.config.value ≡ vdevs)
     × IsKnownAs pool layout.identity
 

@@ -1,8 +1,11 @@
 -- Disks that are handed in in any order.
-use Rattle.std.specs.Prelude.{ℕ, ◌≡◌, ◌<◌, [], List, length, slice_get, Some, Contains}
-use Rattle.model_disk.specs.Joint.{Disks, bytes_of, calls_on}
+use Rattle.std.specs.Prelude.{ℕ, ◌≡◌, ◌<◌, List, length, slice_get, Some, Contains}
+use Rattle.model_disk.specs.Contents.{byte_at}
+use Rattle.model_disk.specs.Joint.{Disks, bytes_of, calls_on, content}
+use Rattle.model_disk.specs.Runs.{IsSettled}
+use Rattle.model_disk.specs.declared.disk.Disk as disk
 
--- Disk `child` of a pool stands at place `order child` among those that are handed in, with its bytes. Each of these is one of them, and no
+-- Disk `child` of a pool stands at place `order child` among those that are handed in, which hold these bytes. Each of these is one of them, and no
 -- two are the same.
 pub record AreHandedIn (images handed : List (List ℕ)) (order : List ℕ) : Type 0 where
   pub count : length order ≡ length images
@@ -10,7 +13,21 @@ pub record AreHandedIn (images handed : List (List ℕ)) (order : List ℕ) : Ty
   pub all : (place : ℕ) → place < length handed → Contains order place
   pub once : (child other place : ℕ) → slice_get order child ≡ Some place → slice_get order other ≡ Some place → child ≡ other
 
--- disks that hold these bytes, none of which was called yet
-pub record AreUncalled (handed : List (List ℕ)) (disks : Disks) : Type 0 where
-  pub starts_are : disks.starts ≡ handed
-  pub none : (which : ℕ) → calls_on which disks.calls ≡ []
+-- disks that hold these bytes, and on which nothing is unflushed
+pub record AreHolding (handed : List (List ℕ)) (disks : Disks) : Type 0 where
+  pub count : length disks.starts ≡ length handed
+  pub sizes : (which : ℕ) → length (bytes_of disks.starts which) ≡ length (bytes_of handed which)
+  pub held : (which i : ℕ) → content disks which i ≡ slice_get (bytes_of handed which) i
+  pub settled : (which : ℕ) → IsSettled (calls_on which disks.calls)
+
+module _ {D : Type 0} where
+  -- so it is of one disk
+  pub record IsHolding (g : disk.Ghosts D) (bytes : List ℕ) (d : D) : Type 0 where
+    pub size : length (g.start d) ≡ length bytes
+    pub held : (i : ℕ) → byte_at (g.start d) (g.calls d) i ≡ slice_get bytes i
+    pub settled : IsSettled (g.calls d)
+
+  -- and of each of these
+  pub record AllHold (g : disk.Ghosts D) (handed : List (List ℕ)) (disks : List D) : Type 0 where
+    pub count : length disks ≡ length handed
+    pub each : (which : ℕ) (d : D) → slice_get disks which ≡ Some d → IsHolding g (bytes_of handed which) d

@@ -15,3 +15,4 @@ pub mod Found
 pub mod OwnRunning
 pub mod Stopping
 pub mod OwnReopening
+pub mod Begun

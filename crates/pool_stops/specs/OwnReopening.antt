@@ -7,6 +7,7 @@ use Rattle.block_store.specs.Places.{shapes_of}
 use Rattle.block_store.specs.declared.shape.VdevShape.{VdevShape}
 use Rattle.uberblock_ring.specs.declared.uberblock.Uberblock.{Uberblock}
 use Rattle.vdev_label.specs.Plain.{PlainVdev}
+use Rattle.pool_create.specs.Calls.{GrewTo}
 use Rattle.pool_create.specs.CommitState.{NoneIsOut}
 use Rattle.pool_create.specs.CoreState.{CoreState, disks_of}
 use Rattle.pool_model.specs.Pools.{PlainPool}
@@ -21,14 +22,14 @@ use Rattle.pool_create.specs.NotOpened.{NotOpened}
 use Rattle.pool_create.specs.NotOpened.TheVariants.{NotFound, Refused}
 use Rattle.pool_create.specs.OpenRefusal.TheVariants.{NoMemory}
 use Rattle.pool_slots.specs.Commits.{only_last}
-use Rattle.pool_slots.specs.Opens.{AreKnown}
+use Rattle.pool_slots.specs.Opens.{AreKnown, IsKnown}
 use Rattle.pool_slots.specs.Possible.{Possible}
 use Rattle.pool_format.specs.declared.labeling.PoolIdentity.{PoolIdentity}
 use Rattle.pool_stops.specs.OneConfig.{AreOfConfig, IsOpenedAs, IsRunningAs, RunStopsAs}
 use Rattle.pool_stops.specs.Reopening.{AreByGroup, IsPossibleBehind, LeavesImages}
 use Rattle.pool_stops.specs.Running.{IsLastStep, pool_of}
 use Rattle.pool_stops.specs.Unhindered.{AnswerTruly, HaveLeft, LeadToWholePools}
-use Rattle.pool_stops.specs.Handed.{AreHandedIn}
+use Rattle.pool_stops.specs.Handed.{AllHold, AreHandedIn}
 use Rattle.pool_stops.specs.Own.{AreDisksOf, IsKnownAs}
 use Rattle.pool_stops.specs.OwnRunning.{AreOfSum, IsOnItsDisks}
 use Rattle.pool_stops.specs.Stopping.{AreLabelsUntorn}
@@ -41,11 +42,17 @@ pub record LeadToOwnPools (pool : PoolIdentity) (vdevs : List PlainVdev) (digest
   pub one : AreOfConfig digest p
   pub sums : AreOfSum vdevs p
 
+-- the disks were called since the old moment, at which each byte of theirs was known
+pub record GrewFromKnown (old new : Disks) : Type 0 where
+  pub grew : GrewTo old new
+  pub known : (which : ℕ) → IsKnown old which
+
 module _ {D : Type 0} where
-  -- The disks of a pool with these images are handed in, in this order, and weren't called yet.
+  -- The disks of a pool, which hold these bytes with nothing unflushed, are handed in, in this order.
   pub record AreReturned (g : disk.Ghosts D) (images : List (List ℕ)) (disks : List D) (order : List ℕ) : Type 0 where
-    pub handed_in : AreHandedIn images (map g.start disks) order
-    pub uncalled : (d : D) → Contains disks d → g.calls d ≡ []
+    pub handed : List (List ℕ)
+    pub handed_in : AreHandedIn images handed order
+    pub hold : AllHold g handed disks
 
   -- an open of them that was refused: each of its answers was true, and none of its calls failed
   abbrev pub IsRefusedTruly : (g : disk.Ghosts D) (disks : List D) (rewind : ℕ) (failed : NotOpened D) → OpenRefuses g disks rewind failed → Type 0
@@ -60,8 +67,8 @@ module _ {D : Type 0} where
     pub honest : IsHonestSince is.array (disks_of core)
 
   -- Whatever the order in which such disks are handed in: an open that doesn't go back is refused for want of memory alone; one that is done gives a core
-  -- of the pool of a possible group, or of one so many groups less, that runs on its own disks, and is known by the pool's name and guid; and wherever one
-  -- is stopped behind the finding of its pool, which only reads, it leaves such disks again.
+  -- of the pool of a possible group, or of one so many groups less, that runs on its own disks, and is known by the pool's name and guid, where each
+  -- byte was known before; and wherever one is stopped behind the finding of its pool, which only reads, it leaves such disks again.
   pub record OpenAgain (g : disk.Ghosts D) (pool : PoolIdentity) (vdevs : List PlainVdev) (digest : List ℕ) (images : List (List ℕ)) (shapes : List VdevShape)
       (out : List Bool) (p : Possible) (pools : Uberblock → PlainPool) : Type 0 where
     pub refused : (disks : List D) (order : List ℕ) (failed : NotOpened D) → AreReturned g images disks order → HaveLeft out (fresh images)
@@ -69,7 +76,7 @@ module _ {D : Type 0} where
     pub done : (disks : List D) (order : List ℕ) (rewind : ℕ) (claimed : Uberblock) (core : CoreState) → AreReturned g images disks order
         → (is : IsOpened g disks rewind claimed core) → IsOpenedTruly is → length images ≤ 2 ^ 64
         → IsOpenedAs digest p pools shapes out rewind claimed core × IsOnItsDisks pool vdevs core claimed []
-        × IsKnownAs pool is.ordered.found.layout.identity
+        × IsKnownAs pool is.ordered.found.layout.identity × GrewFromKnown is.array (disks_of core)
     pub stopped : (disks : List D) (order : List ℕ) (rewind : ℕ) (array new : Disks) (its_shapes : List VdevShape) (its_out : List Bool)
         (left : List (List ℕ)) → rewind < 3 → AreByGroup pools → AreReturned g images disks order
         → (ordered : AreInOrder g disks rewind array its_shapes its_out) → AnswerTruly ordered.found.old ordered.found.new

@@ -12,10 +12,12 @@ use Rattle.vdev_label.specs.Plain.{PlainLabel, PlainVdev, config_view}
 use Rattle.vdev_label.specs.declared.label.Config.{Config}
 use Rattle.pool_create.specs.CommitState.{NoneIsOut}
 use Rattle.pool_create.specs.CoreState.{CoreState, disks_of}
+use Rattle.pool_create.specs.CoreSteps.{Link}
 use Rattle.pool_create.specs.Creating.{IsCreated}
+use Rattle.pool_create.specs.Moves.{Moves}
 use Rattle.pool_format.specs.declared.labeling.PoolIdentity.{PoolIdentity}
 use Rattle.pool_model.specs.Pools.{PlainPool}
-use Rattle.pool_model.specs.View.{View}
+use Rattle.pool_model.specs.View.{Given, View}
 use Rattle.pool_model.specs.declared.step.Reply.{Reply}
 use Rattle.pool_model.specs.declared.step.Step.{Step}
 use Rattle.pool_create.specs.OpenOpening.{IsOpenedOver}
@@ -55,6 +57,14 @@ pub record StopsOnItsDisks (pool : PoolIdentity) (vdevs : List PlainVdev) {diges
   pub sums : AreOfSum vdevs stops.at.steps.stops.p
   pub on : IsOnItsDisks pool vdevs new stops.at.steps.later stops.at.steps.earlier
 
+-- A step of such a core, with this one as the committed group's uberblock behind those, is stopped well, at each moment of it; and the core runs on so.
+pub record StepsOnItsDisks (pool : PoolIdentity) (vdevs : List PlainVdev) (digest : List ℕ) (old : CoreState) (v : View) (new : CoreState) (w : View)
+    (last : Uberblock) (before : List Uberblock) : Type 0 where
+  pub stops : RunStopsAs digest old v new w
+  pub last_is : stops.at.last ≡ last
+  pub before_is : stops.at.earlier ≡ before
+  pub on : StopsOnItsDisks pool vdevs stops
+
 -- ---- laws
 
 -- a pool that was just made runs on its disks
@@ -70,6 +80,14 @@ RunsStayOnTheirDisks =
     (reply : Reply) (last : Uberblock) (before : List Uberblock) (digest : List ℕ) → IsRunningAs digest old v last before
     → IsOnItsDisks pool vdevs old last before → IsLastStep old mid new v between w steps replies step reply → NoneIsOut new.commit
     → (stops : RunStopsAs digest mid between new w) × StopsOnItsDisks pool vdevs stops
+
+-- so it is of one step, of which no disk goes out
+abbrev pub StepsStayOnTheirDisks : Type 0
+StepsStayOnTheirDisks =
+    (pool : PoolIdentity) (vdevs : List PlainVdev) (digest : List ℕ) (old new : CoreState) (v w : View) (step : Step) (given : Given) (reply : Reply)
+    (last : Uberblock) (before : List Uberblock) → IsRunningAs digest old v last before → IsOnItsDisks pool vdevs old last before
+    → Link old v step given reply new w → Moves step old.commit new.commit → NoneIsOut new.commit
+    → StepsOnItsDisks pool vdevs digest old v new w last before
 
 -- and so is one that was opened, of its own disks
 abbrev pub OpenedPoolsAreOnTheirDisks : Type 0

@@ -128,3 +128,9 @@ abbrev pub RunsStopWell : Type 0
 RunsStopWell =
     (old mid new : CoreState) (v between w : View) (steps : List Step) (replies : List Reply) (step : Step) (reply : Reply) (last : Uberblock) (before : List Uberblock)
     → IsRunning old v last before → IsLastStep old mid new v between w steps replies step reply → NoneIsOut new.commit → RunStopsAt mid between new w
+
+-- where no disk is out at the end of a run, none was before
+abbrev pub NoneWasOut : Type 0
+NoneWasOut =
+    (old new : CoreState) (v w : View) (steps : List Step) (givens : List Given) (replies : List Reply) → Chain old v steps givens replies new w
+    → NoneIsOut new.commit → NoneIsOut old.commit

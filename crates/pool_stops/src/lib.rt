@@ -29,10 +29,11 @@ pub use laws::{
 };
 pub use opening::{
     own_pools_open_again, stopped_exports_lead_to_own_pools, stopped_opens_lead_to_own_pools,
-    stopped_runs_lead_to_own_pools,
+    stopped_runs_lead_to_own_pools, stopped_steps_lead_to_own_pools,
 };
 pub use running::{
-    created_pools_are_on_their_disks, opened_pools_are_on_their_disks, runs_stay_on_their_disks,
+    created_pools_are_on_their_disks, none_was_out, opened_pools_are_on_their_disks,
+    runs_stay_on_their_disks, steps_stay_on_their_disks,
 };
 pub use stopping::{
     led_disks_are_bound, own_disks_are_not_four, stopped_exports_leave_disks,

@@ -1,9 +1,13 @@
 //! Laws of opens of a pool's own disks.
+ghost use Rattle.pool_stops.specs.Begun.{StoppedStepsLeadToOwnPools};
 ghost use Rattle.pool_stops.specs.OwnReopening.{OwnPoolsOpenAgain, StoppedExportsLeadToOwnPools};
 ghost use Rattle.pool_stops.specs.OwnReopening.{StoppedOpensLeadToOwnPools, StoppedRunsLeadToOwnPools};
 
 use crate::configured::{opened_pools_run_as, stopped_opens_are_of_config};
-use crate::running::{opened_pools_are_on_their_disks, runs_stay_on_their_disks};
+use crate::laws::blocks_keep_what_is_filled;
+use crate::running::{
+    opened_pools_are_on_their_disks, runs_stay_on_their_disks, steps_stay_on_their_disks,
+};
 use crate::stopping::{
     led_disks_are_bound, own_disks_are_not_four, stopped_exports_leave_disks,
     stopped_opens_are_of_sum, stopped_opens_leave_disks, stopped_runs_leave_disks,
@@ -13,6 +17,7 @@ use crate::whole_pools::{
     unhindered_opens_are_done,
 };
 use model_disk::Disk;
+use pool_slots::stepwise::blocks_phase;
 
 /// **An open of a pool's own disks, handed in in any order**, is refused for want of memory alone, where all answers are true, no call fails, it doesn't go
 /// back, and groups and claims are left. One that is done gives a core of the pool of a possible group, or of one so many groups less, that runs on, and
@@ -31,6 +36,17 @@ pub fn stopped_runs_lead_to_own_pools()
     ensures { StoppedRunsLeadToOwnPools }
 {
     runs_stay_on_their_disks();
+    stopped_runs_lead_whole();
+    stopped_runs_leave_disks();
+}
+
+/// And what is left of one step leads to the last committed group alone, until a slot of the next group's uberblock is begun to be written.
+pub fn stopped_steps_lead_to_own_pools()
+    ensures { StoppedStepsLeadToOwnPools }
+{
+    blocks_phase();
+    blocks_keep_what_is_filled();
+    steps_stay_on_their_disks();
     stopped_runs_lead_whole();
     stopped_runs_leave_disks();
 }
