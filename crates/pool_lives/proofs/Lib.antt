@@ -1,0 +1,8 @@
+mod Moments
+mod Resting
+mod Quiet
+mod Known
+mod Chains
+mod Stopping
+mod Lives
+mod Rising

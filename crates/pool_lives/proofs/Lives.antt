@@ -1,0 +1,256 @@
+-- Lives of a pool, from place to place.
+use Rattle.std.proofs.Common.{◌≡◌, inl, inr, ⊎_elim, ◌<◌, ◌≤◌, ℕ, suc, ◌+◌, ◌*◌, Bool, true, List, [], ◌∷◌, length, refl, sym, ap, subst, ◌∙◌, arith}
+use Rattle.std.specs.Prelude.{All, ◌==◌, ◌^◌, if◌then◌else◌}
+use Rattle.std.proofs.lemmas.List.{length-append}
+use Rattle.std.proofs.lemmas.List.Elements.{All-head, All-tail}
+use Rattle.model_disk.specs.Joint.{Disks}
+use Rattle.model_disk.specs.declared.disk.Disk as disk
+use Rattle.block_store.specs.Places.{shapes_of}
+use Rattle.block_store.specs.declared.shape.VdevShape.{VdevShape}
+use Rattle.uberblock_ring.specs.declared.uberblock.Uberblock.{Uberblock}
+use Rattle.vdev_label.specs.Limits.{IsAllowed, IsAllowedVdev}
+use Rattle.vdev_label.specs.Plain.{PlainVdev, config_view}
+use Rattle.vdev_label.specs.declared.label.Config.{Config}
+use Rattle.pool_create.specs.Backs.{pool_after}
+use Rattle.pool_create.specs.CoreState.{CoreState, disks_of}
+use Rattle.pool_create.specs.OpenOpening.{IsKeptThrough}
+use Rattle.pool_format.specs.declared.labeling.PoolIdentity.{PoolIdentity}
+use Rattle.pool_model.specs.Headline.{Headline}
+use Rattle.pool_model.specs.Machine.{Run}
+use Rattle.pool_model.specs.Sound.{IsSound}
+use Rattle.pool_model.specs.View.{Given, View}
+use Rattle.pool_model.specs.declared.step.Reply.{Reply}
+use Rattle.pool_model.specs.declared.step.Step.{Step}
+use Rattle.pool_slots.specs.Commits.{only_last}
+use Rattle.pool_slots.specs.Opens.{IsKnown}
+use Rattle.pool_stops.specs.OneConfig.{CreatedPoolsRunAs, IsRunningAs}
+use Rattle.pool_stops.specs.Own.{disk_guids}
+use Rattle.pool_stops.specs.OwnReopening.{LeadToOwnPools, OwnPoolsOpenAgain, StoppedExportsLeadToOwnPools}
+use Rattle.pool_stops.specs.OwnRunning.{CreatedPoolsAreOnTheirDisks, IsOnItsDisks}
+use Rattle.pool_stops.specs.Reopening.{AreByGroup}
+use Rattle.pool_stops.specs.Running.{pool_of}
+use Rattle.pool_lives.specs.Lasting.{Keeps, LivesLoseNothing, served_first}
+use Rattle.pool_lives.specs.Lives.{Down, Exports, Goes, Happening, IsAnswered, IsExported, IsLife, IsMade, IsOpenStopped, IsOpenTried, IsRun, IsRunStopped, Opens, Place, Runs, StopsOpening, StopsRunning, Up}
+use Rattle.pool_lives.specs.Tales.{IsTale, Known, Resting, Serving, Tells}
+use Rattle.pool_lives.proofs.Chains.{chain_on, trusted}
+use Rattle.pool_lives.proofs.Known.{chain_known, known_unfailed}
+use Rattle.pool_lives.proofs.Stopping.{StopLaws, Stopped, chain_stops}
+
+-- ---- what holds at each place
+
+pub record IsUp (pool : PoolIdentity) (vdevs : List PlainVdev) (digest : List ℕ) (core : CoreState) (v : View) (last : Uberblock) (before : List Uberblock)
+    : Type 0 where
+  pub so : IsRunningAs digest core v last before
+  pub on : IsOnItsDisks pool vdevs core last before
+  pub known : (which : ℕ) → IsKnown (disks_of core) which
+
+pub record IsDown (pool : PoolIdentity) (vdevs : List PlainVdev) (digest : List ℕ) (images : List (List ℕ)) (p : _) (pools : Uberblock → _) : Type 0 where
+  pub shapes : List VdevShape
+  pub out : List Bool
+  pub led : LeadToOwnPools pool vdevs digest images shapes out p pools
+  pub by_group : AreByGroup pools
+
+abbrev pub Holds : PoolIdentity → List PlainVdev → List ℕ → Place → Known → Type 0
+Holds pool vdevs digest (Up core) (Serving v last before) = IsUp pool vdevs digest core v last before
+Holds pool vdevs digest (Down images) (Resting p pools) = IsDown pool vdevs digest images p pools
+Holds pool vdevs digest _ _ = ⊥
+
+abbrev pub HeadlineOfRuns : Type 0
+HeadlineOfRuns = (v : View) (steps : List Step) (givens : List Given) (replies : List Reply) (w : View) → IsSound v → Run v steps givens replies w
+    → Headline v steps givens replies w
+
+pub record Laws {D : Type 0} (g : disk.Ghosts D) : Type 0 where
+  pub stops : StopLaws
+  pub headline : HeadlineOfRuns
+  pub exports : StoppedExportsLeadToOwnPools
+  pub opens : OwnPoolsOpenAgain g
+
+-- what is known next, and that it holds there
+abbrev pub GoesOn : PoolIdentity → List PlainVdev → List ℕ → Known → Happening → Place → Type 0
+GoesOn pool vdevs digest known it next = (later : Known) × Tells known it later × Holds pool vdevs digest next later
+
+-- ---- how many disks a pool has
+
+some_guids : (vdevs : List PlainVdev) → 1 ≤ length vdevs → All IsAllowedVdev vdevs → 0 < length (disk_guids vdevs)
+some_guids [] some all = absurd (omega (arith, some))
+some_guids (vdev ∷ vdevs) some all =
+    omega (arith, length-append vdev.children (disk_guids vdevs), (All-head IsAllowedVdev vdev vdevs all).children_from)
+
+few_guids : (vdevs : List PlainVdev) → All IsAllowedVdev vdevs → length (disk_guids vdevs) ≤ 32 * length vdevs
+few_guids [] all = omega arith
+few_guids (vdev ∷ vdevs) all =
+    omega (
+      arith,
+      length-append vdev.children (disk_guids vdevs),
+      (All-head IsAllowedVdev vdev vdevs all).children_to,
+      few_guids vdevs (All-tail IsAllowedVdev vdev vdevs all),
+    )
+
+few_disks : (guid : ℕ) (vdevs : List PlainVdev) → IsAllowed guid vdevs → length (disk_guids vdevs) ≤ 2 ^ 64
+few_disks guid vdevs allowed = omega (arith, few_guids vdevs allowed.each, allowed.vdevs_to)
+
+-- ---- runs
+
+by_group : (v : View) → AreByGroup (pool_of v)
+by_group v u other same = ap (λ (group : ℕ). if group == suc v.committed then pool_after v else v.pools group) same
+
+module _ {D : Type 0} (g : disk.Ghosts D) (laws : Laws g) (pool : PoolIdentity) (vdevs : List PlainVdev) (digest : List ℕ) where
+  runs_on : (core later : CoreState) (v : View) (last : Uberblock) (before : List Uberblock) (steps : List Step) → IsUp pool vdevs digest core v last before
+      → IsRun core steps later → GoesOn pool vdevs digest (Serving v last before) (Runs steps) (Up later)
+  runs_on core later v last before steps is run =
+      let ran = run.ran.3 v true is.so.runs.represents (λ trust. run.honest) (trusted run.ran.0) in
+      let links = ran.0 in
+      let it = chain_on laws.stops.none_was laws.stops.stay pool vdevs digest core v steps links.givens run.ran.0 later links.after last before is.so is.on
+      links.chain run.all in (
+        Serving links.after it.later it.earlier,
+        record {
+          givens = links.givens;
+          replies = run.ran.0;
+          run = ran.1;
+          headline = ran.2;
+          commits = it.commits;
+          committed = it.committed;
+          group = sym it.so.runs.group;
+        },
+        record { so = it.so; on = it.on; known = chain_known laws.stops.none_was core v steps links.givens run.ran.0 later links.after links.chain run.all is.known },
+      )
+
+  stops_on : (core : CoreState) (images : List (List ℕ)) (v : View) (last : Uberblock) (before : List Uberblock) (steps : List Step) (at : Disks)
+      → IsUp pool vdevs digest core v last before → IsRunStopped core steps at images
+      → GoesOn pool vdevs digest (Serving v last before) (StopsRunning steps at) (Down images)
+  stops_on core images v last before steps at is stopped =
+      let run = stopped.run in
+      let leaves = stopped.leaves in
+      let ran = run.ran.3 v true is.so.runs.represents (λ trust. run.honest) (trusted run.ran.0) in
+      let links = ran.0 in
+      let it = subst (λ (m : Disks). Stopped pool vdevs digest v last before steps m images) (sym stopped.at_is)
+      (chain_stops laws.stops pool vdevs digest images leaves.calls core v steps links.givens run.ran.0 stopped.new links.after last before is.so is.on
+      links.chain run.all leaves.moment leaves.left leaves.untorn) in (
+        Resting it.p (pool_of it.w),
+        record {
+          taken = it.taken;
+          rest = it.rest;
+          whole = it.whole;
+          w = it.w;
+          later = it.later;
+          earlier = it.earlier;
+          takes = record {
+            givens = it.givens;
+            replies = it.replies;
+            run = it.run;
+            headline = laws.headline v it.taken it.givens it.replies it.w is.so.runs.represents.follows.sound it.run;
+            commits = it.commits;
+            committed = it.committed;
+            group = it.group;
+          };
+          which = it.which;
+          pools_are = refl;
+        },
+        record { shapes = it.shapes; out = it.out; led = it.led; by_group = by_group it.w },
+      )
+
+  exports_on : (core : CoreState) (images : List (List ℕ)) (v : View) (last : Uberblock) (before : List Uberblock) → IsUp pool vdevs digest core v last before
+      → IsExported core images → GoesOn pool vdevs digest (Serving v last before) Exports (Down images)
+  exports_on core images v last before is it = (
+    Resting (only_last last before) (pool_of v),
+    (it.begun.exportable v is.so.runs.represents, refl, refl),
+    record {
+      shapes = shapes_of core.commit.store.spaces;
+      out = core.commit.store.out;
+      led = laws.exports pool vdevs digest core v last before it.u it.new images is.so is.on it.begun (λ which used. is.known which) it.honest it.leaves it.untorn;
+      by_group = by_group v;
+    },
+  )
+
+  -- ---- opens
+
+  opens_on : (images : List (List ℕ)) (core : CoreState) (p : _) (pools : Uberblock → _) (rewind : ℕ) (claimed : Uberblock)
+      → IsDown pool vdevs digest images p pools → IsAnswered g images rewind claimed core
+      → GoesOn pool vdevs digest (Resting p pools) (Opens rewind claimed) (Up core)
+  opens_on images core p pools rewind claimed is it =
+      let led = is.led in
+      let few = few_disks pool.guid vdevs led.are.allowed in
+      let done = (laws.opens pool vdevs digest images is.shapes is.out p pools led).done it.disks it.order rewind claimed core it.returned it.opened it.truly
+      (omega (arith, few, led.are.own.count)) in
+      let claim = done.0.well.opened.claim in (
+        Serving _ claimed [],
+        (record { claim = claim; vdevs = _; out = _; served = refl }, refl, refl),
+        record {
+          so = done.0.runs;
+          on = done.1;
+          known = λ which. known_unfailed it.opened.array (disks_of core) done.3.grew it.none_failed which (done.3.known which);
+        },
+      )
+
+  kept_so : (array : Disks) (shapes : List VdevShape) (out : List Bool) (rewind : ℕ) (new : Disks) → IsOpenTried array shapes out rewind new
+      → IsKeptThrough out rewind array new
+  kept_so array shapes out rewind new tried = ⊎_elim
+      (λ (claimed, core, is, all, same).
+      subst (λ (x : List Bool × Disks). IsKeptThrough x.0 rewind array x.1) (λ j. (all j, same j)) is.kept)
+      (λ (refusal, is, all). subst (λ (them : List Bool). IsKeptThrough them rewind array new) all is.kept)
+      tried
+
+  stops_opening : (images left : List (List ℕ)) (p : _) (pools : Uberblock → _) (rewind : ℕ) → IsDown pool vdevs digest images p pools
+      → IsOpenStopped g images rewind left → GoesOn pool vdevs digest (Resting p pools) (StopsOpening rewind) (Down left)
+  stops_opening images left p pools rewind is it =
+      let stopped = (laws.opens pool vdevs digest images is.shapes is.out p pools is.led).stopped it.disks it.order rewind it.array it.new it.shapes it.out left
+      it.few is.by_group it.returned it.ordered it.truly (kept_so it.array it.shapes it.out rewind it.new it.tried) it.honest it.leaves it.untorn in (
+        Resting stopped.0 pools,
+        (stopped.1, refl),
+        record { shapes = is.shapes; out = is.out; led = stopped.2; by_group = is.by_group },
+      )
+
+  -- ---- whole lives
+
+  up_goes : (core : CoreState) (v : View) (last : Uberblock) (before : List Uberblock) (it : Happening) (next : Place)
+      → IsUp pool vdevs digest core v last before → Goes g (Up core) it next → GoesOn pool vdevs digest (Serving v last before) it next
+  up_goes core v last before (Runs steps) (Up later) is goes = runs_on core later v last before steps is goes
+  up_goes core v last before (StopsRunning steps at) (Down images) is goes = stops_on core images v last before steps at is goes
+  up_goes core v last before Exports (Down images) is goes = exports_on core images v last before is goes
+  up_goes core v last before _ _ is goes = absurd goes
+
+  down_goes : (images : List (List ℕ)) (p : _) (pools : Uberblock → _) (it : Happening) (next : Place)
+      → IsDown pool vdevs digest images p pools → Goes g (Down images) it next → GoesOn pool vdevs digest (Resting p pools) it next
+  down_goes images p pools (Opens rewind claimed) (Up core) is goes = opens_on images core p pools rewind claimed is goes
+  down_goes images p pools (StopsOpening rewind) (Down left) is goes = stops_opening images left p pools rewind is goes
+  down_goes images p pools _ _ is goes = absurd goes
+
+  goes_on : (from : Place) (known : Known) (it : Happening) (next : Place) → Holds pool vdevs digest from known → Goes g from it next
+      → GoesOn pool vdevs digest known it next
+  goes_on (Up core) (Serving v last before) it next is goes = up_goes core v last before it next is goes
+  goes_on (Down images) (Resting p pools) it next is goes = down_goes images p pools it next is goes
+  goes_on _ _ it next is goes = absurd is
+
+  pub lives_on : (from : Place) (known : Known) (its : List Happening) (to : Place) → Holds pool vdevs digest from known → IsLife g from its to
+      → (later : Known) × IsTale known its later × Holds pool vdevs digest to later
+  lives_on from known [] to is same = (known, refl, subst (λ (place : Place). Holds pool vdevs digest place known) same is)
+  lives_on from known (it ∷ its) to is (next, goes, life) =
+      let one = goes_on from known it next is goes in
+      let rest = lives_on next one.0 its to one.2 life in
+      (rest.0, (one.0, one.1, rest.1), rest.2)
+
+-- ---- pools that were made
+
+module _ {D : Type 0} where
+  keeps : (g : disk.Ghosts D) → OwnPoolsOpenAgain g → (pool : PoolIdentity) (config : Config) (digest : List ℕ) (to : Place) (known : Known)
+      → Holds pool (config_view config) digest to known → Keeps g pool config digest to known
+  keeps g law pool config digest (Up core) (Serving v last before) is = is.so.runs.represents
+  keeps g law pool config digest (Down images) (Resting p pools) is =
+      (is.shapes, is.out, is.led, law pool (config_view config) digest images is.shapes is.out p pools is.led)
+  keeps g law pool config digest _ _ is = absurd is
+
+  pub lives_lose_nothing : CreatedPoolsRunAs → CreatedPoolsAreOnTheirDisks → (g : disk.Ghosts D) → Laws g → LivesLoseNothing g
+  lives_lose_nothing run on g laws pool config u core made its to life =
+      let vdevs : List PlainVdev = config_view config in
+      let is = made.created.created in
+      let own = on made.created.array pool config u core is in
+      let count : length made.created.array.starts ≡ length (disk_guids vdevs) = ap length (sym is.grew.starts) ∙ own.count in
+      let so = run made.created.array pool config u core is (λ which used. made.known which) made.truly.honest
+      (omega (arith, count, some_guids vdevs own.allowed.vdevs_from own.allowed.each))
+      (omega (arith, count, few_disks pool.guid vdevs own.allowed)) in
+      let it = lives_on g laws pool vdevs u.config_digest (Up core) (Serving (served_first made) u []) its to (record {
+        so = so;
+        on = own;
+        known = λ which. known_unfailed made.created.array (disks_of core) is.grew made.truly.none_failed which (made.known which);
+      }) life in
+      (it.0, it.1, keeps g laws.opens pool config u.config_digest to it.0 it.2)

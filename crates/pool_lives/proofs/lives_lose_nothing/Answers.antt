@@ -1,0 +1,14 @@
+use Rattle.pool_lives.proofs.Lives.{lives_lose_nothing as law}
+use Rattle.pool_lives.proofs.lives_lose_nothing.Goals as goal
+
+pub returns : goal.returns
+returns g c = law c.created_pools_run_as.ensures c.created_pools_are_on_their_disks.ensures g.D.Disk (record {
+  stops = record {
+    none_was = c.none_was_out.ensures;
+    stay = c.steps_stay_on_their_disks.ensures;
+    lead = c.stopped_steps_lead_to_own_pools.ensures;
+  };
+  headline = c.headline_of_runs.ensures;
+  exports = c.stopped_exports_lead_to_own_pools.ensures;
+  opens = c.own_pools_open_again.ensures;
+})
