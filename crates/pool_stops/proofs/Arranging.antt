@@ -26,7 +26,7 @@ use Rattle.pool_stops.specs.Found.{AreChildren}
 use Rattle.pool_stops.specs.Unhindered.{AnswerTruly}
 use Rattle.pool_stops.specs.Handed.{AreHandedIn, AreHolding}
 use Rattle.pool_stops.specs.Own.{AreDisksOf, IsKnownAs}
-use Rattle.pool_stops.specs.OwnReopening.{AreReturned}
+use Rattle.pool_stops.specs.OwnReopening.{AreReturned, UncalledDisksAreReturned, UnfoundDisksAreReturned}
 use Rattle.pool_stops.proofs.FoundDisks.{own_disks_are_ordered}
 use Rattle.pool_stops.proofs.Handed.{held_handed}
 use Rattle.pool_stops.proofs.Lists.{below_or, same_lists, same_some}
@@ -149,6 +149,46 @@ module _ {D : Type 0} where
             subst (λ them. IsSettled them) (sym (calls which d.0 d.1)) (returned.hold.each which d.0 d.1).settled)
             (λ (past : length disks ≤ which). subst (λ them. IsSettled them) (sym (none which past)) (λ i. refl))
             (below_or which (length disks));
+      }
+
+  pub uncalled_disks_are_returned : (g : disk.Ghosts D) → UncalledDisksAreReturned g
+  uncalled_disks_are_returned g images disks order is none = record {
+    handed = map g.start disks;
+    handed_in = is;
+    hold = record {
+      count = sym (length-map disks g.start);
+      each = λ which d at.
+          let bytes : bytes_of (map g.start disks) which ≡ g.start d =
+          ap (λ o. unwrap_or o []) (slice_get-map g.start disks which ∙ ap (option_map g.start) at) in
+          let calls : g.calls d ≡ [] = none d (contains_at disks which d at) in
+          record {
+            size = ap length (sym bytes);
+            held = λ i. λ j. byte_at (sym bytes j) (calls j) i;
+            settled = subst (λ them. IsSettled them) (sym calls) (λ i. refl);
+          };
+    };
+  }
+
+  pub unfound_disks_are_returned : (g : disk.Ghosts D) → UnfoundDisksAreReturned g
+  unfound_disks_are_returned g images disks back order rewind cause returned it =
+      let holding = still_holding g images disks order it.old returned it.read.before in
+      let reads : Makes no_write it.old it.new = reads_made it.read.only in
+      record {
+        handed = returned.handed;
+        handed_in = returned.handed_in;
+        hold = record {
+          count = sym (length-map back g.start) ∙ ap length (sym it.given.0) ∙ ap length reads.starts ∙ holding.count;
+          each = λ which d at.
+              let start : bytes_of it.new.starts which ≡ g.start d =
+              ap (λ starts. bytes_of starts which) it.given.0 ∙ ap (λ o. unwrap_or o []) (slice_get-map g.start back which ∙ ap (option_map g.start) at) in
+              let calls : calls_on which it.new.calls ≡ g.calls d =
+              it.given.1 which ∙ ap (λ o. unwrap_or o []) (slice_get-map g.calls back which ∙ ap (option_map g.calls) at) in
+              record {
+                size = ap length (sym start) ∙ ap (λ s. length (bytes_of s which)) reads.starts ∙ holding.sizes which;
+                held = λ i. (λ j. byte_at (sym start j) (sym calls j) i) ∙ none_same it.old it.new which i reads ∙ holding.held which i;
+                settled = subst (λ them. IsSettled them) calls (settled_later it.old it.new which reads (holding.settled which));
+              };
+        };
       }
 
   -- the configuration that was found is the pool's, and so are the name and the guid

@@ -10,11 +10,13 @@ use Rattle.vdev_label.specs.Plain.{PlainVdev}
 use Rattle.pool_create.specs.Calls.{GrewTo}
 use Rattle.pool_create.specs.CommitState.{NoneIsOut}
 use Rattle.pool_create.specs.CoreState.{CoreState, disks_of}
+use Rattle.pool_labels.specs.declared.refusal.Refusal.{Refusal as LabelsRefusal}
 use Rattle.pool_model.specs.Pools.{PlainPool}
 use Rattle.pool_model.specs.View.{View}
 use Rattle.pool_model.specs.declared.step.Reply.{Reply}
 use Rattle.pool_model.specs.declared.step.Step.{Step}
 use Rattle.pool_create.specs.OpenExporting.{IsExportBegun}
+use Rattle.pool_create.specs.OpenFinding.{FindRefuses}
 use Rattle.pool_create.specs.OpenOpening.{IsKeptThrough}
 use Rattle.pool_create.specs.Opens.{AreInOrder, IsOpened, OpenRefuses, refusal_of}
 use Rattle.pool_create.specs.OpenStops.{fresh}
@@ -85,6 +87,18 @@ module _ {D : Type 0} where
         → (later : Possible) × IsPossibleBehind p rewind later × LeadToOwnPools pool vdevs digest left shapes out later pools
 
   -- ---- laws
+
+  -- Disks that weren't called yet may be handed in, with the bytes that they hold;
+  abbrev pub UncalledDisksAreReturned : disk.Ghosts D → Type 0
+  UncalledDisksAreReturned g =
+      (images : List (List ℕ)) (disks : List D) (order : List ℕ) → AreHandedIn images (map g.start disks) order
+      → ((d : D) → Contains disks d → g.calls d ≡ []) → AreReturned g images disks order
+
+  -- and so may those that come back as no pool was found on them: they hold what they held.
+  abbrev pub UnfoundDisksAreReturned : disk.Ghosts D → Type 0
+  UnfoundDisksAreReturned g =
+      (images : List (List ℕ)) (disks back : List D) (order : List ℕ) (rewind : ℕ) (cause : LabelsRefusal) → AreReturned g images disks order
+      → FindRefuses g disks rewind back cause → AreReturned g images back order
 
   abbrev pub OwnPoolsOpenAgain : disk.Ghosts D → Type 0
   OwnPoolsOpenAgain g =

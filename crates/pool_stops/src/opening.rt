@@ -2,6 +2,7 @@
 ghost use Rattle.pool_stops.specs.Begun.{StoppedStepsLeadToOwnPools};
 ghost use Rattle.pool_stops.specs.OwnReopening.{OwnPoolsOpenAgain, StoppedExportsLeadToOwnPools};
 ghost use Rattle.pool_stops.specs.OwnReopening.{StoppedOpensLeadToOwnPools, StoppedRunsLeadToOwnPools};
+ghost use Rattle.pool_stops.specs.OwnReopening.{UncalledDisksAreReturned, UnfoundDisksAreReturned};
 
 use crate::configured::{opened_pools_run_as, stopped_opens_are_of_config};
 use crate::laws::blocks_keep_what_is_filled;
@@ -30,6 +31,12 @@ pub fn own_pools_open_again<D: Disk + Drop>()
     opened_pools_are_on_their_disks();
     stopped_opens_lead_to_own_pools();
 }
+
+/// Which disks may be handed in: those that weren't called yet, and those that come back as no pool was found on them.
+pub fn disks_may_be_handed_in<D: Disk + Drop>()
+    ensures uncalled { UncalledDisksAreReturned D.Disk }
+    ensures unfound { UnfoundDisksAreReturned D.Disk }
+{}
 
 /// Wherever a run of a pool on its own disks is stopped, as long as no disk is out: it leaves disks that open again.
 pub fn stopped_runs_lead_to_own_pools()
