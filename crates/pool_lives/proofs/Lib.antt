@@ -4,5 +4,6 @@ mod Quiet
 mod Known
 mod Chains
 mod Stopping
-mod Lives
+mod Refused
 mod Rising
+mod Lives

@@ -14,6 +14,8 @@ use Rattle.vdev_label.specs.declared.label.Config.{Config}
 use Rattle.pool_create.specs.Backs.{pool_after}
 use Rattle.pool_create.specs.CoreState.{CoreState, disks_of}
 use Rattle.pool_create.specs.OpenOpening.{IsKeptThrough}
+use Rattle.pool_create.specs.Opens.{IsOpened}
+use Rattle.pool_create.specs.Retried.{UndiminishedOpensClaimOnce, UnfailingOpensClaimOnce}
 use Rattle.pool_format.specs.declared.labeling.PoolIdentity.{PoolIdentity}
 use Rattle.pool_model.specs.Headline.{Headline}
 use Rattle.pool_model.specs.Machine.{Run}
@@ -23,17 +25,20 @@ use Rattle.pool_model.specs.declared.step.Reply.{Reply}
 use Rattle.pool_model.specs.declared.step.Step.{Step}
 use Rattle.pool_slots.specs.Commits.{only_last}
 use Rattle.pool_slots.specs.Opens.{IsKnown}
+use Rattle.pool_stops.specs.Found.{FoundDisksMayBeOpened}
 use Rattle.pool_stops.specs.OneConfig.{CreatedPoolsRunAs, IsRunningAs}
 use Rattle.pool_stops.specs.Own.{disk_guids}
-use Rattle.pool_stops.specs.OwnReopening.{LeadToOwnPools, OwnPoolsOpenAgain, StoppedExportsLeadToOwnPools}
+use Rattle.pool_stops.specs.OwnReopening.{IsOpenedTruly, LeadToOwnPools, OwnPoolsOpenAgain, StoppedExportsLeadToOwnPools}
 use Rattle.pool_stops.specs.OwnRunning.{CreatedPoolsAreOnTheirDisks, IsOnItsDisks}
 use Rattle.pool_stops.specs.Reopening.{AreByGroup}
 use Rattle.pool_stops.specs.Running.{pool_of}
-use Rattle.pool_lives.specs.Lasting.{Keeps, LivesLoseNothing, served_first}
-use Rattle.pool_lives.specs.Lives.{Down, Exports, Goes, Happening, IsAnswered, IsExported, IsLife, IsMade, IsOpenStopped, IsOpenTried, IsRun, IsRunStopped, Opens, Place, Runs, StopsOpening, StopsRunning, Up}
+use Rattle.pool_lives.specs.Lasting.{Keeps, LivesGoOn, LivesLoseNothing, served_first}
+use Rattle.pool_lives.specs.Lives.{Down, Exports, Goes, Happening, IsAnswered, IsExported, IsLife, IsMade, IsOpenStopped, IsRefused, IsRun, IsRunStopped, Opens, Place, Runs, StopsOpening, StopsRunning, Up}
 use Rattle.pool_lives.specs.Tales.{IsTale, Known, Resting, Serving, Tells}
 use Rattle.pool_lives.proofs.Chains.{chain_on, trusted}
 use Rattle.pool_lives.proofs.Known.{chain_known, known_unfailed}
+use Rattle.pool_lives.proofs.Refused.{none_went_out}
+use Rattle.pool_lives.proofs.Rising.{rise}
 use Rattle.pool_lives.proofs.Stopping.{StopLaws, Stopped, chain_stops}
 
 -- ---- what holds at each place
@@ -63,6 +68,9 @@ pub record Laws {D : Type 0} (g : disk.Ghosts D) : Type 0 where
   pub stops : StopLaws
   pub headline : HeadlineOfRuns
   pub exports : StoppedExportsLeadToOwnPools
+  pub opened_once : UndiminishedOpensClaimOnce
+  pub refused_once : UnfailingOpensClaimOnce
+  pub found : FoundDisksMayBeOpened g
   pub opens : OwnPoolsOpenAgain g
 
 -- what is known next, and that it holds there
@@ -118,13 +126,11 @@ module _ {D : Type 0} (g : disk.Ghosts D) (laws : Laws g) (pool : PoolIdentity) 
   stops_on : (core : CoreState) (images : List (List ℕ)) (v : View) (last : Uberblock) (before : List Uberblock) (steps : List Step) (at : Disks)
       → IsUp pool vdevs digest core v last before → IsRunStopped core steps at images
       → GoesOn pool vdevs digest (Serving v last before) (StopsRunning steps at) (Down images)
-  stops_on core images v last before steps at is stopped =
-      let run = stopped.run in
-      let leaves = stopped.leaves in
+  stops_on core images v last before steps at is (new, run, leaves, same) =
       let ran = run.ran.3 v true is.so.runs.represents (λ trust. run.honest) (trusted run.ran.0) in
       let links = ran.0 in
-      let it = subst (λ (m : Disks). Stopped pool vdevs digest v last before steps m images) (sym stopped.at_is)
-      (chain_stops laws.stops pool vdevs digest images leaves.calls core v steps links.givens run.ran.0 stopped.new links.after last before is.so is.on
+      let it = subst (λ (m : Disks). Stopped pool vdevs digest v last before steps m images) (sym same)
+      (chain_stops laws.stops pool vdevs digest images leaves.calls core v steps links.givens run.ran.0 new links.after last before is.so is.on
       links.chain run.all leaves.moment leaves.left leaves.untorn) in (
         Resting it.p (pool_of it.w),
         record {
@@ -151,13 +157,13 @@ module _ {D : Type 0} (g : disk.Ghosts D) (laws : Laws g) (pool : PoolIdentity) 
 
   exports_on : (core : CoreState) (images : List (List ℕ)) (v : View) (last : Uberblock) (before : List Uberblock) → IsUp pool vdevs digest core v last before
       → IsExported core images → GoesOn pool vdevs digest (Serving v last before) Exports (Down images)
-  exports_on core images v last before is it = (
+  exports_on core images v last before is (u, new, begun, honest, left) = (
     Resting (only_last last before) (pool_of v),
-    (it.begun.exportable v is.so.runs.represents, refl, refl),
+    (begun.exportable v is.so.runs.represents, refl, refl),
     record {
       shapes = shapes_of core.commit.store.spaces;
       out = core.commit.store.out;
-      led = laws.exports pool vdevs digest core v last before it.u it.new images is.so is.on it.begun (λ which used. is.known which) it.honest it.leaves it.untorn;
+      led = laws.exports pool vdevs digest core v last before u new images is.so is.on begun (λ which used. is.known which) honest left.0 left.1;
       by_group = by_group v;
     },
   )
@@ -182,19 +188,35 @@ module _ {D : Type 0} (g : disk.Ghosts D) (laws : Laws g) (pool : PoolIdentity) 
         },
       )
 
-  kept_so : (array : Disks) (shapes : List VdevShape) (out : List Bool) (rewind : ℕ) (new : Disks) → IsOpenTried array shapes out rewind new
-      → IsKeptThrough out rewind array new
-  kept_so array shapes out rewind new tried = ⊎_elim
-      (λ (claimed, core, is, all, same).
-      subst (λ (x : List Bool × Disks). IsKeptThrough x.0 rewind array x.1) (λ j. (all j, same j)) is.kept)
-      (λ (refusal, is, all). subst (λ (them : List Bool). IsKeptThrough them rewind array new) all is.kept)
-      tried
+  -- what an open that was done, or refused, kept at each moment
+  kept_opened : (disks : List D) (rewind : ℕ) (claimed : Uberblock) (core : CoreState) → (is : IsOpened g disks rewind claimed core) → IsOpenedTruly is
+      → IsKeptThrough is.out rewind is.array (disks_of core)
+  kept_opened disks rewind claimed core is truly =
+      let once = laws.opened_once is.array is.shapes is.out rewind claimed core is.opened truly.all in
+      subst (λ (them : List Bool). IsKeptThrough them rewind is.array (disks_of core)) once.1 once.0.kept
+
+  kept_refused : (disks : List D) (rewind : ℕ) → (is : IsRefused g disks rewind)
+      → IsKeptThrough is.unopened.out rewind is.unopened.array is.unopened.new
+  kept_refused disks rewind is =
+      let it = is.unopened in
+      let once = laws.refused_once it.array it.shapes it.out rewind it.new is.refusal it.refused is.truly.none_failed in
+      let may = laws.found disks rewind it.array it.shapes it.out it.ordered in
+      subst (λ (them : List Bool). IsKeptThrough them rewind it.array it.new)
+      (none_went_out it.array it.shapes it.out rewind it.new is.refusal once may.flags is.truly.none_failed) once.kept
 
   stops_opening : (images left : List (List ℕ)) (p : _) (pools : Uberblock → _) (rewind : ℕ) → IsDown pool vdevs digest images p pools
       → IsOpenStopped g images rewind left → GoesOn pool vdevs digest (Resting p pools) (StopsOpening rewind) (Down left)
   stops_opening images left p pools rewind is it =
-      let stopped = (laws.opens pool vdevs digest images is.shapes is.out p pools is.led).stopped it.disks it.order rewind it.array it.new it.shapes it.out left
-      it.few is.by_group it.returned it.ordered it.truly (kept_so it.array it.shapes it.out rewind it.new it.tried) it.honest it.leaves it.untorn in (
+      let again = laws.opens pool vdevs digest images is.shapes is.out p pools is.led in
+      let stopped = ⊎_elim
+      (λ (claimed, core, opened, truly, its_left).
+      again.stopped it.disks it.order rewind opened.array (disks_of core) opened.shapes opened.out left it.few is.by_group it.returned opened.ordered truly.found
+      (kept_opened it.disks rewind claimed core opened truly) truly.honest its_left.0 its_left.1)
+      (λ (refused, its_left).
+      let un = refused.unopened in
+      again.stopped it.disks it.order rewind un.array un.new un.shapes un.out left it.few is.by_group it.returned un.ordered refused.found
+      (kept_refused it.disks rewind refused) refused.truly.honest its_left.0 its_left.1)
+      it.how in (
         Resting stopped.0 pools,
         (stopped.1, refl),
         record { shapes = is.shapes; out = is.out; led = stopped.2; by_group = is.by_group },
@@ -253,4 +275,8 @@ module _ {D : Type 0} where
         on = own;
         known = λ which. known_unfailed made.created.array (disks_of core) is.grew made.truly.none_failed which (made.known which);
       }) life in
-      (it.0, it.1, keeps g laws.opens pool config u.config_digest to it.0 it.2)
+      (it.0, it.1, keeps g laws.opens pool config u.config_digest to it.0 it.2, rise (Serving (served_first made) u []) its it.0 it.1)
+
+  pub lives_go_on : (g : disk.Ghosts D) → LivesGoOn g
+  lives_go_on g from to next [] it same goes = (next, subst (λ (place : Place). Goes g place it next) (sym same) goes, refl)
+  lives_go_on g from to next (first ∷ its) it (place, began, life) goes = (place, began, lives_go_on g place to next its it life goes)

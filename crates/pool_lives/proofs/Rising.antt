@@ -4,12 +4,12 @@ use Rattle.uberblock_ring.specs.declared.uberblock.Uberblock.{Uberblock}
 use Rattle.pool_model.specs.View.{View}
 use Rattle.pool_slots.specs.Possible.{Possible}
 use Rattle.pool_stops.specs.Reopening.{IsPossibleBehind}
-use Rattle.pool_lives.specs.Lasting.{ClaimsRise, TalesRise}
+use Rattle.pool_lives.specs.Lasting.{ClaimsRise}
 use Rattle.pool_lives.specs.Lives.{Exports, Happening, Opens, Runs, StopsOpening, StopsRunning}
 use Rattle.pool_lives.specs.Tales.{AreCommitted, IsTale, Known, Resting, Serving, Tells}
 
 -- the claim of the uberblock that was last committed or opened
-abbrev claim_of : Known → ℕ
+abbrev pub claim_of : Known → ℕ
 claim_of (Serving v last before) = last.claim
 claim_of (Resting p pools) = p.last.claim
 
@@ -39,7 +39,7 @@ raises (Resting p pools) (Opens rewind u) (Serving v last before) tells = (tells
 raises (Resting p pools) (StopsOpening rewind) (Resting later others) tells = behind_claim p later rewind tells.0
 raises _ _ _ tells = absurd tells
 
-rise : (known : Known) (its : List Happening) (to : Known) → IsTale known its to → ClaimsRise (claim_of known) its
+pub rise : (known : Known) (its : List Happening) (to : Known) → IsTale known its to → ClaimsRise (claim_of known) its
 rise known [] to tale = tt
 rise known (Opens rewind u ∷ its) to (next, tells, tale) =
     let raised = raises known (Opens rewind u) next tells in
@@ -50,6 +50,3 @@ rise known (StopsRunning steps at ∷ its) to (next, tells, tale) =
 rise known (Exports ∷ its) to (next, tells, tale) = subst (λ (n : ℕ). ClaimsRise n its) (raises known Exports next tells) (rise next its to tale)
 rise known (StopsOpening rewind ∷ its) to (next, tells, tale) =
     subst (λ (n : ℕ). ClaimsRise n its) (raises known (StopsOpening rewind) next tells) (rise next its to tale)
-
-pub tales_rise : TalesRise
-tales_rise v last before its known tale = rise (Serving v last before) its known tale

@@ -1,5 +1,5 @@
 -- What holds of every life of a pool.
-use Rattle.std.specs.Prelude.{ℕ, ◌≡◌, ◌<◌, Bool, List, [], ◌∷◌}
+use Rattle.std.specs.Prelude.{ℕ, ◌≡◌, ◌<◌, Bool, List, [], ◌∷◌, ◌++◌}
 use Rattle.model_disk.specs.declared.disk.Disk as disk
 use Rattle.block_store.specs.Store.{is_out}
 use Rattle.block_store.specs.declared.shape.VdevShape.{VdevShape}
@@ -14,8 +14,17 @@ use Rattle.pool_format.specs.declared.labeling.PoolIdentity.{PoolIdentity}
 use Rattle.pool_model.specs.Pools.{no_volumes}
 use Rattle.pool_model.specs.View.{View, opened_as}
 use Rattle.pool_stops.specs.OwnReopening.{LeadToOwnPools, OpenAgain}
-use Rattle.pool_lives.specs.Lives.{Down, Exports, Happening, IsLife, IsMade, Opens, Place, Runs, StopsOpening, StopsRunning, Up}
+use Rattle.pool_lives.specs.Lives.{Down, Exports, Goes, Happening, IsLife, IsMade, Opens, Place, Runs, StopsOpening, StopsRunning, Up}
 use Rattle.pool_lives.specs.Tales.{IsTale, Known, Resting, Serving}
+
+-- each open's claim is above this one and all that were opened before it
+abbrev pub ClaimsRise : ℕ → List Happening → Type 0
+ClaimsRise claim [] = Unit {0}
+ClaimsRise claim (Opens rewind u ∷ its) = (claim < u.claim) × ClaimsRise u.claim its
+ClaimsRise claim (Runs steps ∷ its) = ClaimsRise claim its
+ClaimsRise claim (StopsRunning steps at ∷ its) = ClaimsRise claim its
+ClaimsRise claim (Exports ∷ its) = ClaimsRise claim its
+ClaimsRise claim (StopsOpening rewind ∷ its) = ClaimsRise claim its
 
 module _ {D : Type 0} where
   -- what is served before anything was run
@@ -30,21 +39,13 @@ module _ {D : Type 0} where
       × OpenAgain g pool (config_view config) digest images shapes out p pools
   Keeps g pool config digest _ _ = ⊥
 
-  -- Each life of a pool that was made, with all disks there and true answers, tells a tale.
+  -- Each life of a pool that was made, with all disks there and true answers, tells a tale, and no open meets or passes below the claim of another.
   abbrev pub LivesLoseNothing : disk.Ghosts D → Type 0
   LivesLoseNothing g =
       (pool : PoolIdentity) (config : Config) (u : Uberblock) (core : CoreState) (made : IsMade g pool config u core) (its : List Happening) (to : Place)
       → IsLife g (Up core) its to
-      → (known : Known) × IsTale (Serving (served_first made) u []) its known × Keeps g pool config u.config_digest to known
+      → (known : Known) × IsTale (Serving (served_first made) u []) its known × Keeps g pool config u.config_digest to known × ClaimsRise u.claim its
 
--- each open's claim is above this one and all that were opened before it
-abbrev pub ClaimsRise : ℕ → List Happening → Type 0
-ClaimsRise claim [] = Unit {0}
-ClaimsRise claim (Opens rewind u ∷ its) = (claim < u.claim) × ClaimsRise u.claim its
-ClaimsRise claim (Runs steps ∷ its) = ClaimsRise claim its
-ClaimsRise claim (StopsRunning steps at ∷ its) = ClaimsRise claim its
-ClaimsRise claim (Exports ∷ its) = ClaimsRise claim its
-ClaimsRise claim (StopsOpening rewind ∷ its) = ClaimsRise claim its
-
-abbrev pub TalesRise : Type 0
-TalesRise = (v : View) (last : Uberblock) (before : List Uberblock) (its : List Happening) (known : Known) → IsTale (Serving v last before) its known → ClaimsRise last.claim its
+  -- Whatever happens next, it is a life still.
+  abbrev pub LivesGoOn : disk.Ghosts D → Type 0
+  LivesGoOn g = (from to next : Place) (its : List Happening) (it : Happening) → IsLife g from its to → Goes g to it next → IsLife g from (its ++ it ∷ []) next

@@ -3,7 +3,6 @@ use Rattle.std.specs.Prelude.{ℕ, ◌≡◌, ◌⊎◌, ◌<◌, Bool, List, []
 use Rattle.model_disk.specs.Joint.{Disks}
 use Rattle.model_disk.specs.declared.disk.Disk as disk
 use Rattle.raidz_io.specs.Reads.{IsHonestSince}
-use Rattle.block_store.specs.declared.shape.VdevShape.{VdevShape}
 use Rattle.uberblock_ring.specs.declared.uberblock.Uberblock.{Uberblock}
 use Rattle.vdev_label.specs.declared.label.Config.{Config}
 use Rattle.pool_create.specs.CommitState.{NoneIsOut}
@@ -11,9 +10,8 @@ use Rattle.pool_create.specs.CoreRuns.{Ran}
 use Rattle.pool_create.specs.CoreState.{CoreState, disks_of}
 use Rattle.pool_create.specs.Creates.{IsCreatedOn}
 use Rattle.pool_create.specs.OpenExporting.{IsExportBegun}
-use Rattle.pool_create.specs.OpenOpening.{IsNotOpenedOver, IsOpenedOver}
 use Rattle.pool_create.specs.OpenRefusal.{Refusal}
-use Rattle.pool_create.specs.Opens.{AreInOrder, IsOpened}
+use Rattle.pool_create.specs.Opens.{IsOpened, IsUnopened}
 use Rattle.pool_format.specs.declared.labeling.PoolIdentity.{PoolIdentity}
 use Rattle.pool_model.specs.declared.step.Reply.{Reply}
 use Rattle.pool_model.specs.declared.step.Step.{Step}
@@ -48,26 +46,20 @@ pub record IsRun (old : CoreState) (steps : List Step) (new : CoreState) : Type 
   pub all : NoneIsOut new.commit
 
 -- a stop at some moment of that, when the disks were these, left these bytes
-pub record IsRunStopped (old : CoreState) (steps : List Step) (at : Disks) (images : List (List ℕ)) : Type 0 where
-  pub new : CoreState
-  pub run : IsRun old steps new
-  pub leaves : LeavesImages old.commit.store.out (disks_of old) (disks_of new) images
-  pub at_is : at ≡ at_stop leaves
+abbrev pub IsRunStopped : CoreState → List Step → Disks → List (List ℕ) → Type 0
+IsRunStopped old steps at images =
+    (new : CoreState) × IsRun old steps new
+    × (leaves : LeavesImages old.commit.store.out (disks_of old) (disks_of new) images) × (at ≡ at_stop leaves)
+
+-- a stop at some moment since the old one left these bytes, where nothing that was torn in a label reads as one by chance
+abbrev pub IsLeft : List Bool → Disks → Disks → List (List ℕ) → Type 0
+IsLeft out old new images = (leaves : LeavesImages out old new images) × AreLabelsUntorn old.starts leaves.calls images
 
 -- `export` began to put the pool away, and a stop at some moment since, or once it was done, left these bytes
-pub record IsExported (core : CoreState) (images : List (List ℕ)) : Type 0 where
-  pub u : Uberblock
-  pub new : Disks
-  pub begun : IsExportBegun core u new
-  pub honest : IsHonestSince (disks_of core) new
-  pub leaves : LeavesImages core.commit.store.out (disks_of core) new images
-  pub untorn : AreLabelsUntorn (disks_of core).starts leaves.calls images
-
--- an open over disks in order, answered or refused, that went on with all of them to these
-abbrev pub IsOpenTried : Disks → List VdevShape → List Bool → ℕ → Disks → Type 0
-IsOpenTried old shapes out rewind new =
-    ((claimed : Uberblock) × (core : CoreState) × (is : IsOpenedOver old shapes out rewind claimed core) × (is.later ≡ out) × (disks_of core ≡ new))
-    ⊎ ((refusal : Refusal) × (is : IsNotOpenedOver old shapes out rewind new refusal) × (is.later ≡ out))
+abbrev pub IsExported : CoreState → List (List ℕ) → Type 0
+IsExported core images =
+    (u : Uberblock) × (new : Disks) × IsExportBegun core u new × IsHonestSince (disks_of core) new
+    × IsLeft core.commit.store.out (disks_of core) new images
 
 module _ {D : Type 0} where
   -- `create` made the pool, on disks whose bytes were known
@@ -86,22 +78,22 @@ module _ {D : Type 0} where
     pub truly : IsOpenedTruly opened
     pub none_failed : (which : ℕ) → ¬ HasFailedOn opened.array (disks_of core) which
 
-  -- a stop at some moment of an open, behind the finding of the pool, which only reads, left these bytes
+  -- it is refused behind the finding of the pool
+  pub record IsRefused (g : disk.Ghosts D) (disks : List D) (rewind : ℕ) : Type 0 where
+    pub back : List D
+    pub refusal : Refusal
+    pub unopened : IsUnopened g disks rewind back refusal
+    pub found : AnswerTruly unopened.ordered.found.old unopened.ordered.found.new
+    pub truly : AnswerTruly unopened.array unopened.new
+
+  -- a stop at some moment of such an open, answered or refused, left these bytes
   pub record IsOpenStopped (g : disk.Ghosts D) (images : List (List ℕ)) (rewind : ℕ) (left : List (List ℕ)) : Type 0 where
     pub disks : List D
     pub order : List ℕ
     pub returned : AreReturned g images disks order
     pub few : rewind < 3
-    pub array : Disks
-    pub shapes : List VdevShape
-    pub out : List Bool
-    pub ordered : AreInOrder g disks rewind array shapes out
-    pub truly : AnswerTruly ordered.found.old ordered.found.new
-    pub new : Disks
-    pub tried : IsOpenTried array shapes out rewind new
-    pub honest : IsHonestSince array new
-    pub leaves : LeavesImages out array new left
-    pub untorn : AreLabelsUntorn array.starts leaves.calls left
+    pub how : ((claimed : Uberblock) × (core : CoreState) × (is : IsOpened g disks rewind claimed core) × IsOpenedTruly is × IsLeft is.out is.array (disks_of core) left)
+        ⊎ ((is : IsRefused g disks rewind) × IsLeft is.unopened.out is.unopened.array is.unopened.new left)
 
   abbrev pub Goes : disk.Ghosts D → Place → Happening → Place → Type 0
   Goes g (Up core) (Runs steps) (Up later) = IsRun core steps later

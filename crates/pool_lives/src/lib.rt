@@ -1,17 +1,23 @@
 //! Whole lives of a pool: whatever its public calls did, one after another, and wherever they were stopped.
 #![tactic(auto)]
 
-ghost use Rattle.pool_lives.specs.Lasting.{LivesLoseNothing, TalesRise};
+ghost use Rattle.pool_lives.specs.Lasting.{LivesGoOn, LivesLoseNothing};
 
 use model_disk::Disk;
+use pool_create::unfailing_opens_claim_once;
 use pool_model::headline_of_runs;
 use pool_stops::{
-    created_pools_are_on_their_disks, created_pools_run_as, none_was_out, own_pools_open_again,
-    steps_stay_on_their_disks, stopped_exports_lead_to_own_pools, stopped_steps_lead_to_own_pools,
+    created_pools_are_on_their_disks, created_pools_run_as, found_disks_may_be_opened,
+    none_was_out, own_pools_open_again, steps_stay_on_their_disks,
+    stopped_exports_lead_to_own_pools, stopped_steps_lead_to_own_pools,
 };
 
-/// **No life of a pool loses anything that was committed.** A pool was made; then runs take steps, each run may be stopped at any moment, the disks
-/// that a stop leaves are opened, in any order, going back or not, and such an open may be stopped too.
+/// **No life of a pool loses anything that was committed.** A pool is made by `create`. Then `run` takes steps, `export` puts it away and `open` opens
+/// its disks, in any order and going back or not, answered or refused; and each of them may be stopped at any moment, inside a device call too. What is
+/// opened is the pool of the group that was committed or opened last, or of one of which a slot was begun to be written since; where the open goes back,
+/// of so many groups less. What is run from there on is a run of the machine, with the headline. And the claim of an open is above those of all before it.
+///
+/// All disks are there, all their answers are true, no call of `create` or `open` fails, and nothing that a stop tears reads as a slot or a label by chance.
 pub fn lives_lose_nothing<D: Disk + Drop>()
     ensures { LivesLoseNothing D.Disk }
 {
@@ -22,10 +28,12 @@ pub fn lives_lose_nothing<D: Disk + Drop>()
     steps_stay_on_their_disks();
     stopped_steps_lead_to_own_pools();
     stopped_exports_lead_to_own_pools();
+    unfailing_opens_claim_once();
+    found_disks_may_be_opened::<D>();
     own_pools_open_again::<D>();
 }
 
-/// No claim of an open is met or passed below by a later one.
-pub fn tales_rise()
-    ensures { TalesRise }
+/// With whatever happens next it is a life still.
+pub fn lives_go_on<D: Disk + Drop>()
+    ensures { LivesGoOn D.Disk }
 {}

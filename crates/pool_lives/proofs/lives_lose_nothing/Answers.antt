@@ -10,5 +10,8 @@ returns g c = law c.created_pools_run_as.ensures c.created_pools_are_on_their_di
   };
   headline = c.headline_of_runs.ensures;
   exports = c.stopped_exports_lead_to_own_pools.ensures;
+  opened_once = c.unfailing_opens_claim_once.ensures.opened;
+  refused_once = c.unfailing_opens_claim_once.ensures.refused;
+  found = c.found_disks_may_be_opened.ensures;
   opens = c.own_pools_open_again.ensures;
 })

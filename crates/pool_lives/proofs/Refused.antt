@@ -1,0 +1,84 @@
+-- A refused open of which no call failed had all disks in use to its end.
+use Rattle.std.proofs.Common.{◌≡◌, inl, inr, ⊎_elim, ◌⊎◌, ◌<◌, ℕ, zero, suc, ◌&&◌, Bool, true, false, nat_le, List, [], ◌∷◌, ◌++◌, length, slice_get, Some, Contains, refl, sym, ap, subst, ◌∙◌, arith, append_assoc}
+use Rattle.std.specs.Prelude.{if◌then◌else◌}
+use Rattle.model_disk.specs.Call.{is_failed}
+use Rattle.model_disk.specs.Joint.{Disks, JointCall, failed_since}
+use Rattle.block_store.specs.declared.shape.VdevShape.{VdevShape}
+use Rattle.pool_create.specs.OpenOpening.{AreReadThrough, IsNotOpenedOver}
+use Rattle.pool_create.specs.OpenRefusal.{Refusal}
+use Rattle.pool_slots.specs.Failures.{HasFailedOn}
+use Rattle.pool_slots.specs.Present.{GoOut}
+use Rattle.pool_slots.specs.Slots.{InUse}
+
+-- ---- flags
+
+is_used : (out : List Bool) (which : ℕ) → InUse out which ⊎ ¬ InUse out which
+is_used [] which = inr (λ used. absurd (cc used))
+is_used (true ∷ out) zero = inr (λ used. absurd (cc used))
+is_used (false ∷ out) zero = inl refl
+is_used (flag ∷ out) (suc which) = is_used out which
+
+same_use : (out later : List Bool) → length later ≡ length out → ((which : ℕ) → InUse later which → InUse out which)
+    → ((which : ℕ) → InUse out which → InUse later which) → later ≡ out
+same_use [] [] count stay still = refl
+same_use [] (b ∷ later) count stay still = absurd (cc)
+same_use (a ∷ out) [] count stay still = absurd (cc)
+same_use (true ∷ out) (false ∷ later) count stay still = let used = stay 0 refl in absurd (cc used)
+same_use (false ∷ out) (true ∷ later) count stay still = let used = still 0 refl in absurd (cc used)
+same_use (true ∷ out) (true ∷ later) count stay still =
+    ap (λ flags. true ∷ flags) (same_use out later (omega (arith, count)) (λ which. stay (suc which)) (λ which. still (suc which)))
+same_use (false ∷ out) (false ∷ later) count stay still =
+    ap (λ flags. false ∷ flags) (same_use out later (omega (arith, count)) (λ which. stay (suc which)) (λ which. still (suc which)))
+
+-- ---- calls that failed
+
+more_if : (test : Bool) (which : ℕ) (disks : List ℕ) (disk : ℕ) → Contains disks disk → Contains (if test then which ∷ disks else disks) disk
+more_if true which disks disk (k, below, is) = (suc k, omega (arith, below), is)
+more_if false which disks disk has = has
+
+more_failed : (n : ℕ) (newer calls : List JointCall) (disk : ℕ) → Contains (failed_since n calls) disk → Contains (failed_since n (newer ++ calls)) disk
+more_failed n [] calls disk has = has
+more_failed n (made ∷ newer) calls disk has =
+    more_if (nat_le n (length (newer ++ calls)) && is_failed made.call) made.which (failed_since n (newer ++ calls)) disk (more_failed n newer calls disk has)
+
+-- ---- the open
+
+-- the disks in use were read, and called since
+record WasSurveyed (old new : Disks) (out later : List Bool) : Type 0 where
+  pub surveyed : Disks
+  pub absent : GoOut out later old surveyed
+  pub more : List JointCall
+  pub calls : new.calls ≡ more ++ surveyed.calls
+
+surveyed_first : (old new : Disks) (out later : List Bool) → AreReadThrough out later old new → WasSurveyed old new out later
+surveyed_first old new out later it = record {
+  surveyed = it.surveyed;
+  absent = it.absent;
+  more = it.blocks.only.newer;
+  calls = it.blocks.only.calls;
+}
+
+was_surveyed : (old : Disks) (shapes : List VdevShape) (out : List Bool) (rewind : ℕ) (new : Disks) (refusal : Refusal)
+    → (is : IsNotOpenedOver old shapes out rewind new refusal) → WasSurveyed old new out is.later
+was_surveyed old shapes out rewind new refusal is = ⊎_elim
+    (λ (through, cause). surveyed_first old new out is.later through)
+    (λ (claimed, through, cause).
+    let first = surveyed_first old through.read out is.later through.before in
+    let claims = through.claims.makes in
+    record {
+      surveyed = first.surveyed;
+      absent = first.absent;
+      more = claims.newer ++ first.more;
+      calls = claims.calls ∙ ap (λ cs. claims.newer ++ cs) first.calls ∙ sym (append_assoc claims.newer first.more first.surveyed.calls);
+    })
+    is.cause
+
+pub none_went_out : (old : Disks) (shapes : List VdevShape) (out : List Bool) (rewind : ℕ) (new : Disks) (refusal : Refusal)
+    → (is : IsNotOpenedOver old shapes out rewind new refusal) → length out ≡ length old.starts → ((disk : ℕ) → ¬ HasFailedOn old new disk) → is.later ≡ out
+none_went_out old shapes out rewind new refusal is count none =
+    let it = was_surveyed old shapes out rewind new refusal is in
+    same_use out is.later (is.count ∙ sym count) (λ which. it.absent.stay which) (λ which used. ⊎_elim
+    (λ still. still)
+    (λ unused. absurd (none which (subst (λ (calls : List JointCall). Contains (failed_since (length old.calls) calls) which) (sym it.calls)
+    (more_failed (length old.calls) it.more it.surveyed.calls which (it.absent.failed which used unused)))))
+    (is_used is.later which))

@@ -1,0 +1,5 @@
+use Rattle.pool_lives.proofs.Lives.{lives_go_on as law}
+use Rattle.pool_lives.proofs.lives_go_on.Goals as goal
+
+pub returns : goal.returns
+returns g c = law g.D.Disk
