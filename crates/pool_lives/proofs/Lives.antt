@@ -1,5 +1,5 @@
 -- Lives of a pool, from place to place.
-use Rattle.std.proofs.Common.{◌≡◌, inl, inr, ⊎_elim, ◌<◌, ◌≤◌, ℕ, suc, ◌+◌, ◌*◌, Bool, true, List, [], ◌∷◌, length, refl, sym, ap, subst, ◌∙◌, arith}
+use Rattle.std.proofs.Common.{◌≡◌, inl, inr, ⊎_elim, ◌<◌, ◌≤◌, ℕ, suc, ◌+◌, ◌*◌, Bool, true, List, [], ◌∷◌, ◌++◌, length, refl, sym, ap, subst, ◌∙◌, arith}
 use Rattle.std.specs.Prelude.{All, ◌==◌, ◌^◌, if◌then◌else◌}
 use Rattle.std.proofs.lemmas.List.{length-append}
 use Rattle.std.proofs.lemmas.List.Elements.{All-head, All-tail}
@@ -28,12 +28,12 @@ use Rattle.pool_slots.specs.Opens.{IsKnown}
 use Rattle.pool_stops.specs.Found.{FoundDisksMayBeOpened}
 use Rattle.pool_stops.specs.OneConfig.{CreatedPoolsRunAs, IsRunningAs}
 use Rattle.pool_stops.specs.Own.{disk_guids}
-use Rattle.pool_stops.specs.OwnReopening.{IsOpenedTruly, LeadToOwnPools, OwnPoolsOpenAgain, StoppedExportsLeadToOwnPools}
+use Rattle.pool_stops.specs.OwnReopening.{IsOpenedTruly, LeadToOwnPools, OwnPoolsOpenAgain, StoppedExportsLeadToOwnPools, UnfoundDisksAreReturned}
 use Rattle.pool_stops.specs.OwnRunning.{CreatedPoolsAreOnTheirDisks, IsOnItsDisks}
 use Rattle.pool_stops.specs.Reopening.{AreByGroup}
 use Rattle.pool_stops.specs.Running.{pool_of}
 use Rattle.pool_lives.specs.Lasting.{Keeps, LivesGoOn, LivesLoseNothing, served_first}
-use Rattle.pool_lives.specs.Lives.{Down, Exports, Goes, Happening, IsAnswered, IsExported, IsLife, IsMade, IsOpenStopped, IsRefused, IsRun, IsRunStopped, Opens, Place, Runs, StopsOpening, StopsRunning, Up}
+use Rattle.pool_lives.specs.Lives.{Down, Exports, FindsNone, Goes, Happening, IsAnswered, IsExported, IsLife, IsMade, IsOpenStopped, IsRefused, IsRun, IsRunStopped, Opens, Place, Runs, StopsOpening, StopsRunning, Up}
 use Rattle.pool_lives.specs.Tales.{IsTale, Known, Resting, Serving, Tells}
 use Rattle.pool_lives.proofs.Chains.{chain_on, trusted}
 use Rattle.pool_lives.proofs.Known.{chain_known, known_unfailed}
@@ -235,6 +235,8 @@ module _ {D : Type 0} (g : disk.Ghosts D) (laws : Laws g) (pool : PoolIdentity) 
       → IsDown pool vdevs digest images p pools → Goes g (Down images) it next → GoesOn pool vdevs digest (Resting p pools) it next
   down_goes images p pools (Opens rewind claimed) (Up core) is goes = opens_on images core p pools rewind claimed is goes
   down_goes images p pools (StopsOpening rewind) (Down left) is goes = stops_opening images left p pools rewind is goes
+  down_goes images p pools (FindsNone rewind) (Down left) is goes =
+      (Resting p pools, (refl, refl), subst (λ (them : List (List ℕ)). IsDown pool vdevs digest them p pools) (sym goes.1) is)
   down_goes images p pools _ _ is goes = absurd goes
 
   goes_on : (from : Place) (known : Known) (it : Happening) (next : Place) → Holds pool vdevs digest from known → Goes g from it next
@@ -277,6 +279,26 @@ module _ {D : Type 0} where
       }) life in
       (it.0, it.1, keeps g laws.opens pool config u.config_digest to it.0 it.2, rise (Serving (served_first made) u []) its it.0 it.1)
 
-  pub lives_go_on : (g : disk.Ghosts D) → LivesGoOn g
-  lives_go_on g from to next [] it same goes = (next, subst (λ (place : Place). Goes g place it next) (sym same) goes, refl)
-  lives_go_on g from to next (first ∷ its) it (place, began, life) goes = (place, began, lives_go_on g place to next its it life goes)
+  go_on : (g : disk.Ghosts D) (from to next : Place) (its : List Happening) (it : Happening) → IsLife g from its to → Goes g to it next
+      → IsLife g from (its ++ it ∷ []) next
+  go_on g from to next [] it same goes = (next, subst (λ (place : Place). Goes g place it next) (sym same) goes, refl)
+  go_on g from to next (first ∷ its) it (place, began, life) goes = (place, began, go_on g place to next its it life goes)
+
+  pub lives_go_on : (g : disk.Ghosts D) → UnfoundDisksAreReturned g → LivesGoOn g
+  lives_go_on g law = record {
+    on = λ from to next its it life goes. go_on g from to next its it life goes;
+    runs = λ old new steps before after ran honest all. record { before = before; after = after; ran = ran; honest = honest; all = all };
+    exports = λ core disks images put honest left. (put.u, put.new, put.done.begun, honest, left);
+    refused_exports = λ core refusal disks images given honest left. (given.u, given.new, given.stopped.begun, honest, left);
+    opens = λ images disks order rewind claimed core returned is truly none.
+        record { disks = disks; order = order; returned = returned; opened = is; truly = truly; none_failed = none };
+    refused_opens = λ images disks order rewind refusal back left few returned is found truly its_left. record {
+      disks = disks;
+      order = order;
+      returned = returned;
+      few = few;
+      how = inr (record { back = back; refusal = refusal; unopened = is; found = found; truly = truly }, its_left);
+    };
+    unfound = λ images disks back order rewind cause returned refuses.
+        (((disks, order, returned, back, cause, refuses), refl), law images disks back order rewind cause returned refuses);
+  }

@@ -5,7 +5,7 @@ use Rattle.pool_model.specs.View.{View}
 use Rattle.pool_slots.specs.Possible.{Possible}
 use Rattle.pool_stops.specs.Reopening.{IsPossibleBehind}
 use Rattle.pool_lives.specs.Lasting.{ClaimsRise}
-use Rattle.pool_lives.specs.Lives.{Exports, Happening, Opens, Runs, StopsOpening, StopsRunning}
+use Rattle.pool_lives.specs.Lives.{Exports, FindsNone, Happening, Opens, Runs, StopsOpening, StopsRunning}
 use Rattle.pool_lives.specs.Tales.{AreCommitted, IsTale, Known, Resting, Serving, Tells}
 
 -- the claim of the uberblock that was last committed or opened
@@ -28,6 +28,7 @@ Raises claim (Runs steps) next = next ≡ claim
 Raises claim (StopsRunning steps at) next = next ≡ claim
 Raises claim Exports next = next ≡ claim
 Raises claim (StopsOpening rewind) next = next ≡ claim
+Raises claim (FindsNone rewind) next = next ≡ claim
 
 raises : (known : Known) (it : Happening) (next : Known) → Tells known it next → Raises (claim_of known) it (claim_of next)
 raises (Serving v last before) (Runs steps) (Serving w later earlier) tells = same_claim last before tells.commits later earlier tells.committed
@@ -37,6 +38,7 @@ raises (Serving v last before) (StopsRunning steps at) (Resting p pools) tells =
 raises (Serving v last before) Exports (Resting p pools) tells = ap (λ (q : Possible). q.last.claim) tells.1
 raises (Resting p pools) (Opens rewind u) (Serving v last before) tells = (tells.0.claim.above, ap (λ (x : Uberblock). x.claim) tells.1)
 raises (Resting p pools) (StopsOpening rewind) (Resting later others) tells = behind_claim p later rewind tells.0
+raises (Resting p pools) (FindsNone rewind) (Resting later others) tells = ap (λ (q : Possible). q.last.claim) tells.0
 raises _ _ _ tells = absurd tells
 
 pub rise : (known : Known) (its : List Happening) (to : Known) → IsTale known its to → ClaimsRise (claim_of known) its
@@ -50,3 +52,5 @@ rise known (StopsRunning steps at ∷ its) to (next, tells, tale) =
 rise known (Exports ∷ its) to (next, tells, tale) = subst (λ (n : ℕ). ClaimsRise n its) (raises known Exports next tells) (rise next its to tale)
 rise known (StopsOpening rewind ∷ its) to (next, tells, tale) =
     subst (λ (n : ℕ). ClaimsRise n its) (raises known (StopsOpening rewind) next tells) (rise next its to tale)
+rise known (FindsNone rewind ∷ its) to (next, tells, tale) =
+    subst (λ (n : ℕ). ClaimsRise n its) (raises known (FindsNone rewind) next tells) (rise next its to tale)

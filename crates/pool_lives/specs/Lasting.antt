@@ -6,15 +6,28 @@ use Rattle.block_store.specs.declared.shape.VdevShape.{VdevShape}
 use Rattle.uberblock_ring.specs.declared.uberblock.Uberblock.{Uberblock}
 use Rattle.vdev_label.specs.Plain.{config_view}
 use Rattle.vdev_label.specs.declared.label.Config.{Config}
-use Rattle.pool_create.specs.CoreState.{CoreState}
+use Rattle.pool_create.specs.CommitState.{NoneIsOut}
+use Rattle.pool_create.specs.CoreRuns.{Ran}
+use Rattle.pool_create.specs.CoreState.{CoreState, disks_of}
+use Rattle.pool_create.specs.OpenExporting.{IsGivenBack, IsPutAway, outs_of}
+use Rattle.pool_create.specs.OpenFinding.{FindRefuses}
+use Rattle.pool_create.specs.OpenRefusal.{Refusal}
+use Rattle.pool_create.specs.Opens.{IsOpened, IsUnopened}
 use Rattle.pool_create.specs.Planning.{nobody}
 use Rattle.pool_create.specs.Represents.{Represents}
 use Rattle.pool_create.specs.Words.{vdevs_in}
 use Rattle.pool_format.specs.declared.labeling.PoolIdentity.{PoolIdentity}
+use Rattle.pool_labels.specs.declared.refusal.Refusal.{Refusal as LabelsRefusal}
 use Rattle.pool_model.specs.Pools.{no_volumes}
 use Rattle.pool_model.specs.View.{View, opened_as}
-use Rattle.pool_stops.specs.OwnReopening.{LeadToOwnPools, OpenAgain}
-use Rattle.pool_lives.specs.Lives.{Down, Exports, Goes, Happening, IsLife, IsMade, Opens, Place, Runs, StopsOpening, StopsRunning, Up}
+use Rattle.pool_model.specs.declared.refusal.Refusal.{Refusal as ExportRefusal}
+use Rattle.pool_model.specs.declared.step.Reply.{Reply}
+use Rattle.pool_model.specs.declared.step.Step.{Step}
+use Rattle.raidz_io.specs.Reads.{IsHonestSince}
+use Rattle.pool_slots.specs.Failures.{HasFailedOn}
+use Rattle.pool_stops.specs.OwnReopening.{AreReturned, IsOpenedTruly, LeadToOwnPools, OpenAgain}
+use Rattle.pool_stops.specs.Unhindered.{AnswerTruly}
+use Rattle.pool_lives.specs.Lives.{Down, Exports, FindsNone, Goes, Happening, IsLeft, IsLife, IsMade, Opens, Place, Runs, StopsOpening, StopsRunning, Up}
 use Rattle.pool_lives.specs.Tales.{IsTale, Known, Resting, Serving}
 
 -- each open's claim is above this one and all that were opened before it
@@ -25,6 +38,7 @@ ClaimsRise claim (Runs steps ∷ its) = ClaimsRise claim its
 ClaimsRise claim (StopsRunning steps at ∷ its) = ClaimsRise claim its
 ClaimsRise claim (Exports ∷ its) = ClaimsRise claim its
 ClaimsRise claim (StopsOpening rewind ∷ its) = ClaimsRise claim its
+ClaimsRise claim (FindsNone rewind ∷ its) = ClaimsRise claim its
 
 module _ {D : Type 0} where
   -- what is served before anything was run
@@ -46,6 +60,20 @@ module _ {D : Type 0} where
       → IsLife g (Up core) its to
       → (known : Known) × IsTale (Serving (served_first made) u []) its known × Keeps g pool config u.config_digest to known × ClaimsRise u.claim its
 
-  -- Whatever happens next, it is a life still.
-  abbrev pub LivesGoOn : disk.Ghosts D → Type 0
-  LivesGoOn g = (from to next : Place) (its : List Happening) (it : Happening) → IsLife g from its to → Goes g to it next → IsLife g from (its ++ it ∷ []) next
+  -- A life goes on with what happens next; and each public call is something that happens, by what it ensures.
+  pub record LivesGoOn (g : disk.Ghosts D) : Type 0 where
+    pub on : (from to next : Place) (its : List Happening) (it : Happening) → IsLife g from its to → Goes g to it next → IsLife g from (its ++ it ∷ []) next
+    pub runs : (old new : CoreState) (steps : List Step) (before after : List Reply) → Ran old steps before new after
+        → IsHonestSince (disks_of old) (disks_of new) → NoneIsOut new.commit → Goes g (Up old) (Runs steps) (Up new)
+    pub exports : (core : CoreState) (disks : List D) (images : List (List ℕ)) → (put : IsPutAway g core disks) → IsHonestSince (disks_of core) put.new
+        → IsLeft (outs_of core) (disks_of core) put.new images → Goes g (Up core) Exports (Down images)
+    pub refused_exports : (core : CoreState) (refusal : ExportRefusal) (disks : List D) (images : List (List ℕ)) → (given : IsGivenBack g core refusal disks)
+        → IsHonestSince (disks_of core) given.new → IsLeft (outs_of core) (disks_of core) given.new images → Goes g (Up core) Exports (Down images)
+    pub opens : (images : List (List ℕ)) (disks : List D) (order : List ℕ) (rewind : ℕ) (claimed : Uberblock) (core : CoreState)
+        → AreReturned g images disks order → (is : IsOpened g disks rewind claimed core) → IsOpenedTruly is
+        → ((which : ℕ) → ¬ HasFailedOn is.array (disks_of core) which) → Goes g (Down images) (Opens rewind claimed) (Up core)
+    pub refused_opens : (images : List (List ℕ)) (disks : List D) (order : List ℕ) (rewind : ℕ) (refusal : Refusal) (back : List D) (left : List (List ℕ)) → rewind < 3
+        → AreReturned g images disks order → (is : IsUnopened g disks rewind back refusal) → AnswerTruly is.ordered.found.old is.ordered.found.new
+        → AnswerTruly is.array is.new → IsLeft is.out is.array is.new left → Goes g (Down images) (StopsOpening rewind) (Down left)
+    pub unfound : (images : List (List ℕ)) (disks back : List D) (order : List ℕ) (rewind : ℕ) (cause : LabelsRefusal) → AreReturned g images disks order
+        → FindRefuses g disks rewind back cause → Goes g (Down images) (FindsNone rewind) (Down images) × AreReturned g images back order

@@ -10,7 +10,9 @@ use Rattle.pool_create.specs.CoreRuns.{Ran}
 use Rattle.pool_create.specs.CoreState.{CoreState, disks_of}
 use Rattle.pool_create.specs.Creates.{IsCreatedOn}
 use Rattle.pool_create.specs.OpenExporting.{IsExportBegun}
+use Rattle.pool_create.specs.OpenFinding.{FindRefuses}
 use Rattle.pool_create.specs.OpenRefusal.{Refusal}
+use Rattle.pool_labels.specs.declared.refusal.Refusal.{Refusal as LabelsRefusal}
 use Rattle.pool_create.specs.Opens.{IsOpened, IsUnopened}
 use Rattle.pool_format.specs.declared.labeling.PoolIdentity.{PoolIdentity}
 use Rattle.pool_model.specs.declared.step.Reply.{Reply}
@@ -29,13 +31,14 @@ pub data Place : Type 0 where
   Down : List (List ℕ) → Place
 
 -- A run takes steps, or is stopped in them, when the disks are these. The pool is exported, stopped in that or not. Disks are opened, going back so many groups, as this
--- uberblock; or an open of them is stopped.
+-- uberblock; or an open of them is stopped; or it is refused, as no pool is found on them.
 pub data Happening : Type 0 where
   Runs : List Step → Happening
   StopsRunning : List Step → Disks → Happening
   Exports : Happening
   Opens : ℕ → Uberblock → Happening
   StopsOpening : ℕ → Happening
+  FindsNone : ℕ → Happening
 
 -- `run` took these steps
 pub record IsRun (old : CoreState) (steps : List Step) (new : CoreState) : Type 0 where
@@ -78,7 +81,13 @@ module _ {D : Type 0} where
     pub truly : IsOpenedTruly opened
     pub none_failed : (which : ℕ) → ¬ HasFailedOn opened.array (disks_of core) which
 
-  -- it is refused behind the finding of the pool
+  -- it was refused, as no pool was found
+  abbrev pub IsUnfound : disk.Ghosts D → List (List ℕ) → ℕ → Type 0
+  IsUnfound g images rewind =
+      (disks : List D) × (order : List ℕ) × AreReturned g images disks order
+      × (back : List D) × (cause : LabelsRefusal) × FindRefuses g disks rewind back cause
+
+  -- or behind the finding of the pool, where no call failed
   pub record IsRefused (g : disk.Ghosts D) (disks : List D) (rewind : ℕ) : Type 0 where
     pub back : List D
     pub refusal : Refusal
@@ -101,6 +110,7 @@ module _ {D : Type 0} where
   Goes g (Up core) Exports (Down images) = IsExported core images
   Goes g (Down images) (Opens rewind claimed) (Up core) = IsAnswered g images rewind claimed core
   Goes g (Down images) (StopsOpening rewind) (Down left) = IsOpenStopped g images rewind left
+  Goes g (Down images) (FindsNone rewind) (Down left) = IsUnfound g images rewind × (left ≡ images)
   Goes g _ _ _ = ⊥
 
   -- it goes on so, from place to place

@@ -7,8 +7,8 @@ use model_disk::Disk;
 use pool_create::unfailing_opens_claim_once;
 use pool_model::headline_of_runs;
 use pool_stops::{
-    created_pools_are_on_their_disks, created_pools_run_as, found_disks_may_be_opened,
-    none_was_out, own_pools_open_again, steps_stay_on_their_disks,
+    created_pools_are_on_their_disks, created_pools_run_as, disks_may_be_handed_in,
+    found_disks_may_be_opened, none_was_out, own_pools_open_again, steps_stay_on_their_disks,
     stopped_exports_lead_to_own_pools, stopped_steps_lead_to_own_pools,
 };
 
@@ -33,7 +33,9 @@ pub fn lives_lose_nothing<D: Disk + Drop>()
     own_pools_open_again::<D>();
 }
 
-/// With whatever happens next it is a life still.
+/// With whatever happens next it is a life still; and each public call, answered or refused, is something that happens, by what it ensures.
 pub fn lives_go_on<D: Disk + Drop>()
     ensures { LivesGoOn D.Disk }
-{}
+{
+    disks_may_be_handed_in::<D>();
+}
