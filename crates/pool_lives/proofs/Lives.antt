@@ -1,11 +1,12 @@
 -- Lives of a pool, from place to place.
-use Rattle.std.proofs.Common.{◌≡◌, inl, inr, ⊎_elim, ◌<◌, ◌≤◌, ℕ, suc, ◌+◌, ◌*◌, Bool, true, List, [], ◌∷◌, ◌++◌, length, refl, sym, ap, subst, ◌∙◌, arith}
+use Rattle.std.proofs.Common.{◌≡◌, inl, inr, ⊎_elim, ◌<◌, ◌≤◌, ℕ, suc, ◌+◌, ◌*◌, Bool, true, false, List, [], ◌∷◌, ◌++◌, length, refl, sym, ap, subst, ◌∙◌, arith}
 use Rattle.std.specs.Prelude.{All, ◌==◌, ◌^◌, if◌then◌else◌}
 use Rattle.std.proofs.lemmas.List.{length-append}
 use Rattle.std.proofs.lemmas.List.Elements.{All-head, All-tail}
 use Rattle.model_disk.specs.Joint.{Disks}
 use Rattle.model_disk.specs.declared.disk.Disk as disk
 use Rattle.block_store.specs.Places.{shapes_of}
+use Rattle.block_store.specs.Store.{is_out}
 use Rattle.block_store.specs.declared.shape.VdevShape.{VdevShape}
 use Rattle.uberblock_ring.specs.declared.uberblock.Uberblock.{Uberblock}
 use Rattle.vdev_label.specs.Limits.{IsAllowed, IsAllowedVdev}
@@ -16,11 +17,13 @@ use Rattle.pool_create.specs.CoreState.{CoreState, disks_of}
 use Rattle.pool_create.specs.OpenOpening.{IsKeptThrough}
 use Rattle.pool_create.specs.Opens.{IsOpened}
 use Rattle.pool_create.specs.Retried.{UndiminishedOpensClaimOnce, UnfailingOpensClaimOnce}
+use Rattle.pool_create.specs.Words.{vdevs_in}
 use Rattle.pool_format.specs.declared.labeling.PoolIdentity.{PoolIdentity}
 use Rattle.pool_model.specs.Headline.{Headline}
 use Rattle.pool_model.specs.Machine.{Run}
 use Rattle.pool_model.specs.Sound.{IsSound}
-use Rattle.pool_model.specs.View.{Given, View}
+use Rattle.pool_model.specs.Pools.{PlainPool}
+use Rattle.pool_model.specs.View.{Given, Vdev, View, opened_as}
 use Rattle.pool_model.specs.declared.step.Reply.{Reply}
 use Rattle.pool_model.specs.declared.step.Step.{Step}
 use Rattle.pool_slots.specs.Commits.{only_last}
@@ -98,6 +101,11 @@ few_disks : (guid : ℕ) (vdevs : List PlainVdev) → IsAllowed guid vdevs → l
 few_disks guid vdevs allowed = omega (arith, few_guids vdevs allowed.each, allowed.vdevs_to)
 
 -- ---- runs
+
+-- a pool is opened with none of its disks out
+none_out : (its : List Vdev) (out : List Bool) (group : ℕ) (pool : PlainPool) → ((disk : ℕ) → is_out out disk ≡ false)
+    → opened_as its (is_out out) group pool ≡ opened_as its (λ disk. false) group pool
+none_out its out group pool none = λ j. opened_as its (λ disk. none disk j) group pool
 
 by_group : (v : View) → AreByGroup (pool_of v)
 by_group v u other same = ap (λ (group : ℕ). if group == suc v.committed then pool_after v else v.pools group) same
@@ -180,7 +188,7 @@ module _ {D : Type 0} (g : disk.Ghosts D) (laws : Laws g) (pool : PoolIdentity) 
       (omega (arith, few, led.are.own.count)) in
       let claim = done.0.well.opened.claim in (
         Serving _ claimed [],
-        (record { claim = claim; vdevs = _; out = _; served = refl }, refl, refl),
+        (record { claim = claim; vdevs = vdevs_in is.shapes; served = none_out (vdevs_in is.shapes) is.out claim.taken.group (pools claim.taken) led.are.there.none }, refl, refl),
         record {
           so = done.0.runs;
           on = done.1;

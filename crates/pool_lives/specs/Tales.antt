@@ -1,5 +1,5 @@
 -- What a life tells: what is known of the pool from one place to the next.
-use Rattle.std.specs.Prelude.{ℕ, ◌≡◌, ◌⊎◌, Bool, List, [], ◌∷◌, ◌++◌}
+use Rattle.std.specs.Prelude.{ℕ, ◌≡◌, ◌⊎◌, false, List, [], ◌∷◌, ◌++◌}
 use Rattle.model_disk.specs.Joint.{Disks}
 use Rattle.uberblock_ring.specs.declared.uberblock.Uberblock.{Uberblock}
 use Rattle.pool_core.specs.Exporting.{MayBeExported}
@@ -54,12 +54,11 @@ pub record StopsInSteps (v : View) (last : Uberblock) (before : List Uberblock) 
   pub which : (p ≡ only_last later earlier) ⊎ ((next : Uberblock) × IsNextGroup later next × IsBegun next at × (p ≡ last_or later earlier next))
   pub pools_are : pools ≡ pool_of w
 
--- what is claimed is a possible uberblock, or so many groups below one, and its pool is served
+-- what is claimed is a possible uberblock, or so many groups below one, and its pool is served, with no disk out
 pub record OpensPossible (p : Possible) (pools : Uberblock → PlainPool) (rewind : ℕ) (claimed : Uberblock) (v : View) : Type 0 where
   pub claim : IsClaimOf p rewind claimed
   pub vdevs : List Vdev
-  pub out : ℕ → Bool
-  pub served : v ≡ opened_as vdevs out claim.taken.group (pools claim.taken)
+  pub served : v ≡ opened_as vdevs (λ disk. false) claim.taken.group (pools claim.taken)
 
 abbrev pub Tells : Known → Happening → Known → Type 0
 Tells (Serving v last before) (Runs steps) (Serving w later earlier) = TakesSteps v last before steps w later earlier
