@@ -1,13 +1,13 @@
 -- Bytes of disks that are known stay known, as long as no write fails.
-use Rattle.std.proofs.Common.{◌≡◌, ⊎_elim, ◌<◌, ◌≤◌, ℕ, suc, ◌+◌, ◌&&◌, Bool, true, false, nat_le, List, [], ◌∷◌, ◌++◌, length, map, slice_get, Option, Some, None, Contains, refl, sym, ap, subst, ◌∙◌, arith}
-use Rattle.std.specs.Prelude.{◌==◌, ◌-◌, if◌then◌else◌, get_or, nat_lt}
+use Rattle.std.proofs.Common.{◌≡◌, ◌<◌, ℕ, suc, ◌&&◌, Bool, true, false, nat_le, List, [], ◌∷◌, ◌++◌, length, map, slice_get, Option, Some, Contains, refl, sym, ap, subst, ◌∙◌, arith}
+use Rattle.std.specs.Prelude.{◌==◌, ◌-◌, if◌then◌else◌, get_or}
 use Rattle.std.specs.List.{AllByRecursion}
 use Rattle.std.proofs.lemmas.Bool.Decides.{nat_tests}
 use Rattle.std.proofs.lemmas.List.{length-append}
 use Rattle.std.proofs.lemmas.Option.{slice_get-get_or}
 use Rattle.model_disk.specs.Call.{Call, FailedFlush, FailedRead, FailedWrite, Flushed, Read, Wrote, is_failed}
 use Rattle.model_disk.specs.Contents.{byte_at, covers}
-use Rattle.model_disk.specs.Joint.{Disks, JointCall, bytes_of, calls_on, content, failed_since}
+use Rattle.model_disk.specs.Joint.{Disks, JointCall, bytes_of, calls_on, failed_since}
 use Rattle.pool_create.specs.Calls.{GrewTo, disk_call, fault_call, faults_between, told_since}
 use Rattle.pool_create.specs.CommitState.{NoneIsOut}
 use Rattle.pool_create.specs.CoreRuns.{Chain}

@@ -1,5 +1,5 @@
 -- Lives of a pool, from place to place.
-use Rattle.std.proofs.Common.{◌≡◌, inl, inr, ⊎_elim, ◌<◌, ◌≤◌, ℕ, suc, ◌+◌, ◌*◌, Bool, true, false, List, [], ◌∷◌, ◌++◌, length, refl, sym, ap, subst, ◌∙◌, arith}
+use Rattle.std.proofs.Common.{◌≡◌, inr, ⊎_elim, ◌<◌, ◌≤◌, ℕ, suc, ◌*◌, Bool, true, false, List, [], ◌∷◌, ◌++◌, length, refl, sym, ap, subst, ◌∙◌, arith}
 use Rattle.std.specs.Prelude.{All, ◌==◌, ◌^◌, if◌then◌else◌}
 use Rattle.std.proofs.lemmas.List.{length-append}
 use Rattle.std.proofs.lemmas.List.Elements.{All-head, All-tail}
@@ -36,7 +36,7 @@ use Rattle.pool_stops.specs.OwnRunning.{CreatedPoolsAreOnTheirDisks, IsOnItsDisk
 use Rattle.pool_stops.specs.Reopening.{AreByGroup}
 use Rattle.pool_stops.specs.Running.{pool_of}
 use Rattle.pool_lives.specs.Lasting.{Keeps, LivesGoOn, LivesLoseNothing, served_first}
-use Rattle.pool_lives.specs.Lives.{Down, Exports, FindsNone, Goes, Happening, IsAnswered, IsExported, IsLife, IsMade, IsOpenStopped, IsRefused, IsRun, IsRunStopped, Opens, Place, Runs, StopsOpening, StopsRunning, Up}
+use Rattle.pool_lives.specs.Lives.{Down, Exports, FindsNone, Goes, Happening, IsAnswered, IsExported, IsLife, IsOpenStopped, IsRefused, IsRun, IsRunStopped, Opens, Place, Runs, StopsOpening, StopsRunning, Up}
 use Rattle.pool_lives.specs.Tales.{IsTale, Known, Resting, Serving, Tells}
 use Rattle.pool_lives.proofs.Chains.{chain_on, trusted}
 use Rattle.pool_lives.proofs.Known.{chain_known, known_unfailed}

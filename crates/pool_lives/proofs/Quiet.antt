@@ -1,10 +1,10 @@
 -- In a step behind which no disk is out no call of its plan failed.
-use Rattle.std.proofs.Common.{◌≡◌, ⊎_elim, ℕ, ◌||◌, Bool, true, false, List, [], Option, Some, None, refl, sym, ap, ◌∙◌, true≢false}
-use Rattle.std.specs.Prelude.{◌==◌, IsTrue}
+use Rattle.std.proofs.Common.{◌≡◌, ⊎_elim, ℕ, ◌||◌, Bool, true, false, List, [], None, sym, ap, ◌∙◌, true≢false}
+use Rattle.std.specs.Prelude.{◌==◌}
 use Rattle.std.proofs.lemmas.Bool.Decides.{nat_tests}
 use Rattle.std.proofs.Common.{arith}
-use Rattle.pool_model.specs.Machine.{GoesOn, GoesWithout, MayAnswer, StepOf, dropped, without_disk}
-use Rattle.pool_model.specs.View.{Due, DueCall, Given, View}
+use Rattle.pool_model.specs.Machine.{GoesWithout, MayAnswer, StepOf, dropped, without_disk}
+use Rattle.pool_model.specs.View.{DueCall, Given, View}
 use Rattle.pool_model.specs.declared.step.Phase.{Phase}
 use Rattle.pool_model.specs.declared.step.Reply.{Reply}
 use Rattle.pool_model.specs.declared.step.Reply.TheVariants.{Held, Receipt, Released, Closed, Quiesced, Planned, Moved, Replan, Committed, Bytes, Refused}

@@ -1,5 +1,5 @@
 -- A run that is stopped: what is left leads to the pool of the last committed group, or to that of the next one too.
-use Rattle.std.proofs.Common.{◌≡◌, ◌⊎◌, inl, inr, ⊎_elim, ◌<◌, ◌≤◌, ℕ, zero, suc, Bool, false, List, [], ◌∷◌, ◌++◌, length, Some, refl, sym, ap, subst, ◌∙◌, arith}
+use Rattle.std.proofs.Common.{◌≡◌, ◌⊎◌, inl, inr, ⊎_elim, ◌<◌, ◌≤◌, ℕ, suc, Bool, false, List, [], ◌∷◌, ◌++◌, length, refl, sym, ap, subst, ◌∙◌, arith}
 use Rattle.model_disk.specs.Joint.{Disks, JointCall, MayLeaveAll}
 use Rattle.model_disk.specs.Runs.{IsMoment}
 use Rattle.block_store.specs.Places.{shapes_of}
@@ -7,7 +7,6 @@ use Rattle.block_store.specs.Store.{is_out}
 use Rattle.block_store.specs.declared.shape.VdevShape.{VdevShape}
 use Rattle.uberblock_ring.specs.declared.uberblock.Uberblock.{Uberblock}
 use Rattle.vdev_label.specs.Plain.{PlainVdev}
-use Rattle.pool_create.specs.CommitPlanned.{Planned}
 use Rattle.pool_create.specs.CommitState.{NoneIsOut, State}
 use Rattle.pool_create.specs.CoreRuns.{Chain}
 use Rattle.pool_create.specs.CoreState.{CoreState, disks_of}

@@ -1,10 +1,10 @@
 -- Stops in a step: until a slot of the plan's uberblock is begun, what is left leads to the last committed one alone.
-use Rattle.std.proofs.Common.{ℕ, zero, suc, ◌≡◌, ◌⊎◌, inl, inr, ⊎_elim, ◌<◌, ◌≤◌, Bool, true, false, List, [], ◌∷◌, ◌++◌, length, slice_get, Option, Some, None, Contains, All, refl, sym, ap, subst, ◌∙◌, arith}
+use Rattle.std.proofs.Common.{ℕ, zero, suc, ◌≡◌, ◌⊎◌, inl, inr, ⊎_elim, ◌≤◌, Bool, true, false, List, [], ◌∷◌, ◌++◌, length, Option, Some, None, Contains, All, refl, sym, ap, subst, ◌∙◌, arith}
 use Rattle.std.proofs.lemmas.List.{append_cancel_right, length-append}
 use Rattle.std.proofs.lemmas.List.Elements.{All-cons, All-head, All-nil, All-tail, Contains-append_left, Contains-append_right}
 use Rattle.std.proofs.Common.{append_assoc}
 use Rattle.model_disk.specs.Call.{Call, FailedFlush, FailedRead, FailedWrite, Flushed, Read, Wrote}
-use Rattle.model_disk.specs.Joint.{Disks, JointCall, bytes_of, content, on}
+use Rattle.model_disk.specs.Joint.{Disks, JointCall, bytes_of, on}
 use Rattle.model_disk.specs.Runs.{IsMoment, Makes, WritesOnly, no_write}
 use Rattle.model_disk.proofs.RunLemmas.{Makes-wider}
 use Rattle.block_store.specs.Places.{shapes_of}
@@ -13,32 +13,27 @@ use Rattle.uberblock_ring.specs.Slot.{slot_number}
 use Rattle.uberblock_ring.specs.declared.uberblock.Uberblock.{Uberblock}
 use Rattle.vdev_label.specs.Plain.{PlainVdev}
 use Rattle.pool_create.specs.CommitPlanned.{Planned}
-use Rattle.pool_create.specs.CommitState.{NoneIsOut, State}
-use Rattle.pool_create.specs.CommitWriting.{IsDueSlot, IsDueWrite, may_write}
-use Rattle.pool_create.specs.CoreState.{CoreState, disks_of}
-use Rattle.pool_create.specs.CoreSteps.{Link}
+use Rattle.pool_create.specs.CommitState.{State}
+use Rattle.pool_create.specs.CommitWriting.{IsDueSlot, may_write}
+use Rattle.pool_create.specs.CoreState.{CoreState}
 use Rattle.pool_create.specs.Moves.{Moves}
-use Rattle.pool_create.specs.OpenStops.{fresh}
 use Rattle.pool_format.specs.declared.labeling.PoolIdentity.{PoolIdentity}
 use Rattle.pool_model.specs.Pools.{PlainPool}
-use Rattle.pool_model.specs.View.{Given, View}
-use Rattle.pool_model.specs.declared.step.Reply.{Reply}
+use Rattle.pool_model.specs.View.{View}
 use Rattle.pool_model.specs.declared.step.Step.{Step}
 use Rattle.pool_model.specs.declared.step.Step.TheVariants.{Hold, Write, Act, Release, Close, Quiesce, Plan, Device, Read as ReadStep, ReadUnder}
 use Rattle.pool_slots.specs.Commits.{LeadAlways, last_or, only_last}
 use Rattle.pool_slots.specs.Lives.{IsNextGroup}
 use Rattle.pool_slots.specs.PhaseLaws.{BlocksBegin, BlocksGoOn}
-use Rattle.pool_slots.specs.Phases.{AreInBlocks, AreInSlots, free_writes, if_used, slot_writes}
-use Rattle.pool_slots.specs.Possible.{IsAllowed, IsBefore, IsInReach, IsPossible, Leads, LeadsOn, Possible, Trees, held_by}
-use Rattle.pool_slots.specs.Slots.{InUse, IsOutOfReach, IsSlot, Shows, slot_at, spelled}
+use Rattle.pool_slots.specs.Phases.{AreInBlocks, AreInSlots, free_writes, if_used}
+use Rattle.pool_slots.specs.Possible.{IsAllowed, IsInReach, Leads, Possible, Trees, held_by}
+use Rattle.pool_slots.specs.Slots.{InUse, IsOutOfReach, Shows, slot_at, spelled}
 use Rattle.pool_slots.specs.Writes.{IsSlotWrite, in_use}
 use Rattle.pool_slots.proofs.SlotPhases.{same_shown}
-use Rattle.pool_stops.specs.Begun.{IsBegun, IsPossibleNow, StoppedStepsLeadToOwnPools, at_stop}
-use Rattle.pool_stops.specs.OneConfig.{IsRunningAs}
+use Rattle.pool_stops.specs.Begun.{IsBegun, StoppedStepsLeadToOwnPools, at_stop}
 use Rattle.pool_stops.specs.OwnReopening.{LeadToOwnPools}
-use Rattle.pool_stops.specs.OwnRunning.{IsOnItsDisks, StepsStayOnTheirDisks}
+use Rattle.pool_stops.specs.OwnRunning.{StepsStayOnTheirDisks}
 use Rattle.pool_stops.specs.Phases.{IsGoodPlan, IsInPhase}
-use Rattle.pool_stops.specs.Reopening.{LeavesImages}
 use Rattle.pool_stops.specs.Running.{IsPossibleOf, IsRunning, StandAt, pool_of}
 use Rattle.pool_stops.specs.Standing.{BlocksKeepWhatIsFilled, block_trees, filled_trees, unfilled_write}
 use Rattle.pool_stops.specs.Stopping.{StoppedRunsLeaveDisks}

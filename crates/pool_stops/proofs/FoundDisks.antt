@@ -3,7 +3,7 @@ use Rattle.std.proofs.Common.{ℕ, ◌≡◌, inl, inr, ⊎_elim, ◌+◌, ◌<�
 use Rattle.std.specs.Prelude.{◌^◌, option_map, string_bytes}
 use Rattle.std.proofs.lemmas.List.{length-map}
 use Rattle.std.proofs.lemmas.Option.{slice_get-map, slice_get_past, slice_get_within}
-use Rattle.model_disk.specs.Joint.{Disks, bytes_of}
+use Rattle.model_disk.specs.Joint.{Disks}
 use Rattle.raidz_io.proofs.Written.{slice_get_some}
 use Rattle.block_store.specs.Config.{IsAllowedSize, sectors_of, size_of}
 use Rattle.block_store.specs.Opened.{LieOn}

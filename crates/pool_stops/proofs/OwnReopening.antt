@@ -1,5 +1,5 @@
 -- Pools are opened again on their own disks.
-use Rattle.std.proofs.Common.{ℕ, ◌+◌, ◌≡◌, ⊎_elim, inl, inr, ◌<◌, ◌≤◌, Bool, List, [], ◌∷◌, ◌++◌, length, map, Option, Some, refl, sym, ap, subst, ◌∙◌, arith, append_assoc}
+use Rattle.std.proofs.Common.{ℕ, ◌+◌, ◌≡◌, ⊎_elim, inl, inr, ◌<◌, ◌≤◌, Bool, List, [], ◌∷◌, ◌++◌, length, Option, Some, refl, sym, ap, subst, ◌∙◌, arith, append_assoc}
 use Rattle.std.proofs.lemmas.List.{length-map}
 use Rattle.model_disk.specs.Joint.{Disks, bytes_of, content}
 use Rattle.model_disk.specs.declared.disk.Disk as disk

@@ -29,7 +29,7 @@ use Rattle.pool_slots.specs.Commits.{AreAt}
 use Rattle.pool_slots.specs.Opens.{CanOpen}
 use Rattle.pool_slots.specs.Slots.{InUse}
 use Rattle.pool_stops.specs.Configured.{StepsStayConfigured}
-use Rattle.pool_stops.specs.OneConfig.{IsRunningAs, RunStopsAs}
+use Rattle.pool_stops.specs.OneConfig.{IsRunningAs}
 use Rattle.pool_stops.specs.Running.{RunningPoolsStepOn}
 use Rattle.pool_stops.proofs.Holding.{get_in_use}
 use Rattle.pool_stops.proofs.LabelStops.{made_of}
