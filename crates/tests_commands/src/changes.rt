@@ -1,7 +1,7 @@
 //! Changes of the machine in memory, and what they are answered.
 use command_steps::change;
 use plain_machine::Machine;
-use pool_model::{Action, Bytes, Change, Name, Step, Write};
+use pool_model::{Action, Bytes, Change, Name, Reply, Step, Write};
 use pool_steps::PoolSteps;
 use std::alloc::{AllocError, Global};
 use std::test::Fail;
@@ -33,36 +33,55 @@ const ASKED: [(&str, &str); 8] = [
     ("other", " Refused(NoHold)"),
 ];
 
-fn item(alloc: Global, word: &str, number: u64) -> Result<Step, AllocError> {
-    let volume = Name::new(Vec::from_slice(alloc, b"v")?);
-    let part = Name::new(Vec::from_slice(alloc, b"s")?);
+fn name(alloc: Global, letters: &str) -> Result<Name, AllocError> {
+    Ok(Name::new(Vec::from_slice(alloc, letters.as_bytes())?))
+}
+
+fn write(alloc: Global, word: &str, number: u64) -> Result<Step, AllocError> {
     let fill = if word == "zero" { 0 } else { 7 };
     let len = if word == "odd" { 2 } else { 512 };
-    let change = match word {
-        "snapshot" => Change::Snapshot { volume, part },
-        "clone" => Change::Clone {
-            snapshot: volume.with_part(alloc, &part)?,
-            name: part,
-        },
-        "destroy" => Change::Destroy { name: volume },
-        "write" | "odd" | "zero" => {
-            let bytes = Bytes::new(vec![in alloc; fill; len]?);
-            return Ok(Step::Write(Write {
-                writer: 1,
-                number,
-                volume,
-                offset: 0,
-                bytes,
-            }));
-        }
-        _ => Change::Create {
-            name: volume,
+    Ok(Step::Write(Write {
+        writer: 1,
+        number,
+        volume: name(alloc, "v")?,
+        offset: 0,
+        bytes: Bytes::new(vec![in alloc; fill; len]?),
+    }))
+}
+
+fn clone(alloc: Global) -> Result<Change, AllocError> {
+    let snapshot = name(alloc, "v")?.with_part(alloc, &name(alloc, "s")?)?;
+    Ok(Change::Clone {
+        snapshot,
+        name: name(alloc, "s")?,
+    })
+}
+
+fn change_of(alloc: Global, word: &str) -> Result<Change, AllocError> {
+    match word {
+        "snapshot" => Ok(Change::Snapshot {
+            volume: name(alloc, "v")?,
+            part: name(alloc, "s")?,
+        }),
+        "clone" => clone(alloc),
+        "destroy" => Ok(Change::Destroy {
+            name: name(alloc, "v")?,
+        }),
+        _ => Ok(Change::Create {
+            name: name(alloc, "v")?,
             size: 1024,
             block_size: 512,
-        },
-    };
+        }),
+    }
+}
+
+fn item(alloc: Global, word: &str, number: u64) -> Result<Step, AllocError> {
+    if matches!(word, "write" | "odd" | "zero") {
+        return write(alloc, word, number);
+    }
     let writer = if word == "other" { 2 } else { 1 };
     let number = if word == "again" { 1 } else { number };
+    let change = change_of(alloc, word)?;
     Ok(Step::Act(Action {
         writer,
         number,
@@ -70,23 +89,34 @@ fn item(alloc: Global, word: &str, number: u64) -> Result<Step, AllocError> {
     }))
 }
 
-fn answers(alloc: Global, words: &str) -> Result<String, Fail> {
-    let mut machine = Machine::create(alloc);
+fn read(machine: &mut Machine, name: Name) -> Reply {
+    machine.take_step(Step::Read {
+        name,
+        offset: 0,
+        len: 2,
+    })
+}
+
+/// What is answered to a word, as text.
+fn answer(machine: &mut Machine, alloc: Global, word: &str, number: u64) -> Result<String, Fail> {
+    let reply = if word == "read" {
+        read(machine, name(alloc, "v")?)
+    } else {
+        change(machine, item(alloc, word, number)?, 9)
+    };
+    Ok(format!(in alloc; " {reply:?}")?)
+}
+
+fn answers_of(machine: &mut Machine, alloc: Global, words: &str) -> Result<String, Fail> {
     let mut text = String::new(alloc);
     for (word, number) in words.split(' ').zip(1..100) {
-        let reply = if word == "read" {
-            let name = Name::new(Vec::from_slice(alloc, b"v")?);
-            machine.take_step(Step::Read {
-                name,
-                offset: 0,
-                len: 2,
-            })
-        } else {
-            change(&mut machine, item(alloc, word, number)?, 9)
-        };
-        text.push_str(format!(in alloc; " {reply:?}")?.as_str())?;
+        text.push_str(answer(machine, alloc, word, number)?.as_str())?;
     }
     Ok(text)
+}
+
+fn answers(alloc: Global, words: &str) -> Result<String, Fail> {
+    answers_of(&mut Machine::create(alloc), alloc, words)
 }
 
 #[test]

@@ -1,6 +1,7 @@
 //! Lines with what they ask for, and faults with their texts.
-use crate::telling::{parsed, told};
+use crate::telling::{Kind, note, parsed, text_of, told};
 use pool_command::{Command, ZpoolCommand, parse};
+use std::alloc::{AllocError, Global};
 use std::test::Fail;
 
 /// Lines, and what each asks for.
@@ -221,57 +222,74 @@ const FAULTS: [(&str, &str); 30] = [
     ),
 ];
 
+/// The lines of `LINES` of which something else comes, with that.
+fn wrong_lines(alloc: Global) -> Result<String, AllocError> {
+    let mut wrong = String::new(alloc);
+    for (line, wanted) in &LINES {
+        let (text, _) = told(alloc, line)?;
+        if text.as_str() != *wanted {
+            note(&mut wrong, line, text.as_str())?;
+        }
+    }
+    Ok(wrong)
+}
+
+/// The lines of `FAULTS` of which something else comes, with that.
+fn wrong_faults(alloc: Global) -> Result<String, AllocError> {
+    let mut wrong = String::new(alloc);
+    for (line, start) in &FAULTS {
+        let (text, kind) = told(alloc, line)?;
+        if kind != Kind::Fault || !text.as_str().starts_with(*start) {
+            note(&mut wrong, line, text.as_str())?;
+        }
+    }
+    Ok(wrong)
+}
+
+fn joined(alloc: Global, paths: &[String]) -> Result<String, AllocError> {
+    let mut text = String::new(alloc);
+    for path in paths {
+        text.push_str(path.as_str())?;
+        text.push_str(";")?;
+    }
+    Ok(text)
+}
+
+/// The files of which a line asks the status, with a semicolon behind each.
+fn files_of(alloc: Global, line: &str) -> Result<String, AllocError> {
+    match &parsed(alloc, line)? {
+        Ok(Command::Zpool(ZpoolCommand::Status { files })) => joined(alloc, files.as_slice()),
+        _ => String::from_str(alloc, "another command"),
+    }
+}
+
 #[test]
 fn lines_ask_for(rt: HostRuntime) -> Result<(), Fail> {
-    for (line, wanted) in &LINES {
-        let text = told(rt.alloc(), line)?;
-        assert!(rt; text.as_str() == *wanted, "{line}: {text}");
-    }
+    let wrong = wrong_lines(rt.alloc())?;
+    assert!(rt; wrong.is_empty(), "{wrong}");
     Ok(())
 }
 
 #[test]
 fn faults_are_told(rt: HostRuntime) -> Result<(), Fail> {
-    for (line, wanted) in &FAULTS {
-        let text = told(rt.alloc(), line)?;
-        assert!(rt; text.as_str().starts_with(*wanted), "{line}: {text}");
-        let is_answer = match parsed(rt.alloc(), line)? {
-            Ok(_) => true,
-            Err(refusal) => refusal.is_answer(),
-        };
-        assert!(rt; !is_answer, "{line}");
-    }
+    let wrong = wrong_faults(rt.alloc())?;
+    assert!(rt; wrong.is_empty(), "{wrong}");
     Ok(())
 }
 
 #[test]
 fn no_words_are_no_command(rt: HostRuntime) -> Result<(), Fail> {
-    match parse(rt.alloc(), &[]) {
-        Ok(_) => assert!(rt; false),
-        Err(refusal) => {
-            let text = format!(in rt.alloc(); "{refusal}")?;
-            assert!(rt;
-                text.as_str() == "error: the program is zpool or zfs\n",
-                "{text}"
-            );
-        }
-    }
+    let text = text_of(rt.alloc(), &parse(rt.alloc(), &[]))?;
+    assert!(rt;
+        text.as_str() == "error: the program is zpool or zfs\n",
+        "{text}"
+    );
     Ok(())
 }
 
 #[test]
 fn files_are_given_as_a_slice(rt: HostRuntime) -> Result<(), Fail> {
-    let command = parsed(rt.alloc(), "zpool status /dev/b ./a")?;
-    match &command {
-        Ok(Command::Zpool(ZpoolCommand::Status { files })) => {
-            let mut text = String::new(rt.alloc());
-            for path in files.as_slice() {
-                text.push_str(path.as_str())?;
-                text.push_str(";")?;
-            }
-            assert!(rt; text.as_str() == "/dev/b;./a;", "{text}");
-        }
-        _ => assert!(rt; false),
-    }
+    let text = files_of(rt.alloc(), "zpool status /dev/b ./a")?;
+    assert!(rt; text.as_str() == "/dev/b;./a;", "{text}");
     Ok(())
 }

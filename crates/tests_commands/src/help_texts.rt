@@ -1,5 +1,5 @@
 //! The help: it is an answer and no fault, and each of its examples is a line that asks for a command.
-use crate::telling::{parsed, told};
+use crate::telling::{Kind, note, told};
 use std::alloc::{AllocError, Global};
 use std::test::Fail;
 
@@ -90,45 +90,64 @@ const ANSWERS: [(&str, &str, &str); 19] = [
     ),
 ];
 
-#[test]
-fn help_is_an_answer(rt: HostRuntime) -> Result<(), Fail> {
+/// The lines of `ANSWERS` of which something else comes, with that.
+fn wrong_answers(alloc: Global) -> Result<String, AllocError> {
+    let mut wrong = String::new(alloc);
     for (line, start, part) in &ANSWERS {
-        let text = told(rt.alloc(), line)?;
-        assert!(rt; text.as_str().starts_with(*start), "{line}: {text}");
-        assert!(rt; text.as_str().contains(*part), "{line}: {text}");
-        let is_answer = match parsed(rt.alloc(), line)? {
-            Ok(_) => false,
-            Err(refusal) => refusal.is_answer(),
-        };
-        assert!(rt; is_answer, "{line}");
+        let (text, kind) = told(alloc, line)?;
+        let text = text.as_str();
+        if kind != Kind::Answer || !text.starts_with(*start) || !text.contains(*part) {
+            note(&mut wrong, line, text)?;
+        }
+    }
+    Ok(wrong)
+}
+
+/// The example in a line of help: it stands behind two spaces, up to a '<' or a '>'.
+fn example_in(line: &str) -> Option<&str> {
+    let line = line.strip_prefix("  ")?;
+    let (line, _) = line.split_once(" < ").unwrap_or((line, ""));
+    let (line, _) = line.split_once(" > ").unwrap_or((line, ""));
+    if line.starts_with("zpool ") || line.starts_with("zfs ") {
+        Some(line)
+    } else {
+        None
+    }
+}
+
+/// Adds the examples of a help text that ask for no command.
+fn note_bad_examples(wrong: &mut String, alloc: Global, help: &str) -> Result<(), AllocError> {
+    for line in help.lines() {
+        if let Some(example) = example_in(line) {
+            let (text, kind) = told(alloc, example)?;
+            if kind != Kind::Command {
+                note(wrong, example, text.as_str())?;
+            }
+        }
     }
     Ok(())
 }
 
-/// The examples of a help text that ask for no command: each stands in a line behind two spaces, up to a '<' or a '>'.
-fn bad_examples(alloc: Global, help: &str) -> Result<String, AllocError> {
-    let mut bad = String::new(alloc);
-    for line in help.lines() {
-        let Some(line) = line.strip_prefix("  ") else {
-            continue;
-        };
-        let (line, _) = line.split_once(" < ").unwrap_or((line, ""));
-        let (line, _) = line.split_once(" > ").unwrap_or((line, ""));
-        if (line.starts_with("zpool ") || line.starts_with("zfs "))
-            && parsed(alloc, line)?.is_err()
-        {
-            bad.push_str(line)?;
-        }
+/// The examples of all help texts that ask for no command.
+fn bad_examples(alloc: Global) -> Result<String, AllocError> {
+    let mut wrong = String::new(alloc);
+    for (line, _, _) in &ANSWERS {
+        let (help, _) = told(alloc, line)?;
+        note_bad_examples(&mut wrong, alloc, help.as_str())?;
     }
-    Ok(bad)
+    Ok(wrong)
+}
+
+#[test]
+fn help_is_an_answer(rt: HostRuntime) -> Result<(), Fail> {
+    let wrong = wrong_answers(rt.alloc())?;
+    assert!(rt; wrong.is_empty(), "{wrong}");
+    Ok(())
 }
 
 #[test]
 fn examples_ask_for_commands(rt: HostRuntime) -> Result<(), Fail> {
-    for (line, _, _) in &ANSWERS {
-        let text = told(rt.alloc(), line)?;
-        let bad = bad_examples(rt.alloc(), text.as_str())?;
-        assert!(rt; bad.is_empty(), "{line}: {bad}");
-    }
+    let bad = bad_examples(rt.alloc())?;
+    assert!(rt; bad.is_empty(), "{bad}");
     Ok(())
 }
