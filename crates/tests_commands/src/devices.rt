@@ -156,7 +156,7 @@ fn answer(alloc: Global, device: &mut Device<Machine>, line: &str) -> Result<Str
             Err(cause) => Some(cause),
         },
         "write" => {
-            let bytes = vec![in alloc; byte as u8; len as usize]?;
+            let bytes = vec![in alloc; (byte % 256) as u8; len as usize]?;
             (0..times).find_map(|_| device.write(alloc, offset, &bytes).err())
         }
         _ => device.flush().err(),

@@ -22,7 +22,11 @@ const MOST_BYTES: usize = 1 << 20;
 /// So many bytes may wait for a commit, once a write is done: 32 MiB.
 const MOST_PENDING: u64 = 32 << 20;
 
-/// A volume or a snapshot of an opened pool, which nobody else changes meanwhile.
+/// A volume or a snapshot of an opened pool as a block device, as long as nobody else changes the pool.
+///
+/// It is the pool's writer 1, whose numbers it counts from 1 on: so nobody may have been it since the pool was opened. What it
+/// writes waits in the open group until a flush, or until more than 32 MiB wait. A stop of the machine before that loses it,
+/// all at once.
 #[derive(Drop)]
 pub struct Device<P> {
     core: P,
@@ -40,6 +44,8 @@ pub struct Device<P> {
 }
 
 impl<P: PoolSteps> Device<P> {
+    /// A device of this volume or snapshot, in a pool at rest. The timestamp, in seconds of the Unix era, goes into the uberblock of
+    /// each commit. Whether something has the name is asked at the first read or write.
     pub fn new(core: P, name: Name, timestamp: u64) -> Device<P>
         ensures core { core_of result ≡ core }
         ensures name { name_of result ≡ name }
@@ -57,6 +63,12 @@ impl<P: PoolSteps> Device<P> {
         }
     }
 
+    /// The bytes of a range, in bytes from the volume's start, however it is aligned: all that was written is in them. It is read by
+    /// steps of at most 1 MiB each, so that memory for the whole of it is needed.
+    ///
+    /// `NoSuchName` where nothing has the name, also for a length of 0. `OutOfRange` where a part of it lies past the end. `DiskFault`
+    /// where too many disks of a block are lost; `BadPointer`, `BadDigest` or `BadMap` where a block that was read is damaged.
+    /// It may go on after a refused commit.
     pub fn read(&mut self, alloc: Global, offset: u64, len: u64) -> Result<Vec<u8>, Refusal>
         ensures follows { P.came_from (core_of self.old) (core_of self.new) }
         ensures name { name_of self.new ≡ name_of self.old }
@@ -100,6 +112,13 @@ impl<P: PoolSteps> Device<P> {
         }
     }
 
+    /// Writes the bytes, from the offset in bytes on, by steps of at most 1 MiB each. Where more than 32 MiB wait behind it, it commits
+    /// as a flush does. No bytes take no step.
+    ///
+    /// The offset and the length are whole sectors of 512 bytes: else `Misaligned`. `NoSuchName` where no volume has the name, as
+    /// where a snapshot has it; `OutOfRange` where a part lies past the end; `NotYet` where the volume was made by the open group. An
+    /// error leaves a front of the bytes written, maybe none or all, and nothing more committed. Once a commit was refused this is
+    /// the answer to each write, and no step is taken.
     pub fn write(&mut self, alloc: Global, offset: u64, bytes: &[u8]) -> Result<(), Refusal>
         ensures follows { P.came_from (core_of self.old) (core_of self.new) }
         ensures name { name_of self.new ≡ name_of self.old }
@@ -250,6 +269,10 @@ impl<P: PoolSteps> Device<P> {
         self.flush()
     }
 
+    /// Commits all that was written. With nothing written since the last commit it takes no step, but that a hold is given back.
+    ///
+    /// `NoSpace`, `Suspended`, `DiskFault` or `NoMemory` where the group can't be committed: nothing of it is, and from then on this is
+    /// the answer to each write and flush. What was written can still be read.
     pub fn flush(&mut self) -> Result<(), Refusal>
         ensures follows { P.came_from (core_of self.old) (core_of self.new) }
         ensures name { name_of self.new ≡ name_of self.old }
@@ -318,6 +341,7 @@ impl<P: PoolSteps> Device<P> {
         cause
     }
 
+    /// The pool, given back as it is: flush first, or what waits is not committed.
     pub fn into_core(self) -> P
         ensures core { result ≡ core_of self }
         ensures has { (c : Contents) → Shows P.PoolSteps self c → Has P.PoolSteps result c }
