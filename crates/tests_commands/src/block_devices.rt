@@ -1,7 +1,7 @@
 //! Sessions of clients of a network block device: what they send, and what they get. The bytes are those of "The NBD protocol".
 use nbd_serve::{Export, serve};
 use plain_machine::Machine;
-use pool_model::{Action, Change, Name, Reply, Step};
+use pool_model::{Action, Change, Name, Step};
 use pool_steps::PoolSteps;
 use std::alloc::{AllocError, Global};
 use std::test::Fail;
@@ -314,6 +314,7 @@ fn the_end_commits(rt: HostRuntime) -> Result<(), Fail> {
         offset: 511,
         len: 2,
     });
-    assert!(rt; matches!(read, Reply::Bytes(bytes) if bytes.as_slice() == [0, 7].as_slice()));
+    let text = format!(in alloc; "{read:?}")?;
+    assert!(rt; text.as_str() == "Bytes(Bytes { bytes: [0, 7] })", "{text}");
     Ok(())
 }
