@@ -1,6 +1,6 @@
 //! Lines with what they ask for, and faults with their texts.
-use crate::telling::{Kind, note, parsed, text_of, told};
-use pool_command::{Command, ZpoolCommand, parse};
+use crate::telling::{Kind, note, told, told_words, words_of};
+use pool_command::{Command, Refusal, ZpoolCommand, parse};
 use std::alloc::{AllocError, Global};
 use std::test::Fail;
 
@@ -255,12 +255,18 @@ fn joined(alloc: Global, paths: &[String]) -> Result<String, AllocError> {
     Ok(text)
 }
 
-/// The files of which a line asks the status, with a semicolon behind each.
-fn files_of(alloc: Global, line: &str) -> Result<String, AllocError> {
-    match &parsed(alloc, line)? {
+/// The files of which the status is asked, with a semicolon behind each.
+fn files_in(alloc: Global, came: &Result<Command, Refusal>) -> Result<String, AllocError> {
+    match came {
         Ok(Command::Zpool(ZpoolCommand::Status { files })) => joined(alloc, files.as_slice()),
         _ => String::from_str(alloc, "another command"),
     }
+}
+
+fn files_of(alloc: Global, line: &str) -> Result<String, AllocError> {
+    let words = words_of(alloc, line)?;
+    let came = parse(alloc, &words);
+    files_in(alloc, &came)
 }
 
 #[test]
@@ -279,7 +285,9 @@ fn faults_are_told(rt: HostRuntime) -> Result<(), Fail> {
 
 #[test]
 fn no_words_are_no_command(rt: HostRuntime) -> Result<(), Fail> {
-    let text = text_of(rt.alloc(), &parse(rt.alloc(), &[]))?;
+    let (text, kind) = told_words(rt.alloc(), &[]);
+    let text = text?;
+    assert!(rt; kind == Kind::Fault);
     assert!(rt;
         text.as_str() == "error: the program is zpool or zfs\n",
         "{text}"

@@ -11,17 +11,16 @@ pub enum Kind {
     Fault,
 }
 
-/// What a line of words asks for, parted by one space.
-pub fn parsed(alloc: Global, line: &str) -> Result<Result<Command, Refusal>, AllocError> {
+/// The words of a line, parted by one space.
+pub fn words_of(alloc: Global, line: &str) -> Result<Vec<&str>, AllocError> {
     let mut words = Vec::new(alloc);
     for word in line.split(' ') {
         words.push(word)?;
     }
-    Ok(parse(alloc, &words))
+    Ok(words)
 }
 
-/// The same as text: the command as it is debugged, or the whole text of the fault.
-pub fn text_of(alloc: Global, came: &Result<Command, Refusal>) -> Result<String, AllocError> {
+fn text_of(alloc: Global, came: &Result<Command, Refusal>) -> Result<String, AllocError> {
     match came {
         Ok(command) => format!(in alloc; "{command:?}"),
         Err(refusal) => format!(in alloc; "{refusal}"),
@@ -36,10 +35,16 @@ fn kind_of(came: &Result<Command, Refusal>) -> Kind {
     }
 }
 
-/// What comes of a line, as text, and what it is.
+/// What comes of words, as text, and what it is: the command as it is debugged, or the whole text of the fault.
+pub fn told_words(alloc: Global, words: &[&str]) -> (Result<String, AllocError>, Kind) {
+    let came = parse(alloc, words);
+    (text_of(alloc, &came), kind_of(&came))
+}
+
+/// What comes of a line.
 pub fn told(alloc: Global, line: &str) -> Result<(String, Kind), AllocError> {
-    let came = parsed(alloc, line)?;
-    Ok((text_of(alloc, &came)?, kind_of(&came)))
+    let (text, kind) = told_words(alloc, &words_of(alloc, line)?);
+    Ok((text?, kind))
 }
 
 /// Adds a line of which something else came, and that.

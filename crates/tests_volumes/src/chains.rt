@@ -111,7 +111,12 @@ fn root_of_two(
 }
 
 /// Whether such a root is refused before its meta object set is walked.
-fn is_refused(alloc: Global, previous: u64, next: u64, clones: u64) -> Result<bool, Fail> {
+pub(crate) fn is_refused(
+    alloc: Global,
+    previous: u64,
+    next: u64,
+    clones: u64,
+) -> Result<bool, Fail> {
     let mut store = new_store(alloc)?;
     let root = root_of_two(&mut store, alloc, previous, next, clones)?;
     let mut left = LEFT;
@@ -119,28 +124,4 @@ fn is_refused(alloc: Global, previous: u64, next: u64, clones: u64) -> Result<bo
         Err(Refusal::Unread(Cause::BadPointer)) => Ok(left == LEFT),
         _ => Ok(false),
     }
-}
-
-#[test]
-fn a_snapshot_before_a_volume_fits(rt: HostRuntime) -> Result<(), Fail> {
-    assert!(rt; !is_refused(rt.alloc(), 7, 5, 0)?);
-    Ok(())
-}
-
-#[test]
-fn a_snapshot_before_is_a_row(rt: HostRuntime) -> Result<(), Fail> {
-    assert!(rt; is_refused(rt.alloc(), 9, 5, 0)?);
-    Ok(())
-}
-
-#[test]
-fn what_comes_next_names_its_snapshot(rt: HostRuntime) -> Result<(), Fail> {
-    assert!(rt; is_refused(rt.alloc(), 7, 7, 0)?);
-    Ok(())
-}
-
-#[test]
-fn a_snapshot_counts_its_clones(rt: HostRuntime) -> Result<(), Fail> {
-    assert!(rt; is_refused(rt.alloc(), 7, 5, 1)?);
-    Ok(())
 }

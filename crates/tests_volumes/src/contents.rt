@@ -3,7 +3,7 @@ use crate::groups::{SIZE, written_root};
 use crate::kept::has_rows;
 use crate::stores::{Store, new_store};
 use block_pointer::Block;
-use block_store::{Refusal as Cause, VdevShape};
+use block_store::VdevShape;
 use dataset_snapshots::{RootContents, contents_under};
 use pool_model::{Name, VolumeKind};
 use pool_open::read_root;
@@ -44,22 +44,11 @@ fn outcomes(contents: &RootContents, alloc: Global) -> Result<[bool; 5], Fail> {
 }
 
 /// Those of the root, read through the store that wrote it.
-fn kept(store: &mut Store, alloc: Global) -> Result<[bool; 5], Fail> {
+pub(crate) fn kept(store: &mut Store, alloc: Global) -> Result<[bool; 5], Fail> {
     let root = written_root(store, alloc)?;
     let mut left = LEFT;
     let contents = contents_under(&root, store, alloc, root.birth, &mut left, &[])?;
     outcomes(&contents, alloc)
-}
-
-fn kept_in_memory(alloc: Global) -> Result<[bool; 5], Fail> {
-    let mut store = new_store(alloc)?;
-    kept(&mut store, alloc)
-}
-
-#[test]
-fn a_root_has_its_directory_names_and_blocks(rt: HostRuntime) -> Result<(), Fail> {
-    assert!(rt; kept_in_memory(rt.alloc())? == [true; 5]);
-    Ok(())
 }
 
 fn shapes(store: &Store, alloc: Global) -> Result<Vec<VdevShape>, Fail> {
@@ -76,7 +65,7 @@ fn root_and_shapes(store: &mut Store, alloc: Global) -> Result<(Block, Vec<VdevS
 }
 
 /// Those of the root, read of the disks, some of which are out, when no store knows its blocks any more; or why not.
-fn read_again(alloc: Global, out: &[bool]) -> Result<Result<[bool; 5], Refusal>, Fail> {
+pub(crate) fn read_again(alloc: Global, out: &[bool]) -> Result<Result<[bool; 5], Refusal>, Fail> {
     let mut store = new_store(alloc)?;
     let (root, shapes) = root_and_shapes(&mut store, alloc)?;
     let disks = store.into_array();
@@ -84,30 +73,4 @@ fn read_again(alloc: Global, out: &[bool]) -> Result<Result<[bool; 5], Refusal>,
         Ok(read) => outcomes(&read.contents, alloc).map(Ok),
         Err((refusal, _)) => Ok(Err(refusal)),
     }
-}
-
-#[test]
-fn a_root_is_read_of_the_disks(rt: HostRuntime) -> Result<(), Fail> {
-    assert!(rt; read_again(rt.alloc(), &[false; 3])? == Ok([true; 5]));
-    Ok(())
-}
-
-#[test]
-fn a_root_is_read_without_a_disk(rt: HostRuntime) -> Result<(), Fail> {
-    assert!(rt; read_again(rt.alloc(), &[false, true, false])? == Ok([true; 5]));
-    Ok(())
-}
-
-#[test]
-fn a_root_is_not_read_without_two_disks(rt: HostRuntime) -> Result<(), Fail> {
-    assert!(rt;
-        read_again(rt.alloc(), &[true, true, false])? == Err(Refusal::Unread(Cause::DiskFault))
-    );
-    Ok(())
-}
-
-#[test]
-fn each_disk_is_marked(rt: HostRuntime) -> Result<(), Fail> {
-    assert!(rt; read_again(rt.alloc(), &[false; 2])? == Err(Refusal::Unread(Cause::BadConfig)));
-    Ok(())
 }

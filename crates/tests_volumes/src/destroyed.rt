@@ -3,7 +3,7 @@ use crate::groups::{
     SIZE, accept, is_read, next_root, planned, root_of_three, write, written_root,
 };
 use crate::reaches::has_left;
-use crate::stores::{Store, new_store};
+use crate::stores::Store;
 use block_pointer::{Block, Copies};
 use dataset_snapshots::{NextRoot, Refusal, find};
 use pool_model::{Action, Bytes, Change, Item, Name, Write};
@@ -78,25 +78,48 @@ fn root_with_snapshot(store: &mut Store, alloc: Global) -> Result<Block, Fail> {
     next_root(&taken, store, alloc, write(alloc, 1, b'v')?)
 }
 
-/// What is left once the snapshot is destroyed, and then the volume: names, bytes, and whether what was given back is what nothing reaches.
-fn outcomes(store: &mut Store, alloc: Global) -> Result<[bool; 8], Fail> {
-    let before = root_with_snapshot(store, alloc)?;
-    let first = without(&before, store, alloc, b"v@a")?;
-    let second = without(&first.root, store, alloc, b"v")?;
+/// What is left once the snapshot is destroyed: names, bytes, and whether what was given back is what nothing reaches.
+fn without_snapshot(
+    before: &Block,
+    next: &NextRoot,
+    store: &mut Store,
+    alloc: Global,
+) -> Result<[bool; 4], Fail> {
     Ok([
-        is_there(&before, store, alloc, b"v@a")?,
-        !is_there(&first.root, store, alloc, b"v@a")?,
-        is_read(&first.root, store, alloc, true),
-        has_left(&before, &first, store, alloc)?,
-        !is_there(&second.root, store, alloc, b"v")?,
-        is_there(&second.root, store, alloc, b"w")?,
-        has_left(&first.root, &second, store, alloc)?,
-        second.directory.rows().len() == 1,
+        is_there(before, store, alloc, b"v@a")?,
+        !is_there(&next.root, store, alloc, b"v@a")?,
+        is_read(&next.root, store, alloc, true),
+        has_left(before, next, store, alloc)?,
     ])
 }
 
+/// The same once the volume is.
+fn without_volume(
+    before: &Block,
+    next: &NextRoot,
+    store: &mut Store,
+    alloc: Global,
+) -> Result<[bool; 4], Fail> {
+    Ok([
+        !is_there(&next.root, store, alloc, b"v")?,
+        is_there(&next.root, store, alloc, b"w")?,
+        has_left(before, next, store, alloc)?,
+        next.directory.rows().len() == 1,
+    ])
+}
+
+/// What is left once the snapshot is destroyed, and then the volume.
+pub(crate) fn outcomes(store: &mut Store, alloc: Global) -> Result<[[bool; 4]; 2], Fail> {
+    let before = root_with_snapshot(store, alloc)?;
+    let first = without(&before, store, alloc, b"v@a")?;
+    let left = without_snapshot(&before, &first, store, alloc)?;
+    let between = first.root;
+    let second = without(&between, store, alloc, b"v")?;
+    Ok([left, without_volume(&between, &second, store, alloc)?])
+}
+
 /// Whether a volume with a snapshot is kept, and a name that isn't there is passed over.
-fn refusals(store: &mut Store, alloc: Global) -> Result<[bool; 2], Fail> {
+pub(crate) fn refusals(store: &mut Store, alloc: Global) -> Result<[bool; 2], Fail> {
     let before = root_with_snapshot(store, alloc)?;
     let kept = tried(&before, store, alloc, b"v")?;
     let passed = without(&before, store, alloc, b"x")?;
@@ -116,7 +139,7 @@ fn data_born(blocks: &[Block], group: u64) -> usize {
 
 /// A volume's first block is written, the snapshot `v@a` taken, its second written and the snapshot `v@b` taken, and then all is written
 /// again: how many blocks of data of either birth are given back as `v@b` is destroyed, and then as `v@a` is.
-fn given_back(store: &mut Store, alloc: Global) -> Result<[usize; 4], Fail> {
+pub(crate) fn given_back(store: &mut Store, alloc: Global) -> Result<[usize; 4], Fail> {
     let made = root_of_three(store, alloc)?;
     let early = next_root(&made, store, alloc, write_blocks(alloc, 0, 512)?)?;
     let taken = next_root(&early, store, alloc, snapshot(alloc, b"a")?)?;
@@ -131,37 +154,4 @@ fn given_back(store: &mut Store, alloc: Global) -> Result<[usize; 4], Fail> {
         data_born(&second.replaced, early.birth),
         data_born(&second.replaced, late.birth),
     ])
-}
-
-fn given_back_in_memory(alloc: Global) -> Result<[usize; 4], Fail> {
-    let mut store = new_store(alloc)?;
-    given_back(&mut store, alloc)
-}
-
-#[test]
-fn snapshots_keep_the_blocks_that_they_have(rt: HostRuntime) -> Result<(), Fail> {
-    assert!(rt; given_back_in_memory(rt.alloc())? == [0, 1, 1, 0]);
-    Ok(())
-}
-
-fn outcomes_in_memory(alloc: Global) -> Result<[bool; 8], Fail> {
-    let mut store = new_store(alloc)?;
-    outcomes(&mut store, alloc)
-}
-
-fn refusals_in_memory(alloc: Global) -> Result<[bool; 2], Fail> {
-    let mut store = new_store(alloc)?;
-    refusals(&mut store, alloc)
-}
-
-#[test]
-fn what_is_destroyed_leaves_what_others_reach(rt: HostRuntime) -> Result<(), Fail> {
-    assert!(rt; outcomes_in_memory(rt.alloc())? == [true; 8]);
-    Ok(())
-}
-
-#[test]
-fn volumes_with_snapshots_are_kept(rt: HostRuntime) -> Result<(), Fail> {
-    assert!(rt; refusals_in_memory(rt.alloc())? == [true; 2]);
-    Ok(())
 }

@@ -1,6 +1,6 @@
 //! Roots after groups.
 use crate::roots::{create_empty, find_letter, first_root};
-use crate::stores::{Store, new_store, store_plan};
+use crate::stores::{Store, store_plan};
 use block_pointer::Block;
 use dataset_snapshots::{
     KeptDirectory, NextRoot, Refusal, VolumeRange, after_group, directory_under, read_range,
@@ -164,7 +164,7 @@ fn three_roots(store: &mut Store, alloc: Global) -> Result<[Block; 3], Fail> {
 
 /// What `v` reads as under the root that it is made in, and under the one after a write, also past its end; and under the root
 /// before, which hasn't got it.
-fn outcomes(store: &mut Store, alloc: Global) -> Result<[bool; 5], Fail> {
+pub(crate) fn outcomes(store: &mut Store, alloc: Global) -> Result<[bool; 5], Fail> {
     let [empty, made, written] = three_roots(store, alloc)?;
     Ok([
         is_read(&made, store, alloc, false),
@@ -173,17 +173,6 @@ fn outcomes(store: &mut Store, alloc: Global) -> Result<[bool; 5], Fail> {
         is_bad(bytes_from(&empty, store, alloc, FROM)),
         written.birth == 3,
     ])
-}
-
-fn outcomes_in_memory(alloc: Global) -> Result<[bool; 5], Fail> {
-    let mut store = new_store(alloc)?;
-    outcomes(&mut store, alloc)
-}
-
-#[test]
-fn each_root_has_the_pool_of_its_group(rt: HostRuntime) -> Result<(), Fail> {
-    assert!(rt; outcomes_in_memory(rt.alloc())? == [true; 5]);
-    Ok(())
 }
 
 fn accept_three(pipeline: &mut Pipeline, alloc: Global) -> Result<(), Fail> {
@@ -215,7 +204,7 @@ pub(crate) fn root_of_three(store: &mut Store, alloc: Global) -> Result<Block, F
 }
 
 /// What the first root has of `v`, `w` and `x`, and whether `v` reads as zeros.
-fn first_outcomes(store: &mut Store, alloc: Global) -> Result<[bool; 5], Fail> {
+pub(crate) fn first_outcomes(store: &mut Store, alloc: Global) -> Result<[bool; 5], Fail> {
     let root = root_of_three(store, alloc)?;
     Ok([
         size_of(&root, store, alloc, b'v')? == SIZE,
@@ -224,15 +213,4 @@ fn first_outcomes(store: &mut Store, alloc: Global) -> Result<[bool; 5], Fail> {
         is_read(&root, store, alloc, false),
         root.birth == 1,
     ])
-}
-
-fn first_outcomes_in_memory(alloc: Global) -> Result<[bool; 5], Fail> {
-    let mut store = new_store(alloc)?;
-    first_outcomes(&mut store, alloc)
-}
-
-#[test]
-fn the_first_root_has_the_volumes_of_its_group(rt: HostRuntime) -> Result<(), Fail> {
-    assert!(rt; first_outcomes_in_memory(rt.alloc())? == [true; 5]);
-    Ok(())
 }

@@ -56,7 +56,7 @@ fn two_roots(store: &mut Store, alloc: Global) -> Result<(FirstRoot, NextRoot), 
 
 /// Whether the first root and the next came with the directories that are read under them. A volume takes two numbers, of its record
 /// and its dead list, and behind `v` and `w` the space maps of two metaslabs have 9 and 10.
-fn are_kept(store: &mut Store, alloc: Global) -> Result<[bool; 4], Fail> {
+pub(crate) fn are_kept(store: &mut Store, alloc: Global) -> Result<[bool; 4], Fail> {
     let (first, next) = two_roots(store, alloc)?;
     let two = [(b'v', 5), (b'w', 7)];
     let three = [(b'u', 11), (b'v', 5), (b'w', 7)];
@@ -66,17 +66,6 @@ fn are_kept(store: &mut Store, alloc: Global) -> Result<[bool; 4], Fail> {
         is_under(&first.root, store, alloc, &two),
         is_under(&next.root, store, alloc, &three),
     ])
-}
-
-fn are_kept_in_memory(alloc: Global) -> Result<[bool; 4], Fail> {
-    let mut store = new_store(alloc)?;
-    are_kept(&mut store, alloc)
-}
-
-#[test]
-fn roots_come_with_their_directories(rt: HostRuntime) -> Result<(), Fail> {
-    assert!(rt; are_kept_in_memory(rt.alloc())? == [true; 4]);
-    Ok(())
 }
 
 /// The bytes of a volume from one on, by a directory that is kept.
@@ -148,7 +137,7 @@ fn written_root(store: &mut Store, alloc: Global) -> Result<NextRoot, Fail> {
 }
 
 /// What `v` reads as after a write, also past its end; that `x` isn't there; and the objects of `w` and `x`.
-fn outcomes(store: &mut Store, alloc: Global) -> Result<[bool; 5], Fail> {
+pub(crate) fn outcomes(store: &mut Store, alloc: Global) -> Result<[bool; 5], Fail> {
     let next = written_root(store, alloc)?;
     Ok([
         is_written(&next, store, alloc),
@@ -157,17 +146,6 @@ fn outcomes(store: &mut Store, alloc: Global) -> Result<[bool; 5], Fail> {
         object_in(&next, store, alloc, b'w') == Ok(7),
         object_in(&next, store, alloc, b'x') == Ok(0),
     ])
-}
-
-fn outcomes_in_memory(alloc: Global) -> Result<[bool; 5], Fail> {
-    let mut store = new_store(alloc)?;
-    outcomes(&mut store, alloc)
-}
-
-#[test]
-fn volumes_are_read_by_a_kept_directory(rt: HostRuntime) -> Result<(), Fail> {
-    assert!(rt; outcomes_in_memory(rt.alloc())? == [true; 5]);
-    Ok(())
 }
 
 /// How many reads its disks have counted.
@@ -256,19 +234,13 @@ fn reads_among(alloc: Global, count: u8, is_kept: bool) -> Result<u64, Fail> {
 /// the set's dnodes twice, and behind it the record; the volume's object set, and the block of its dnodes twice. Among 20 or more an
 /// indirect block lies above the set's dnodes. A directory of 70 names that is read first takes the root again, its dnode's way
 /// of two blocks, and for each of its own two blocks that way, an indirect block and the block.
-fn counts(alloc: Global) -> Result<[u64; 4], Fail> {
+pub(crate) fn counts(alloc: Global) -> Result<[u64; 4], Fail> {
     Ok([
         reads_among(alloc, 3, true)?,
         reads_among(alloc, 20, true)?,
         reads_among(alloc, 70, true)?,
         reads_among(alloc, 70, false)?,
     ])
-}
-
-#[test]
-fn reads_do_not_grow_with_the_names(rt: HostRuntime) -> Result<(), Fail> {
-    assert!(rt; counts(rt.alloc())? == [13, 17, 17, 39]);
-    Ok(())
 }
 
 /// The root after a group that writes to the last of so many volumes.
@@ -299,16 +271,10 @@ fn plan_reads_among(alloc: Global, count: u8) -> Result<u64, Fail> {
 /// dnode, and the dnode again on the way to its block, and that block; and for each map the dnode once more as it is changed. Each of
 /// these eleven blocks takes two. Among 20 or more volumes an indirect block lies above the set's dnodes, on each way to one of them:
 /// five of a volume, and eight of maps. Nothing else grows.
-fn plan_counts(alloc: Global) -> Result<[u64; 3], Fail> {
+pub(crate) fn plan_counts(alloc: Global) -> Result<[u64; 3], Fail> {
     Ok([
         plan_reads_among(alloc, 3)?,
         plan_reads_among(alloc, 20)?,
         plan_reads_among(alloc, 70)?,
     ])
-}
-
-#[test]
-fn plans_do_not_grow_with_the_names(rt: HostRuntime) -> Result<(), Fail> {
-    assert!(rt; plan_counts(rt.alloc())? == [47, 73, 73]);
-    Ok(())
 }

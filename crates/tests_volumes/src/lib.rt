@@ -5,6 +5,8 @@
 #[cfg(test)]
 mod bad_maps;
 #[cfg(test)]
+mod cases;
+#[cfg(test)]
 mod chains;
 #[cfg(test)]
 mod contents;

@@ -67,24 +67,13 @@ fn is_replaced(root: &Block, store: &mut Store, alloc: Global) -> Result<bool, F
 /// records, the two dead lists, and the space maps of the two metaslabs where the volumes lie: all else has one copy, or two in two
 /// metaslabs. Of `w` there are two blocks, the object set and its dnodes, and of `v` besides an indirect block and the three of
 /// data. Seven of all are read: the root, its dnodes, two of `w` and three of `v`.
-fn outcomes(store: &mut Store, alloc: Global) -> Result<[bool; 3], Fail> {
+pub(crate) fn outcomes(store: &mut Store, alloc: Global) -> Result<[bool; 3], Fail> {
     let root = written_root(store, alloc)?;
     Ok([
         reached(&root, store, alloc, 7) == Ok(([3, 5, 12], 0)),
         reached(&root, store, alloc, 6) == Err(Refusal::BadPointer),
         is_replaced(&root, store, alloc)?,
     ])
-}
-
-fn outcomes_in_memory(alloc: Global) -> Result<[bool; 3], Fail> {
-    let mut store = new_store(alloc)?;
-    outcomes(&mut store, alloc)
-}
-
-#[test]
-fn a_root_leads_to_all_blocks_of_its_pool(rt: HostRuntime) -> Result<(), Fail> {
-    assert!(rt; outcomes_in_memory(rt.alloc())? == [true; 3]);
-    Ok(())
 }
 
 /// A directory in which each of these names has object 5.
@@ -133,15 +122,9 @@ fn reached_by(alloc: Global, letters: &[u8]) -> Result<Reached, Fail> {
 ///
 /// Four blocks have three copies: the root, the block of its set's dnodes, the directory's and the record's. Two have two: the
 /// volume's object set and its dnodes. Four of the six are read.
-fn twice(alloc: Global) -> Result<[bool; 2], Fail> {
+pub(crate) fn twice(alloc: Global) -> Result<[bool; 2], Fail> {
     Ok([
         reached_by(alloc, b"v")? == Ok(([0, 2, 4], 96)),
         reached_by(alloc, b"vw")? == Err(Refusal::BadPointer),
     ])
-}
-
-#[test]
-fn a_volume_with_two_names_is_refused(rt: HostRuntime) -> Result<(), Fail> {
-    assert!(rt; twice(rt.alloc())? == [true; 2]);
-    Ok(())
 }

@@ -4,7 +4,7 @@ ghost use Rattle.dnode.specs.ObjectSet.{FitsObjectSet};
 ghost use Rattle.meta_objset.specs.Record.{FitsRecord};
 
 use crate::sets::{EMPTY, name_of, record_of, root_block, volume_block, with};
-use crate::stores::{Store, new_store, store_plan};
+use crate::stores::{Store, store_plan};
 use block_pointer::Block;
 use dataset_snapshots::{Dataset, FirstRoot, find, first_group};
 use dnode::ObjectSet;
@@ -62,7 +62,7 @@ pub(crate) fn find_letter(
 }
 
 /// What the root has of the name `v`: its object, its record and its size; and whether it has nothing of `w`.
-fn outcomes(store: &mut Store, alloc: Global) -> Result<[bool; 4], Fail> {
+pub(crate) fn outcomes(store: &mut Store, alloc: Global) -> Result<[bool; 4], Fail> {
     let record = record_of(volume_block(store, alloc)?, 1);
     let root = root_with(store, alloc, &record)?;
     let found = find_letter(&root, store, alloc, b'v')?;
@@ -76,17 +76,6 @@ fn outcomes(store: &mut Store, alloc: Global) -> Result<[bool; 4], Fail> {
         dataset.volume.size() == record.size,
         none.is_none(),
     ])
-}
-
-fn outcomes_in_memory(alloc: Global) -> Result<[bool; 4], Fail> {
-    let mut store = new_store(alloc)?;
-    outcomes(&mut store, alloc)
-}
-
-#[test]
-fn a_name_is_found_under_a_root(rt: HostRuntime) -> Result<(), Fail> {
-    assert!(rt; outcomes_in_memory(rt.alloc())? == [true; 4]);
-    Ok(())
 }
 
 /// The first root of a pool, born in group 1, after what a group has accepted, once it is stored.
@@ -121,19 +110,8 @@ pub(crate) fn create_empty(store: &mut Store, alloc: Global) -> Result<Block, Fa
 }
 
 /// Whether a root with no volumes is born in its group, and has nothing of the name `v`.
-fn is_created(store: &mut Store, alloc: Global) -> Result<[bool; 2], Fail> {
+pub(crate) fn is_created(store: &mut Store, alloc: Global) -> Result<[bool; 2], Fail> {
     let root = create_empty(store, alloc)?;
     let found = find_letter(&root, store, alloc, b'v')?;
     Ok([root.birth == 1, found.is_none()])
-}
-
-fn is_created_in_memory(alloc: Global) -> Result<[bool; 2], Fail> {
-    let mut store = new_store(alloc)?;
-    is_created(&mut store, alloc)
-}
-
-#[test]
-fn a_root_is_created_with_no_volumes(rt: HostRuntime) -> Result<(), Fail> {
-    assert!(rt; is_created_in_memory(rt.alloc())? == [true; 2]);
-    Ok(())
 }

@@ -2,7 +2,7 @@
 ghost use Rattle.std.specs.Prelude.{◌≡◌, ◌+◌, ◌≤◌, IfOk};
 ghost use Rattle.volume.specs.Volume.{size_of, block_size_of, HasShape};
 
-use crate::stores::{Store, new_store, store_plan};
+use crate::stores::{Store, store_plan};
 use pool_model::{Bytes, Item, Name, Write};
 use std::alloc::{AllocError, Global};
 use std::test::Fail;
@@ -161,7 +161,7 @@ fn reads_as(
 }
 
 /// How many blocks gave way, and whether the volume after the writes and the one before read as they are to.
-fn outcomes(store: &mut Store, alloc: Global) -> Result<(usize, bool, bool), Refusal> {
+pub(crate) fn outcomes(store: &mut Store, alloc: Global) -> Result<(usize, bool, bool), Refusal> {
     let before = made(store, alloc)?;
     let Rewritten { volume, replaced } = rewritten(&before, store, alloc, false)?;
     let replaced = replaced.len();
@@ -171,22 +171,8 @@ fn outcomes(store: &mut Store, alloc: Global) -> Result<(usize, bool, bool), Ref
     Ok((replaced, near && far, old))
 }
 
-type Outcomes = Result<(usize, bool, bool), Refusal>;
-
-fn outcomes_in_memory(alloc: Global) -> Result<Outcomes, Fail> {
-    let mut store = new_store(alloc)?;
-    Ok(outcomes(&mut store, alloc))
-}
-
-#[test]
-fn a_volume_reads_as_it_was_written(rt: HostRuntime) -> Result<(), Fail> {
-    // The block of the dnodes, and that of the object set.
-    assert!(rt; outcomes_in_memory(rt.alloc())? == Ok((2, true, true)));
-    Ok(())
-}
-
 /// Whether writes that are put in one call make the volume that they are to make.
-fn is_written_at_once(store: &mut Store, alloc: Global) -> Result<bool, Refusal> {
+pub(crate) fn is_written_at_once(store: &mut Store, alloc: Global) -> Result<bool, Refusal> {
     let before = made(store, alloc)?;
     let Rewritten { volume, replaced } = rewritten(&before, store, alloc, true)?;
     let are_two = replaced.len() == 2;
@@ -194,33 +180,11 @@ fn is_written_at_once(store: &mut Store, alloc: Global) -> Result<bool, Refusal>
     Ok(are_two && is_near)
 }
 
-fn is_written_in_memory(alloc: Global) -> Result<Result<bool, Refusal>, Fail> {
-    let mut store = new_store(alloc)?;
-    Ok(is_written_at_once(&mut store, alloc))
-}
-
-#[test]
-fn a_volume_is_written_in_one_call(rt: HostRuntime) -> Result<(), Fail> {
-    assert!(rt; is_written_in_memory(rt.alloc())? == Ok(true));
-    Ok(())
-}
-
 /// Whether a volume is refused whose blocks have another size than the set's.
-fn is_other_size_refused(store: &mut Store, alloc: Global) -> Result<bool, Refusal> {
+pub(crate) fn is_other_size_refused(store: &mut Store, alloc: Global) -> Result<bool, Refusal> {
     let before = made(store, alloc)?;
     let done = rewritten(&before, store, alloc, false)?;
     let other = VolumeSet::new(SIZE, 1024, done.volume.block());
     let found = bytes_at(&other, store, alloc, 0, 2);
     Ok(matches!(found, Err(Refusal::BadPointer)))
-}
-
-fn is_refused_in_memory(alloc: Global) -> Result<Result<bool, Refusal>, Fail> {
-    let mut store = new_store(alloc)?;
-    Ok(is_other_size_refused(&mut store, alloc))
-}
-
-#[test]
-fn blocks_of_another_size_are_refused(rt: HostRuntime) -> Result<(), Fail> {
-    assert!(rt; is_refused_in_memory(rt.alloc())? == Ok(true));
-    Ok(())
 }
