@@ -1,5 +1,5 @@
 -- What a device shows once its hold is given back, or its group committed.
-use Rattle.std.proofs.Common.{◌≡◌, inl, inr, ℕ, suc, false, Option, Some, None, refl, sym, ap, ◌∙◌, subst}
+use Rattle.std.proofs.Common.{◌≡◌, inl, inr, ℕ, suc, Bool, false, Option, Some, None, refl, sym, ap, ◌∙◌, subst}
 use Rattle.pool_model.specs.declared.refusal.Refusal.{Refusal}
 use Rattle.pool_model.specs.declared.step.Step.{Step}
 use Rattle.pool_model.specs.declared.step.Step.TheVariants as step
@@ -56,6 +56,10 @@ module _ {P : Type 0} (g : Ghosts P) where
       let one = leads c shows both.0 in
       let two = more one.0 one.1 both.1 in
       (two.0, two.1, subst (λ (x : Contents). becomes x two.0) one.2 two.2)
+
+  -- a hold changes nothing else of the session
+  pub refused_kept : (old new : Device P) (core : P) (held : Bool) → new ≡ record old { core = core; held = held } → new.refused ≡ old.refused
+  refused_kept old new core held is = ap (λ (d : Device P). d.refused) is
 
   pub caused_then : CameFurther → (takes : Step → Type 0) (old mid new : Device P) (cause : Refusal) → g.came_from old.core mid.core → mid.refused ≡ old.refused → IsCaused g takes mid new cause → IsCaused g takes old new cause
   caused_then further takes old mid new cause first same (inl lacks) = inl lacks

@@ -117,8 +117,8 @@ impl<P: PoolSteps> Device<P> {
     ///
     /// The offset and the length are whole sectors of 512 bytes: else `Misaligned`. `NoSuchName` where no volume has the name, as
     /// where a snapshot has it; `OutOfRange` where a part lies past the end; `NotYet` where the volume was made by the open group. An
-    /// error leaves a front of the bytes written, maybe none or all, and nothing more committed. Once a commit was refused this is
-    /// the answer to each write, and no step is taken.
+    /// error leaves a front of the bytes written, maybe none or all, and nothing more committed. Once a commit was refused its cause
+    /// is the answer to each write, and no step is taken.
     pub fn write(&mut self, alloc: Global, offset: u64, bytes: &[u8]) -> Result<(), Refusal>
         ensures follows { P.came_from (core_of self.old) (core_of self.new) }
         ensures name { name_of self.new ≡ name_of self.old }
@@ -271,8 +271,8 @@ impl<P: PoolSteps> Device<P> {
 
     /// Commits all that was written. With nothing written since the last commit it takes no step, but that a hold is given back.
     ///
-    /// `NoSpace`, `Suspended`, `DiskFault` or `NoMemory` where the group can't be committed: nothing of it is, and from then on this is
-    /// the answer to each write and flush. What was written can still be read.
+    /// `NoSpace`, `Suspended`, `NoMemory` or what a read is refused for, where the group can't be committed: nothing of it is, and from
+    /// then on this cause is the answer to each write and flush. What was written can still be read.
     pub fn flush(&mut self) -> Result<(), Refusal>
         ensures follows { P.came_from (core_of self.old) (core_of self.new) }
         ensures name { name_of self.new ≡ name_of self.old }

@@ -1,10 +1,9 @@
-use Rattle.std.proofs.Common.{ap}
+use Rattle.std.proofs.Common.{false}
 use Rattle.std.proofs.lemmas.Result.{IfErr-weaker, on_ok_weaker}
 use Rattle.pool_model.specs.declared.refusal.Refusal.{Refusal}
 use Rattle.volume_device.specs.Causes.{flushing}
 use Rattle.volume_device.specs.Contents.{IsFlushed, IsSame}
-use Rattle.volume_device.specs.declared.device.Device.{Device}
-use Rattle.volume_device.proofs.Flushing.{caused_then, same_then}
+use Rattle.volume_device.proofs.Flushing.{caused_then, refused_kept, same_then}
 use Rattle.volume_device.proofs.device.Device.flush.Goals as goal
 
 pub returns-clause-flushed : goal.returns-clause-flushed
@@ -24,4 +23,4 @@ returns-clause-caused g c =
     let p = g.P.PoolSteps in
     let first = c.in_ok-release.ensures in
     IfErr-weaker c.commit.result _ _
-    (λ (cause : Refusal). caused_then p g.met.P.PoolSteps.came_further flushing c.args.self.now c.release.new.self c.commit.new.self cause first.follows (ap (λ (d : Device g.row.P.Denot). d.refused) first.released)) c.commit.ensures.caused
+    (λ (cause : Refusal). caused_then p g.met.P.PoolSteps.came_further flushing c.args.self.now c.release.new.self c.commit.new.self cause first.follows (refused_kept p c.args.self.now c.release.new.self c.release.new.self.core false first.released)) c.commit.ensures.caused

@@ -1,12 +1,11 @@
-use Rattle.std.proofs.Common.{ap, subst}
+use Rattle.std.proofs.Common.{true, subst}
 use Rattle.std.proofs.lemmas.Result.{IfErr-weaker, on_ok_weaker}
 use Rattle.pool_model.specs.declared.item.Write.{Write}
 use Rattle.pool_model.specs.declared.refusal.Refusal.{Refusal}
 use Rattle.volume_device.specs.Causes.{IsCaused, writing}
 use Rattle.volume_device.specs.Contents.{IsSame, IsWrittenOn}
 use Rattle.volume_device.specs.Devices.{Leads}
-use Rattle.volume_device.specs.declared.device.Device.{Device}
-use Rattle.volume_device.proofs.Flushing.{caused_then, same_then}
+use Rattle.volume_device.proofs.Flushing.{caused_then, refused_kept, same_then}
 use Rattle.volume_device.proofs.Holding.{passed_on}
 use Rattle.volume_device.proofs.device.Device.write_piece.Goals as goal
 
@@ -45,5 +44,5 @@ returns-clause-caused g c =
     let is = c.in_ok-write.ensures.write in
     IfErr-weaker c.take.result _ _
     (λ (cause : Refusal). λ caused. subst (λ (x : Write). IsCaused p (writing x.volume x.offset x.bytes) old new cause) is
-    (caused_then p g.met.P.PoolSteps.came_further (writing c.in_ok-write.write.volume c.in_ok-write.write.offset c.in_ok-write.write.bytes) old mid new cause first.follows (ap (λ (d : Device g.row.P.Denot). d.refused) first.held) caused))
+    (caused_then p g.met.P.PoolSteps.came_further (writing c.in_ok-write.write.volume c.in_ok-write.write.offset c.in_ok-write.write.bytes) old mid new cause first.follows (refused_kept p old mid mid.core true first.held) caused))
     c.take.ensures.caused
