@@ -10,7 +10,7 @@ use Rattle.pool_model.specs.declared.refusal.Refusal.{Refusal}
 use Rattle.pool_model.specs.declared.step.Step.{Step}
 use Rattle.pool_steps.specs.declared.steps.PoolSteps.{Ghosts}
 use Rattle.volume_device.specs.Causes.{IsCaused, flushing, reading, writing}
-use Rattle.volume_device.specs.Contents.{AreRead}
+use Rattle.volume_device.specs.Contents.{AreRead, IsWritten}
 use Rattle.volume_device.specs.Devices.{Leads, core_of, name_of}
 use Rattle.volume_device.specs.declared.device.Device.{Device}
 use Rattle.nbd_serve.specs.Exchanges.{BecomesOf, Exchange, payload_len, reply_len}
@@ -32,16 +32,17 @@ module _ {P : Type 0} (steps : Ghosts P) where
     pub code_is : code ≡ Io
 
   -- all was written, but the flush behind it was refused
-  pub record IsUnflushed (head : RequestHead) (old : Device P) (code : ErrorCode) (new : Device P) : Type 0 where
-    pub forced : is_forced head ≡ true
+  pub record IsUnflushed (e : Exchange) (old : Device P) (code : ErrorCode) (new : Device P) : Type 0 where
+    pub forced : is_forced e.head ≡ true
     pub between : Device P
-    pub written : steps.came_from (core_of old) (core_of between)
+    pub follows : steps.came_from (core_of old) (core_of between)
+    pub written : Leads steps old between (IsWritten (name_of old) e.head.offset e.payload)
     pub refused : IsPoolsRefusal flushing error_of between code new
 
   -- why the pool, once asked, didn't do what the command says
   abbrev pub Fails : Option Command → Exchange → Device P → ErrorCode → Device P → Type 0
   Fails (Some Read) e old code new = IsPoolsRefusal (reading (name_of old) e.head.offset e.head.len) error_of old code new ⊎ IsMisread e.head old code new
-  Fails (Some Write) e old code new = IsPoolsRefusal (writing (name_of old) e.head.offset e.payload) error_of_write old code new ⊎ IsUnflushed e.head old code new
+  Fails (Some Write) e old code new = IsPoolsRefusal (writing (name_of old) e.head.offset e.payload) error_of_write old code new ⊎ IsUnflushed e old code new
   Fails (Some Flush) e old code new = IsPoolsRefusal flushing error_of old code new
   Fails other e old code new = ⊥
 

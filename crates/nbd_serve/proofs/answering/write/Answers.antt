@@ -63,4 +63,4 @@ returns-in-Err-flush g c =
     (laws.came_further (core_of old) (core_of mid) (core_of new) c.write.ensures.follows c.flush.ensures.follows) (c.flush.ensures.name ∙ c.write.ensures.name)
     (leads_also steps old new (λ c d. (m : Contents) × IsWritten here head.offset bytes c m × IsSame m d) (IsNotDone (is_forced head) here head.offset bytes)
     (λ c d w. inr (inr (forced, subst (IsWritten here head.offset bytes c) (sym w.2) w.1))) written)
-    (inr (record { forced = forced; between = mid; written = c.write.ensures.follows; refused = record { cause = c.in-Err-flush.cause; code_is = c.error_of.ensures; caused = c.in-Err-flush.ensures.caused } }))
+    (inr (record { forced = forced; between = mid; follows = c.write.ensures.follows; written = c.in_default.ensures.written; refused = record { cause = c.in-Err-flush.cause; code_is = c.error_of.ensures; caused = c.in-Err-flush.ensures.caused } }))
