@@ -1,24 +1,27 @@
 -- Reads, piece by piece.
-use Rattle.std.proofs.Common.{◌≡◌, ⊎_elim, ℕ, ◌+◌, ◌-◌, ◌≤◌, List, ◌++◌, take, drop, true, Some, sym, ap, ◌∙◌, subst, arith}
+use Rattle.std.proofs.Common.{◌≡◌, ⊎_elim, ℕ, ◌+◌, ◌-◌, ◌≤◌, List, [], ◌∷◌, ◌++◌, take, drop, Bool, true, false, not, Option, Some, None, refl, sym, ap, ◌∙◌, subst, arith}
 use Rattle.std.specs.Prelude.{slice_range}
 use Rattle.std.proofs.Math.Seq.{take-add}
 use Rattle.std.proofs.lemmas.List.{drop-drop}
 use Rattle.pool_model.specs.declared.refusal.Refusal.{Refusal}
+use Rattle.pool_model.specs.declared.refusal.Refusal.TheVariants.{OutOfRange}
 use Rattle.pool_model.specs.declared.step.Step.{Step}
 use Rattle.pool_model.specs.declared.step.Step.TheVariants as step
 use Rattle.pool_model.specs.declared.step.Reply.{Reply}
 use Rattle.pool_model.specs.declared.step.Reply.TheVariants as reply
 use Rattle.pool_model.specs.declared.volume.PlainVolume.{PlainVolume}
 use Rattle.pool_model.specs.Machine.{AreBytesOf, IsAnswered, IsRefused, LacksMemory, MayAnswer, StepOf}
-use Rattle.pool_model.specs.Pools.{PlainPool}
+use Rattle.pool_model.specs.Pools.{PlainPool, volume_at}
+use Rattle.pool_model.specs.Refusals.{first_cause, is_in_range, read_refusal}
 use Rattle.pool_model.specs.View.{View, Given, now_of}
 use Rattle.pool_steps.specs.declared.steps.PoolSteps.{Ghosts}
 use Rattle.volume_device.specs.Causes.{IsCaused, reading}
-use Rattle.volume_device.specs.Contents.{AreRead, Contents, IsSame}
+use Rattle.volume_device.specs.Contents.{AreRead, Contents, HasRange, IsSame}
 use Rattle.volume_device.specs.Devices.{Leads}
 use Rattle.volume_device.specs.declared.device.Device.{Device}
 use Rattle.volume_device.proofs.Flushing.{CameFurther, EachGoes, PartsAreTrue, caused_in, caused_then}
 use Rattle.volume_device.proofs.Holding.{unchanged}
+use Rattle.volume_device.proofs.Writing.{in_range, not_false}
 
 -- ---- ranges
 
@@ -47,6 +50,9 @@ both_read pool name offset n m first second one two = (
   (λ i. one.2 i ++ (two.2 ∙ ap (λ (v : PlainVolume). slice_range v.bytes (offset + n) (offset + n + m)) (some_is two.0 one.0 (sym two.1 ∙ one.1))) i) ∙ joined one.0.bytes offset n m,
 )
 
+range_joined : (pool : PlainPool) (name : List ℕ) (offset n m : ℕ) → HasRange pool name (offset + n) m → HasRange pool name offset (n + m)
+range_joined pool name offset n m range = record { volume = range.volume; there = range.there; within = let w = range.within in omega arith }
+
 -- ---- steps
 
 read_same : (name : List ℕ) (offset len : ℕ) (r : Reply) (v : View) (given : Given) (w : View) → MayAnswer v given (step.Read name offset len) r w → w ≡ v
@@ -64,13 +70,26 @@ reads_keep name offset len r v given w is = ⊎_elim
     more)
     is
 
+only_none : (b : Bool) (cause : Refusal) → first_cause ((b, cause) ∷ []) ≡ None → b ≡ false
+only_none true cause e = absurd cc
+only_none false cause e = refl
+
+-- a read that is not refused by its place lies within what stands there
+within : (pool : PlainPool) (name : List ℕ) (offset len : ℕ) (found : Option PlainVolume) → volume_at name pool ≡ found → read_refusal offset len found ≡ None → HasRange pool name offset len
+within pool name offset len None there e = absurd cc
+within pool name offset len (Some volume) there e = record {
+  volume = volume;
+  there = there;
+  within = in_range offset len volume (not_false (is_in_range offset len volume) (only_none (not (is_in_range offset len volume)) OutOfRange e));
+}
+
 -- what it gives is NOW's
-gives : (name : List ℕ) (offset len : ℕ) (bytes : List ℕ) (v : View) (given : Given) (w : View) → given.trusted ≡ true → StepOf v given (step.Read name offset len) (reply.Bytes bytes) w → AreBytesOf (now_of v) name offset len bytes
+gives : (name : List ℕ) (offset len : ℕ) (bytes : List ℕ) (v : View) (given : Given) (w : View) → given.trusted ≡ true → StepOf v given (step.Read name offset len) (reply.Bytes bytes) w → AreBytesOf (now_of v) name offset len bytes × HasRange (now_of v) name offset len
 gives name offset len bytes v given w trusted is = ⊎_elim
     (λ (y : IsRefused v given (step.Read name offset len) (reply.Bytes bytes) w). let e = y.answer in absurd cc)
     (λ more. ⊎_elim
     (λ (y : LacksMemory v given (step.Read name offset len) (reply.Bytes bytes) w). let e = y.answer in absurd cc)
-    (λ (y : IsAnswered v given (step.Read name offset len) (reply.Bytes bytes) w). y.answered.0 trusted)
+    (λ (y : IsAnswered v given (step.Read name offset len) (reply.Bytes bytes) w). (y.answered.0 trusted, within (now_of v) name offset len (volume_at name (now_of v)) refl y.none))
     more)
     is
 
@@ -87,7 +106,11 @@ module _ {P : Type 0} (g : Ghosts P) where
       let same = unchanged g old new (step.Read old.name offset len) (reply.Bytes bytes) (reads_keep old.name offset len (reply.Bytes bytes)) goes c shows truly in (
         same.0,
         same.1,
-        (subst (λ (p : PlainPool). AreBytesOf p old.name offset len bytes) shows.now (gives old.name offset len bytes shows.view one.given one.after one.trusted one.is_step), same.2),
+        (
+          (subst (λ (p : PlainPool). AreBytesOf p old.name offset len bytes) shows.now (gives old.name offset len bytes shows.view one.given one.after one.trusted one.is_step).0),
+          same.2,
+          (subst (λ (p : PlainPool). HasRange p old.name offset len) shows.now (gives old.name offset len bytes shows.view one.given one.after one.trusted one.is_step).1),
+        ),
       )
 
   pub not_read_leads : (old : Device P) (new : P) (offset len : ℕ) (r : Reply) → EachGoes g old.core (step.Read old.name offset len) r new → Leads g old (record old { core = new }) IsSame
@@ -119,6 +142,10 @@ module _ {P : Type 0} (g : Ghosts P) where
                 (subst (λ (n : ℕ). AreBytesOf c.now mid.name n count piece) place
                 (subst (λ (d : Contents). AreBytesOf d.now mid.name at count piece) first.2.1 second.2.0))),
             second.2.1 ∙ first.2.1,
+            range_joined c.now old.name offset done count
+                (subst (λ (n : List ℕ). HasRange c.now n (offset + done) count) name
+                (subst (λ (n : ℕ). HasRange c.now mid.name n count) place
+                (subst (λ (d : Contents). HasRange d.now mid.name at count) first.2.1 second.2.2))),
           ),
         );
   }

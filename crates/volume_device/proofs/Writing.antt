@@ -48,11 +48,11 @@ none_of_four false false true d first second third fourth e = absurd cc
 none_of_four false false false true first second third fourth e = absurd cc
 none_of_four false false false false first second third fourth e = (refl, refl)
 
-not_false : (b : Bool) → not b ≡ false → b ≡ true
+pub not_false : (b : Bool) → not b ≡ false → b ≡ true
 not_false true e = refl
 not_false false e = absurd cc
 
-in_range : (offset len : ℕ) (volume : PlainVolume) → is_in_range offset len volume ≡ true → offset + len ≤ length volume.bytes
+pub in_range : (offset len : ℕ) (volume : PlainVolume) → is_in_range offset len volume ≡ true → offset + len ≤ length volume.bytes
 in_range offset len volume e = grind (arith, nat_tests, e)
 
 -- where a write is not refused by its place it fits there

@@ -26,9 +26,15 @@ pub record IsOverwritten (name : List ℕ) (offset : ℕ) (bytes : List ℕ) (be
 abbrev pub IsSame : Contents → Contents → Type 0
 IsSame c d = d ≡ c
 
--- these bytes are that range of the volume, and nothing has changed
+-- the range lies within the volume or snapshot of that name
+pub record HasRange (pool : PlainPool) (name : List ℕ) (offset len : ℕ) : Type 0 where
+  pub volume : PlainVolume
+  pub there : volume_at name pool ≡ Some volume
+  pub within : offset + len ≤ length volume.bytes
+
+-- these bytes are that range of the volume, which lies within it, and nothing has changed
 abbrev pub AreRead : List ℕ → ℕ → ℕ → List ℕ → Contents → Contents → Type 0
-AreRead name offset len bytes c d = AreBytesOf c.now name offset len bytes × (d ≡ c)
+AreRead name offset len bytes c d = AreBytesOf c.now name offset len bytes × (d ≡ c) × HasRange c.now name offset len
 
 -- the range lies within the volume of that name, which is no snapshot
 pub record FitsIn (pool : PlainPool) (name : List ℕ) (offset len : ℕ) : Type 0 where
