@@ -1,7 +1,7 @@
 -- Lives of a pool, from place to place.
 use Rattle.std.proofs.Common.{◌≡◌, inr, ⊎_elim, ◌<◌, ◌≤◌, ℕ, suc, ◌*◌, Bool, true, false, List, [], ◌∷◌, ◌++◌, length, refl, sym, ap, subst, ◌∙◌, arith}
 use Rattle.std.specs.Prelude.{All, ◌==◌, ◌^◌, if◌then◌else◌}
-use Rattle.std.proofs.lemmas.List.{length-append}
+use Rattle.std.proofs.lemmas.List.{append_cancel_left, length-append}
 use Rattle.std.proofs.lemmas.List.Elements.{All-head, All-tail}
 use Rattle.model_disk.specs.Joint.{Disks}
 use Rattle.model_disk.specs.declared.disk.Disk as disk
@@ -13,6 +13,7 @@ use Rattle.vdev_label.specs.Limits.{IsAllowed, IsAllowedVdev}
 use Rattle.vdev_label.specs.Plain.{PlainVdev, config_view}
 use Rattle.vdev_label.specs.declared.label.Config.{Config}
 use Rattle.pool_create.specs.Backs.{pool_after}
+use Rattle.pool_create.specs.CoreRuns.{Ran}
 use Rattle.pool_create.specs.CoreState.{CoreState, disks_of}
 use Rattle.pool_create.specs.OpenOpening.{IsKeptThrough}
 use Rattle.pool_create.specs.Opens.{IsOpened}
@@ -111,30 +112,35 @@ by_group : (v : View) → AreByGroup (pool_of v)
 by_group v u other same = ap (λ (group : ℕ). if group == suc v.committed then pool_after v else v.pools group) same
 
 module _ {D : Type 0} (g : disk.Ghosts D) (laws : Laws g) (pool : PoolIdentity) (vdevs : List PlainVdev) (digest : List ℕ) where
-  runs_on : (core later : CoreState) (v : View) (last : Uberblock) (before : List Uberblock) (steps : List Step) → IsUp pool vdevs digest core v last before
-      → IsRun core steps later → GoesOn pool vdevs digest (Serving v last before) (Runs steps) (Up later)
-  runs_on core later v last before steps is run =
+  runs_on : (core later : CoreState) (v : View) (last : Uberblock) (before : List Uberblock) (steps : List Step) (replies : List Reply)
+      → IsUp pool vdevs digest core v last before → IsRun core steps replies later
+      → GoesOn pool vdevs digest (Serving v last before) (Runs steps replies) (Up later)
+  runs_on core later v last before steps replies is run =
       let ran = run.ran.3 v true is.so.runs.represents (λ trust. run.honest) (trusted run.ran.0) in
       let links = ran.0 in
+      let same : run.ran.0 ≡ replies = sym (append_cancel_left run.before replies run.ran.0 run.ran.1) in
       let it = chain_on laws.stops.none_was laws.stops.stay pool vdevs digest core v steps links.givens run.ran.0 later links.after last before is.so is.on
       links.chain run.all in (
         Serving links.after it.later it.earlier,
         record {
           givens = links.givens;
-          replies = run.ran.0;
-          run = ran.1;
-          headline = ran.2;
+          run = subst (λ (them : List Reply). Run v steps links.givens them links.after) same ran.1;
+          headline = subst (λ (them : List Reply). Headline v steps links.givens them links.after) same ran.2;
           commits = it.commits;
           committed = it.committed;
           group = sym it.so.runs.group;
         },
-        record { so = it.so; on = it.on; known = chain_known laws.stops.none_was core v steps links.givens run.ran.0 later links.after links.chain run.all is.known },
+        record {
+          so = it.so;
+          on = it.on;
+          known = chain_known laws.stops.none_was core v steps links.givens run.ran.0 later links.after links.chain run.all is.known;
+        },
       )
 
   stops_on : (core : CoreState) (images : List (List ℕ)) (v : View) (last : Uberblock) (before : List Uberblock) (steps : List Step) (at : Disks)
       → IsUp pool vdevs digest core v last before → IsRunStopped core steps at images
       → GoesOn pool vdevs digest (Serving v last before) (StopsRunning steps at) (Down images)
-  stops_on core images v last before steps at is (new, run, leaves, same) =
+  stops_on core images v last before steps at is (new, all_replies, run, leaves, same) =
       let ran = run.ran.3 v true is.so.runs.represents (λ trust. run.honest) (trusted run.ran.0) in
       let links = ran.0 in
       let it = subst (λ (m : Disks). Stopped pool vdevs digest v last before steps m images) (sym same)
@@ -148,9 +154,9 @@ module _ {D : Type 0} (g : disk.Ghosts D) (laws : Laws g) (pool : PoolIdentity) 
           w = it.w;
           later = it.later;
           earlier = it.earlier;
+          replies = it.replies;
           takes = record {
             givens = it.givens;
-            replies = it.replies;
             run = it.run;
             headline = laws.headline v it.taken it.givens it.replies it.w is.so.runs.represents.follows.sound it.run;
             commits = it.commits;
@@ -234,7 +240,7 @@ module _ {D : Type 0} (g : disk.Ghosts D) (laws : Laws g) (pool : PoolIdentity) 
 
   up_goes : (core : CoreState) (v : View) (last : Uberblock) (before : List Uberblock) (it : Happening) (next : Place)
       → IsUp pool vdevs digest core v last before → Goes g (Up core) it next → GoesOn pool vdevs digest (Serving v last before) it next
-  up_goes core v last before (Runs steps) (Up later) is goes = runs_on core later v last before steps is goes
+  up_goes core v last before (Runs steps replies) (Up later) is goes = runs_on core later v last before steps replies is goes
   up_goes core v last before (StopsRunning steps at) (Down images) is goes = stops_on core images v last before steps at is goes
   up_goes core v last before Exports (Down images) is goes = exports_on core images v last before is goes
   up_goes core v last before _ _ is goes = absurd goes
@@ -295,7 +301,12 @@ module _ {D : Type 0} where
   pub lives_go_on : (g : disk.Ghosts D) → UnfoundDisksAreReturned g → LivesGoOn g
   lives_go_on g law = record {
     on = λ from to next its it life goes. go_on g from to next its it life goes;
-    runs = λ old new steps before after ran honest all. record { before = before; after = after; ran = ran; honest = honest; all = all };
+    runs = λ old new steps before after ran honest all. record {
+      before = before;
+      ran = subst (λ (them : List Reply). Ran old steps before new them) ran.1 ran;
+      honest = honest;
+      all = all;
+    };
     exports = λ core disks images put honest left. (put.u, put.new, put.done.begun, honest, left);
     refused_exports = λ core refusal disks images given honest left. (given.u, given.new, given.stopped.begun, honest, left);
     opens = λ images disks order rewind claimed core returned is truly none.

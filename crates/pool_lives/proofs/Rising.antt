@@ -23,14 +23,14 @@ behind_claim p later rewind is = ⊎_elim (λ same. ap (λ (q : Possible). q.las
 -- what happens raises a claim, or leaves it
 abbrev Raises : ℕ → Happening → ℕ → Type 0
 Raises claim (Opens rewind u) next = (claim < u.claim) × (next ≡ u.claim)
-Raises claim (Runs steps) next = next ≡ claim
+Raises claim (Runs steps replies) next = next ≡ claim
 Raises claim (StopsRunning steps at) next = next ≡ claim
 Raises claim Exports next = next ≡ claim
 Raises claim (StopsOpening rewind) next = next ≡ claim
 Raises claim (FindsNone rewind) next = next ≡ claim
 
 raises : (known : Known) (it : Happening) (next : Known) → Tells known it next → Raises (claim_of known) it (claim_of next)
-raises (Serving v last before) (Runs steps) (Serving w later earlier) tells = same_claim last before tells.commits later earlier tells.committed
+raises (Serving v last before) (Runs steps replies) (Serving w later earlier) tells = same_claim last before tells.commits later earlier tells.committed
 raises (Serving v last before) (StopsRunning steps at) (Resting p pools) tells =
     ⊎_elim (λ only. ap (λ (q : Possible). q.last.claim) only) (λ either. ap (λ (q : Possible). q.last.claim) either.3) tells.which
     ∙ same_claim last before tells.takes.commits tells.later tells.earlier tells.takes.committed
@@ -45,7 +45,7 @@ rise known [] to tale = tt
 rise known (Opens rewind u ∷ its) to (next, tells, tale) =
     let raised = raises known (Opens rewind u) next tells in
     (raised.0, subst (λ (n : ℕ). ClaimsRise n its) raised.1 (rise next its to tale))
-rise known (Runs steps ∷ its) to (next, tells, tale) = subst (λ (n : ℕ). ClaimsRise n its) (raises known (Runs steps) next tells) (rise next its to tale)
+rise known (Runs steps replies ∷ its) to (next, tells, tale) = subst (λ (n : ℕ). ClaimsRise n its) (raises known (Runs steps replies) next tells) (rise next its to tale)
 rise known (StopsRunning steps at ∷ its) to (next, tells, tale) =
     subst (λ (n : ℕ). ClaimsRise n its) (raises known (StopsRunning steps at) next tells) (rise next its to tale)
 rise known (Exports ∷ its) to (next, tells, tale) = subst (λ (n : ℕ). ClaimsRise n its) (raises known Exports next tells) (rise next its to tale)

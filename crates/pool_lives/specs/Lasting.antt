@@ -34,7 +34,7 @@ use Rattle.pool_lives.specs.Tales.{IsTale, Known, Resting, Serving}
 abbrev pub ClaimsRise : ℕ → List Happening → Type 0
 ClaimsRise claim [] = Unit {0}
 ClaimsRise claim (Opens rewind u ∷ its) = (claim < u.claim) × ClaimsRise u.claim its
-ClaimsRise claim (Runs steps ∷ its) = ClaimsRise claim its
+ClaimsRise claim (Runs steps replies ∷ its) = ClaimsRise claim its
 ClaimsRise claim (StopsRunning steps at ∷ its) = ClaimsRise claim its
 ClaimsRise claim (Exports ∷ its) = ClaimsRise claim its
 ClaimsRise claim (StopsOpening rewind ∷ its) = ClaimsRise claim its
@@ -63,8 +63,8 @@ module _ {D : Type 0} where
   -- A life goes on with what happens next; and each public call is something that happens, by what it ensures.
   pub record LivesGoOn (g : disk.Ghosts D) : Type 0 where
     pub on : (from to next : Place) (its : List Happening) (it : Happening) → IsLife g from its to → Goes g to it next → IsLife g from (its ++ it ∷ []) next
-    pub runs : (old new : CoreState) (steps : List Step) (before after : List Reply) → Ran old steps before new after
-        → IsHonestSince (disks_of old) (disks_of new) → NoneIsOut new.commit → Goes g (Up old) (Runs steps) (Up new)
+    pub runs : (old new : CoreState) (steps : List Step) (before after : List Reply) → (ran : Ran old steps before new after)
+        → IsHonestSince (disks_of old) (disks_of new) → NoneIsOut new.commit → Goes g (Up old) (Runs steps ran.0) (Up new)
     pub exports : (core : CoreState) (disks : List D) (images : List (List ℕ)) → (put : IsPutAway g core disks) → IsHonestSince (disks_of core) put.new
         → IsLeft (outs_of core) (disks_of core) put.new images → Goes g (Up core) Exports (Down images)
     pub refused_exports : (core : CoreState) (refusal : ExportRefusal) (disks : List D) (images : List (List ℕ)) → (given : IsGivenBack g core refusal disks)

@@ -1,5 +1,5 @@
 -- Lives of a pool: what its public calls did, one after another, and the stops in them. All disks are there, and answer truly.
-use Rattle.std.specs.Prelude.{ℕ, ◌≡◌, ◌⊎◌, ◌<◌, Bool, List, [], ◌∷◌}
+use Rattle.std.specs.Prelude.{ℕ, ◌≡◌, ◌⊎◌, ◌<◌, Bool, List, [], ◌∷◌, ◌++◌}
 use Rattle.model_disk.specs.Joint.{Disks}
 use Rattle.model_disk.specs.declared.disk.Disk as disk
 use Rattle.raidz_io.specs.Reads.{IsHonestSince}
@@ -30,28 +30,27 @@ pub data Place : Type 0 where
   Up : CoreState → Place
   Down : List (List ℕ) → Place
 
--- A run takes steps, or is stopped in them, when the disks are these. The pool is exported, stopped in that or not. Disks are opened, going back so many groups, as this
--- uberblock; or an open of them is stopped; or it is refused, as no pool is found on them.
+-- A run takes steps and gives these replies; or it is stopped in them, when the disks are these. The pool is exported, stopped in that or not. Disks
+-- are opened, going back so many groups, as this uberblock; or an open of them is stopped; or it is refused, as no pool is found on them.
 pub data Happening : Type 0 where
-  Runs : List Step → Happening
+  Runs : List Step → List Reply → Happening
   StopsRunning : List Step → Disks → Happening
   Exports : Happening
   Opens : ℕ → Uberblock → Happening
   StopsOpening : ℕ → Happening
   FindsNone : ℕ → Happening
 
--- `run` took these steps
-pub record IsRun (old : CoreState) (steps : List Step) (new : CoreState) : Type 0 where
+-- `run` took these steps, and added these replies
+pub record IsRun (old : CoreState) (steps : List Step) (replies : List Reply) (new : CoreState) : Type 0 where
   pub before : List Reply
-  pub after : List Reply
-  pub ran : Ran old steps before new after
+  pub ran : Ran old steps before new (before ++ replies)
   pub honest : IsHonestSince (disks_of old) (disks_of new)
   pub all : NoneIsOut new.commit
 
 -- a stop at some moment of that, when the disks were these, left these bytes
 abbrev pub IsRunStopped : CoreState → List Step → Disks → List (List ℕ) → Type 0
 IsRunStopped old steps at images =
-    (new : CoreState) × IsRun old steps new
+    (new : CoreState) × (replies : List Reply) × IsRun old steps replies new
     × (leaves : LeavesImages old.commit.store.out (disks_of old) (disks_of new) images) × (at ≡ at_stop leaves)
 
 -- a stop at some moment since the old one left these bytes, where nothing that was torn in a label reads as one by chance
@@ -105,7 +104,7 @@ module _ {D : Type 0} where
         ⊎ ((is : IsRefused g disks rewind) × IsLeft is.unopened.out is.unopened.array is.unopened.new left)
 
   abbrev pub Goes : disk.Ghosts D → Place → Happening → Place → Type 0
-  Goes g (Up core) (Runs steps) (Up later) = IsRun core steps later
+  Goes g (Up core) (Runs steps replies) (Up later) = IsRun core steps replies later
   Goes g (Up core) (StopsRunning steps at) (Down images) = IsRunStopped core steps at images
   Goes g (Up core) Exports (Down images) = IsExported core images
   Goes g (Down images) (Opens rewind claimed) (Up core) = IsAnswered g images rewind claimed core

@@ -29,11 +29,10 @@ abbrev pub AreCommitted : Uberblock → List Uberblock → List Uberblock → Ub
 AreCommitted last before [] later earlier = (later ≡ last) × (earlier ≡ before)
 AreCommitted last before (u ∷ us) later earlier = IsNextGroup last u × AreCommitted u (last ∷ before) us later earlier
 
--- The machine took the steps, and came to this view with this uberblock as that of its committed group.
-pub record TakesSteps (v : View) (last : Uberblock) (before : List Uberblock) (steps : List Step) (w : View) (later : Uberblock) (earlier : List Uberblock)
-    : Type 0 where
+-- The machine gave these replies to the steps, and came to this view with this uberblock as that of its committed group.
+pub record TakesSteps (v : View) (last : Uberblock) (before : List Uberblock) (steps : List Step) (replies : List Reply) (w : View) (later : Uberblock)
+    (earlier : List Uberblock) : Type 0 where
   pub givens : List Given
-  pub replies : List Reply
   pub run : Run v steps givens replies w
   pub headline : Headline v steps givens replies w
   pub commits : List Uberblock
@@ -50,7 +49,8 @@ pub record StopsInSteps (v : View) (last : Uberblock) (before : List Uberblock) 
   pub w : View
   pub later : Uberblock
   pub earlier : List Uberblock
-  pub takes : TakesSteps v last before taken w later earlier
+  pub replies : List Reply
+  pub takes : TakesSteps v last before taken replies w later earlier
   pub which : (p ≡ only_last later earlier) ⊎ ((next : Uberblock) × IsNextGroup later next × IsBegun next at × (p ≡ last_or later earlier next))
   pub pools_are : pools ≡ pool_of w
 
@@ -61,7 +61,7 @@ pub record OpensPossible (p : Possible) (pools : Uberblock → PlainPool) (rewin
   pub served : v ≡ opened_as vdevs (λ disk. false) claim.taken.group (pools claim.taken)
 
 abbrev pub Tells : Known → Happening → Known → Type 0
-Tells (Serving v last before) (Runs steps) (Serving w later earlier) = TakesSteps v last before steps w later earlier
+Tells (Serving v last before) (Runs steps replies) (Serving w later earlier) = TakesSteps v last before steps replies w later earlier
 Tells (Serving v last before) (StopsRunning steps at) (Resting p pools) = StopsInSteps v last before steps at p pools
 Tells (Serving v last before) Exports (Resting p pools) = MayBeExported v × (p ≡ only_last last before) × (pools ≡ pool_of v)
 Tells (Resting p pools) (Opens rewind claimed) (Serving v last before) = OpensPossible p pools rewind claimed v × (last ≡ claimed) × (before ≡ [])

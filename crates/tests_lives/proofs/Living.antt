@@ -28,8 +28,8 @@ module _ {D : Type 0} where
   has_lived g on law disks pool config steps u first core before after created ran =
       let made : AllWell g created core → IsMade g pool config u first =
       λ well. record { disks = disks; created = created; known = well.known; truly = well.truly } in
-      let life : AllWell g created core → IsLife g (Up first) (Runs steps ∷ []) (Up core) =
-      λ well. on.on (Up first) (Up first) (Up core) [] (Runs steps) refl (on.runs first core steps before after ran well.honest well.all) in
+      let life : AllWell g created core → IsLife g (Up first) (Runs steps ran.0 ∷ []) (Up core) =
+      λ well. on.on (Up first) (Up first) (Up core) [] (Runs steps ran.0) refl (on.runs first core steps before after ran well.honest well.all) in
       record {
         first = first;
         created = created;
@@ -38,6 +38,6 @@ module _ {D : Type 0} where
         ran = ran;
         life = λ well. (made well, life well);
         serves = λ well.
-            let it = law pool config u first (made well) (Runs steps ∷ []) (Up core) (life well) in
+            let it = law pool config u first (made well) (Runs steps ran.0 ∷ []) (Up core) (life well) in
             serves g pool config u.config_digest core it.0 it.2;
       }

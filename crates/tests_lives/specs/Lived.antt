@@ -34,5 +34,5 @@ module _ {D : Type 0} where
     pub before : List Reply
     pub after : List Reply
     pub ran : Ran first steps before core after
-    pub life : AllWell g created core → IsMade g pool config u first × IsLife g (Up first) (Runs steps ∷ []) (Up core)
+    pub life : AllWell g created core → IsMade g pool config u first × IsLife g (Up first) (Runs steps ran.0 ∷ []) (Up core)
     pub serves : AllWell g created core → (v : View) × Represents core v
