@@ -16,7 +16,8 @@ use Rattle.pool_create.specs.Backs.{pool_after}
 use Rattle.pool_create.specs.CoreRuns.{Ran}
 use Rattle.pool_create.specs.CoreState.{CoreState, disks_of}
 use Rattle.pool_create.specs.OpenOpening.{IsKeptThrough}
-use Rattle.pool_create.specs.Opens.{IsOpened}
+use Rattle.pool_create.specs.OpenRefusal.{Refusal}
+use Rattle.pool_create.specs.Opens.{IsOpened, IsUnopened}
 use Rattle.pool_create.specs.Retried.{UndiminishedOpensClaimOnce, UnfailingOpensClaimOnce}
 use Rattle.pool_create.specs.Words.{vdevs_in}
 use Rattle.pool_format.specs.declared.labeling.PoolIdentity.{PoolIdentity}
@@ -36,8 +37,9 @@ use Rattle.pool_stops.specs.OwnReopening.{IsOpenedTruly, LeadToOwnPools, OwnPool
 use Rattle.pool_stops.specs.OwnRunning.{CreatedPoolsAreOnTheirDisks, IsOnItsDisks}
 use Rattle.pool_stops.specs.Reopening.{AreByGroup}
 use Rattle.pool_stops.specs.Running.{pool_of}
+use Rattle.pool_stops.specs.Unhindered.{AnswerTruly}
 use Rattle.pool_lives.specs.Lasting.{Keeps, LivesGoOn, LivesLoseNothing, served_first}
-use Rattle.pool_lives.specs.Lives.{Down, Exports, FindsNone, Goes, Happening, IsAnswered, IsExported, IsLife, IsOpenStopped, IsRefused, IsRun, IsRunStopped, Opens, Place, Runs, StopsOpening, StopsRunning, Up}
+use Rattle.pool_lives.specs.Lives.{Down, Exports, FindsNone, Goes, Happening, IsAnswered, IsExported, IsLife, IsOpenStopped, IsRun, IsRunStopped, Opens, Place, Runs, StopsOpening, StopsRunning, Up}
 use Rattle.pool_lives.specs.Tales.{IsTale, Known, Resting, Serving, Tells}
 use Rattle.pool_lives.proofs.Chains.{chain_on, trusted}
 use Rattle.pool_lives.proofs.Known.{chain_known, known_unfailed}
@@ -209,14 +211,13 @@ module _ {D : Type 0} (g : disk.Ghosts D) (laws : Laws g) (pool : PoolIdentity) 
       let once = laws.opened_once is.array is.shapes is.out rewind claimed core is.opened truly.all in
       subst (λ (them : List Bool). IsKeptThrough them rewind is.array (disks_of core)) once.1 once.0.kept
 
-  kept_refused : (disks : List D) (rewind : ℕ) → (is : IsRefused g disks rewind)
-      → IsKeptThrough is.unopened.out rewind is.unopened.array is.unopened.new
-  kept_refused disks rewind is =
-      let it = is.unopened in
-      let once = laws.refused_once it.array it.shapes it.out rewind it.new is.refusal it.refused is.truly.none_failed in
+  kept_refused : (disks back : List D) (rewind : ℕ) (refusal : Refusal) → (it : IsUnopened g disks rewind back refusal) → AnswerTruly it.array it.new
+      → IsKeptThrough it.out rewind it.array it.new
+  kept_refused disks back rewind refusal it truly =
+      let once = laws.refused_once it.array it.shapes it.out rewind it.new refusal it.refused truly.none_failed in
       let may = laws.found disks rewind it.array it.shapes it.out it.ordered in
       subst (λ (them : List Bool). IsKeptThrough them rewind it.array it.new)
-      (none_went_out it.array it.shapes it.out rewind it.new is.refusal once may.flags is.truly.none_failed) once.kept
+      (none_went_out it.array it.shapes it.out rewind it.new refusal once may.flags truly.none_failed) once.kept
 
   stops_opening : (images left : List (List ℕ)) (p : _) (pools : Uberblock → _) (rewind : ℕ) → IsDown pool vdevs digest images p pools
       → IsOpenStopped g images rewind left → GoesOn pool vdevs digest (Resting p pools) (StopsOpening rewind) (Down left)
@@ -226,10 +227,9 @@ module _ {D : Type 0} (g : disk.Ghosts D) (laws : Laws g) (pool : PoolIdentity) 
       (λ (claimed, core, opened, truly, its_left).
       again.stopped it.disks it.order rewind opened.array (disks_of core) opened.shapes opened.out left it.few is.by_group it.returned opened.ordered truly.found
       (kept_opened it.disks rewind claimed core opened truly) truly.honest its_left.0 its_left.1)
-      (λ (refused, its_left).
-      let un = refused.unopened in
-      again.stopped it.disks it.order rewind un.array un.new un.shapes un.out left it.few is.by_group it.returned un.ordered refused.found
-      (kept_refused it.disks rewind refused) refused.truly.honest its_left.0 its_left.1)
+      (λ (back, refusal, un, found, truly, its_left).
+      again.stopped it.disks it.order rewind un.array un.new un.shapes un.out left it.few is.by_group it.returned un.ordered found
+      (kept_refused it.disks back rewind refusal un truly) truly.honest its_left.0 its_left.1)
       it.how in (
         Resting stopped.0 pools,
         (stopped.1, refl),
@@ -316,7 +316,7 @@ module _ {D : Type 0} where
       order = order;
       returned = returned;
       few = few;
-      how = inr (record { back = back; refusal = refusal; unopened = is; found = found; truly = truly }, its_left);
+      how = inr (back, refusal, is, found, truly, its_left);
     };
     unfound = λ images disks back order rewind cause returned refuses.
         (((disks, order, returned, back, cause, refuses), refl), law images disks back order rewind cause returned refuses);

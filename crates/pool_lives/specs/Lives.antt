@@ -50,8 +50,7 @@ pub record IsRun (old : CoreState) (steps : List Step) (replies : List Reply) (n
 -- a stop at some moment of that, when the disks were these, left these bytes
 abbrev pub IsRunStopped : CoreState → List Step → Disks → List (List ℕ) → Type 0
 IsRunStopped old steps at images =
-    (new : CoreState) × (replies : List Reply) × IsRun old steps replies new
-    × (leaves : LeavesImages old.commit.store.out (disks_of old) (disks_of new) images) × (at ≡ at_stop leaves)
+    (new : CoreState) × (replies : List Reply) × IsRun old steps replies new × (leaves : LeavesImages old.commit.store.out (disks_of old) (disks_of new) images) × (at ≡ at_stop leaves)
 
 -- a stop at some moment since the old one left these bytes, where nothing that was torn in a label reads as one by chance
 abbrev pub IsLeft : List Bool → Disks → Disks → List (List ℕ) → Type 0
@@ -83,25 +82,17 @@ module _ {D : Type 0} where
   -- it was refused, as no pool was found
   abbrev pub IsUnfound : disk.Ghosts D → List (List ℕ) → ℕ → Type 0
   IsUnfound g images rewind =
-      (disks : List D) × (order : List ℕ) × AreReturned g images disks order
-      × (back : List D) × (cause : LabelsRefusal) × FindRefuses g disks rewind back cause
+      (disks : List D) × (order : List ℕ) × AreReturned g images disks order × (back : List D) × (cause : LabelsRefusal) × FindRefuses g disks rewind back cause
 
-  -- or behind the finding of the pool, where no call failed
-  pub record IsRefused (g : disk.Ghosts D) (disks : List D) (rewind : ℕ) : Type 0 where
-    pub back : List D
-    pub refusal : Refusal
-    pub unopened : IsUnopened g disks rewind back refusal
-    pub found : AnswerTruly unopened.ordered.found.old unopened.ordered.found.new
-    pub truly : AnswerTruly unopened.array unopened.new
-
-  -- a stop at some moment of such an open, answered or refused, left these bytes
+  -- A stop at some moment of an open, answered or refused, left these bytes. Where it was refused that was behind the finding of the pool, and no call failed.
   pub record IsOpenStopped (g : disk.Ghosts D) (images : List (List ℕ)) (rewind : ℕ) (left : List (List ℕ)) : Type 0 where
     pub disks : List D
     pub order : List ℕ
     pub returned : AreReturned g images disks order
     pub few : rewind < 3
     pub how : ((claimed : Uberblock) × (core : CoreState) × (is : IsOpened g disks rewind claimed core) × IsOpenedTruly is × IsLeft is.out is.array (disks_of core) left)
-        ⊎ ((is : IsRefused g disks rewind) × IsLeft is.unopened.out is.unopened.array is.unopened.new left)
+        ⊎ ((back : List D) × (refusal : Refusal) × (is : IsUnopened g disks rewind back refusal) × AnswerTruly is.ordered.found.old is.ordered.found.new
+        × AnswerTruly is.array is.new × IsLeft is.out is.array is.new left)
 
   abbrev pub Goes : disk.Ghosts D → Place → Happening → Place → Type 0
   Goes g (Up core) (Runs steps replies) (Up later) = IsRun core steps replies later
