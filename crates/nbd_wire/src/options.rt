@@ -68,8 +68,8 @@ pub fn decode_option_head(bytes: &[u8; OPTION_HEAD_LEN]) -> Option<OptionHead>
 /// information is asked for changes no answer. It is `None` where the data are anything else.
 pub fn decode_info_request(data: &[u8]) -> Option<&[u8]>
     ensures { MatchOption result
-        ((name : List ℕ) → ¬ SpellsInfoRequest data.now name)
-        (λ name. SpellsInfoRequest data.now name.now) }
+        ((name : List ℕ) → ¬ SpellsInfoRequest «data».now name)
+        (λ name. SpellsInfoRequest «data».now name.now) }
 {
     if data.len() < 6 {
         return None;

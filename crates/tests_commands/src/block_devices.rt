@@ -4,6 +4,7 @@ use plain_machine::Machine;
 use pool_model::{Action, Change, Name, Step};
 use pool_steps::PoolSteps;
 use std::alloc::{AllocError, Global};
+use std::io::Write;
 use std::test::Fail;
 use volume_device::Device;
 
@@ -255,8 +256,13 @@ fn pool(alloc: Global) -> Result<Machine, AllocError> {
     Ok(machine)
 }
 
-/// What a client gets, how its session ends, and the pool then.
-fn served(alloc: Global, read_only: bool, sent: &[u8]) -> Result<(Vec<u8>, String, Machine), Fail> {
+/// How a client's session ends, and the pool then.
+fn served<W: Write>(
+    alloc: Global,
+    read_only: bool,
+    sent: &[u8],
+    got: &mut W,
+) -> Result<(String, Machine), Fail> {
     let mut device = Device::new(pool(alloc)?, named(alloc)?, 9);
     let export = Export {
         name: named(alloc)?,
@@ -264,17 +270,17 @@ fn served(alloc: Global, read_only: bool, sent: &[u8]) -> Result<(Vec<u8>, Strin
         read_only,
     };
     let mut input = sent;
-    let mut got = Vec::new(alloc);
-    let ended = serve(alloc, &mut device, &export, &mut input, &mut got);
+    let ended = serve(alloc, &mut device, &export, &mut input, got);
     let text = format!(in alloc; "{ended:?}")?;
-    Ok((got, text, device.into_core()))
+    Ok((text, device.into_core()))
 }
 
 #[test]
 fn handshakes_are_answered(rt: HostRuntime) -> Result<(), Fail> {
     let alloc = rt.alloc();
     for (sent, wanted, end) in &HANDSHAKES {
-        let (got, ended, _) = served(alloc, false, bytes_of(alloc, sent)?.as_slice())?;
+        let mut got = Vec::new(alloc);
+        let (ended, _) = served(alloc, false, bytes_of(alloc, sent)?.as_slice(), &mut got)?;
         let wanted = bytes_of(alloc, wanted)?;
         assert!(rt; got.as_slice() == wanted.as_slice(), "{sent}: {got:?}");
         assert!(rt; ended.as_str() == *end, "{sent}: {ended}");
@@ -290,7 +296,8 @@ fn requests_are_answered(rt: HostRuntime) -> Result<(), Fail> {
         let flags = if *read_only { "000f" } else { "000d" };
         let answer = format!(in alloc; "{}{flags} {wanted}", BEGUN.1)?;
         let sent = bytes_of(alloc, line.as_str())?;
-        let (got, ended, _) = served(alloc, *read_only, sent.as_slice())?;
+        let mut got = Vec::new(alloc);
+        let (ended, _) = served(alloc, *read_only, sent.as_slice(), &mut got)?;
         let wanted = bytes_of(alloc, answer.as_str())?;
         assert!(rt; got.as_slice() == wanted.as_slice(), "{line}: {got:?}");
         assert!(rt; ended.as_str() == *end, "{line}: {ended}");
@@ -298,15 +305,8 @@ fn requests_are_answered(rt: HostRuntime) -> Result<(), Fail> {
     Ok(())
 }
 
-/// What was written is committed at the end, even where the input tears.
-#[test]
-fn the_end_commits(rt: HostRuntime) -> Result<(), Fail> {
-    let alloc = rt.alloc();
-    let line =
-        "00000003 option 00000001 00000000 request 0000 0001 0000000000000001 0000000000000200 00000200 07*512 request";
-    let sent = bytes_of(alloc, line)?;
-    let (_, ended, mut machine) = served(alloc, false, sent.as_slice())?;
-    assert!(rt; ended.as_str() == "Err(Torn)", "{ended}");
+/// Two bytes at a write's front, as they are committed.
+fn committed(alloc: Global, machine: &mut Machine) -> Result<String, AllocError> {
     let name = named(alloc)?;
     let read = machine.take_step(Step::ReadUnder {
         group: 5,
@@ -314,7 +314,28 @@ fn the_end_commits(rt: HostRuntime) -> Result<(), Fail> {
         offset: 511,
         len: 2,
     });
-    let text = format!(in alloc; "{read:?}")?;
-    assert!(rt; text.as_str() == "Bytes(Bytes { bytes: [0, 7] })", "{text}");
+    format!(in alloc; "{read:?}")
+}
+
+/// What was written is committed at the end, where the input tears and where the output is full.
+#[test]
+fn the_end_commits(rt: HostRuntime) -> Result<(), Fail> {
+    let alloc = rt.alloc();
+    let sent = bytes_of(
+        alloc,
+        "00000003 option 00000001 00000000 request 0000 0001 0000000000000001 0000000000000200 00000200 07*512 request",
+    )?;
+    for (room, end) in [(100, "Err(Torn)"), (40, "Err(Output)"), (10, "Err(Output)")] {
+        let mut got = vec![in alloc; 0u8; room]?;
+        let (ended, mut machine) = served(alloc, false, sent.as_slice(), &mut got.as_mut_slice())?;
+        assert!(rt; ended.as_str() == end, "{room}: {ended}");
+        let text = committed(alloc, &mut machine)?;
+        let wanted = if room == 10 {
+            "Refused(GroupGone)"
+        } else {
+            "Bytes(Bytes { bytes: [0, 7] })"
+        };
+        assert!(rt; text.as_str() == wanted, "{room}: {text}");
+    }
     Ok(())
 }
