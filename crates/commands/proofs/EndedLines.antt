@@ -1,5 +1,5 @@
 -- How a line ends that was run.
-use Rattle.std.proofs.Common.{◌≡◌, ◌⊎◌, inl, inr, ℕ, List, Option, Result, Ok, Err, IfErr, OnOk, refl, ap, ◌∙◌}
+use Rattle.std.proofs.Common.{◌≡◌, inl, inr, ℕ, List, Option, Result, Ok, Err, IfErr, OnOk, ap, ◌∙◌}
 use Rattle.pool_command.specs.Reading.{command_of}
 use Rattle.pool_command.specs.declared.command.Command.{Command}
 use Rattle.pool_command.specs.declared.command.Command.TheVariants.{Zfs}
@@ -7,13 +7,12 @@ use Rattle.pool_command.specs.declared.command.ZfsCommand.TheVariants as zfs
 use Rattle.pool_steps.specs.declared.steps.PoolSteps.{Ghosts as StepGhosts}
 use Rattle.commands.specs.Ends.{status_by, status_of}
 use Rattle.commands.specs.Lines.{EndsCommand}
-use Rattle.commands.specs.Performs.{IsPlain, Stops, Streams}
+use Rattle.commands.specs.Performs.{IsPlain, Streams}
 use Rattle.commands.specs.Running.{IsPerformed, IsUnperformed}
 use Rattle.commands.specs.Serves.{IsServed, IsServeStopped}
 use Rattle.commands.specs.declared.pools.Pools.{Ghosts}
 use Rattle.commands.specs.declared.status.ExitStatus.{ExitStatus}
 use Rattle.commands.specs.declared.stop.Stop.{Stop}
-use Rattle.commands.specs.declared.stop.Stop.TheVariants as stop
 
 module _ {S P F R : Type 0} (pools : Ghosts S P F R) (steps : StepGhosts P) (words : List (List ℕ)) (timestamp : ℕ) (input : Option (List ℕ)) (old new : S) (before after : Option (List ℕ)) (status : ExitStatus) (command : Command)
     (asked : command_of words ≡ Ok command) where

@@ -1,5 +1,5 @@
 -- The row of a name in a pool's table.
-use Rattle.std.proofs.Common.{◌≡◌, ◌≤◌, ◌<◌, ℕ, zero, suc, ◌+◌, List, [], ◌∷◌, map, find, length, drop, get_or, string_bytes, Bool, true, false, Option, Some, None, cond, refl, sym, ap, ◌∙◌, subst, arith}
+use Rattle.std.proofs.Common.{◌≡◌, ◌≤◌, ◌<◌, ℕ, zero, suc, ◌+◌, List, [], ◌∷◌, map, length, drop, get_or, string_bytes, Bool, true, false, Some, cond, refl, sym, ap, ◌∙◌, subst, arith}
 use Rattle.pool_command.specs.declared.listing.VolumeRow.{VolumeRow}
 use Rattle.pool_model.specs.declared.volume.PlainVolume.{PlainVolume}
 use Rattle.pool_model.specs.Names.{same}

@@ -1,12 +1,12 @@
 -- What the calls of a device lead to, one after another.
-use Rattle.std.proofs.Common.{◌≡◌, ◌≤◌, ◌+◌, ◌-◌, ℕ, List, [], ◌++◌, take, drop, slice_range, Option, None, Some, refl, sym, ap, ◌∙◌, subst, arith, append_assoc, append-nil}
+use Rattle.std.proofs.Common.{◌≡◌, ◌+◌, ◌-◌, ℕ, List, [], ◌++◌, take, drop, slice_range, Option, None, Some, refl, sym, ap, ◌∙◌, subst, arith, append_assoc, append-nil}
 use Rattle.std.proofs.Math.Seq.{take-add}
 use Rattle.std.specs.Io.KnownBytes.{Appends}
 use Rattle.pool_model.specs.declared.volume.PlainVolume.{PlainVolume}
-use Rattle.pool_model.specs.Pools.{PlainPool, volume_at}
+use Rattle.pool_model.specs.Pools.{volume_at}
 use Rattle.pool_steps.specs.declared.steps.PoolSteps.{Ghosts}
 use Rattle.volume_device.specs.Contents.{AreRead, Contents}
-use Rattle.volume_device.specs.Devices.{Leads, core_of, name_of}
+use Rattle.volume_device.specs.Devices.{Leads, name_of}
 use Rattle.volume_device.specs.declared.device.Device.{Device}
 use Rattle.commands.specs.Pouring.{AreFront, IsPouredOut}
 

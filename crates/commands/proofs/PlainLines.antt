@@ -1,5 +1,5 @@
 -- Lines that print at their end.
-use Rattle.std.proofs.Common.{◌≡◌, ◌≢◌, ℕ, List, refl}
+use Rattle.std.proofs.Common.{◌≢◌, ℕ, List, refl}
 use Rattle.pool_command.specs.declared.command.Command.TheVariants.{Zfs}
 use Rattle.pool_command.specs.declared.command.ZfsCommand.{ZfsCommand}
 use Rattle.pool_command.specs.declared.command.ZfsCommand.TheVariants as zfs

@@ -1,5 +1,5 @@
 -- How a served volume ends.
-use Rattle.std.proofs.Common.{◌≡◌, ◌⊎◌, inl, inr, ℕ, Bool, List, Option, Result, Ok, Err, refl, ap}
+use Rattle.std.proofs.Common.{◌≡◌, inl, inr, ℕ, Bool, List, Option, Result, Ok, Err, refl, ap}
 use Rattle.nbd_serve.specs.declared.ended.Ended.{Ended}
 use Rattle.nbd_serve.specs.declared.ended.Ended.TheVariants as ended
 use Rattle.pool_model.specs.declared.refusal.Refusal.{Refusal}

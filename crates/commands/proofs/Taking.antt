@@ -1,5 +1,5 @@
 -- An input that is written to a device, piece by piece.
-use Rattle.std.proofs.Common.{◌≡◌, ◌⊎◌, inl, inr, ◌≤◌, ◌<◌, ◌+◌, ◌^◌, ℕ, List, [], ◌++◌, length, Option, None, Some, refl, sym, ap, ◌∙◌, subst, arith, append_assoc, append-nil, length-append}
+use Rattle.std.proofs.Common.{◌≡◌, ◌⊎◌, inl, inr, ◌+◌, ℕ, List, [], ◌++◌, length, Option, None, Some, refl, sym, ap, ◌∙◌, subst, arith, append_assoc, append-nil, length-append}
 use Rattle.std.specs.Io.KnownBytes.{Consumes, IsAtEnd}
 use Rattle.pool_model.specs.Pools.{PlainPool}
 use Rattle.pool_steps.specs.declared.steps.PoolSteps.{Ghosts}
@@ -9,7 +9,7 @@ use Rattle.volume_device.specs.declared.device.Device.{Device}
 use Rattle.commands.proofs.Consuming.{consumed_more, nothing}
 use Rattle.commands.proofs.Leading.{CameFurther, PartsAreTrue, leads_on}
 use Rattle.commands.specs.Input.{IsNoInput}
-use Rattle.commands.specs.Pouring.{IfKnown, IsFrontIn, IsIn, IsPiece, IsPouredIn, IsPouredInPart, IsTakenIn, IsWhollyIn}
+use Rattle.commands.specs.Pouring.{IfKnown, IsFrontIn, IsIn, IsPouredIn, IsPouredInPart, IsTakenIn, IsWhollyIn}
 use Rattle.commands.specs.declared.stop.Stop.{Stop}
 use Rattle.commands.specs.declared.stop.Stop.TheVariants as stop
 

@@ -1,4 +1,3 @@
-use Rattle.std.proofs.Common.{◌≡◌}
 use Rattle.commands.proofs.Taking.{poured_in, poured_part}
 use Rattle.commands.proofs.pouring.pour_in.Goals as goal
 

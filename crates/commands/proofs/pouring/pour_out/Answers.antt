@@ -1,4 +1,4 @@
-use Rattle.std.proofs.Common.{◌≡◌, ◌≤◌, ◌<◌, ◌+◌, ◌-◌, ◌*◌, ◌/◌, ◌^◌, ℕ, min, refl, sym, ap, ◌∙◌, subst, arith}
+use Rattle.std.proofs.Common.{◌≡◌, ◌≤◌, ◌<◌, ◌+◌, ◌*◌, ◌^◌, ℕ, min, subst, arith}
 use Rattle.std.specs.Io.KnownBytes.{Appends}
 use Rattle.commands.specs.Pouring.{IsPouredOut}
 use Rattle.std.specs.Int.{div_ceil}

@@ -1,5 +1,4 @@
-use Rattle.std.proofs.Common.{◌≡◌, ◌≤◌, ◌<◌, ◌+◌, ◌^◌, ℕ, length, Some, sym, ap, ◌∙◌, subst, arith}
-use Rattle.std.specs.Io.KnownBytes.{IsAtEnd}
+use Rattle.std.proofs.Common.{◌≡◌, ◌<◌, ◌+◌, ◌^◌, length, sym, ap, ◌∙◌, subst, arith}
 use Rattle.volume_device.specs.Contents.{IsWritten}
 use Rattle.volume_device.specs.Devices.{Leads, name_of}
 use Rattle.commands.proofs.Taking.{TakenSoFar, all_taken, cut_commits_none, in_part, none_taken, stops_part, taken_more, taken_part}

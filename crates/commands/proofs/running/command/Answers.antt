@@ -1,4 +1,4 @@
-use Rattle.std.proofs.Common.{◌≡◌, Ok, map, sym, ap, ◌∙◌, subst}
+use Rattle.std.proofs.Common.{Ok, map, sym, ap, ◌∙◌, subst}
 use Rattle.pool_command.specs.declared.command.Command.TheVariants.{Zfs}
 use Rattle.pool_command.specs.declared.command.ZfsCommand.TheVariants as zfs
 use Rattle.commands.proofs.EndedLines.{plain_ends, serve_streams, streamed_ends}

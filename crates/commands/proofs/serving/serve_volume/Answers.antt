@@ -1,4 +1,4 @@
-use Rattle.std.proofs.Common.{◌≡◌, ◌⊎◌, Result, Ok, Err, inr, refl, sym, ◌∙◌, subst}
+use Rattle.std.proofs.Common.{Ok, inr, refl, sym, ◌∙◌, subst}
 use Rattle.commands.proofs.Sessions.{serve_stopped}
 use Rattle.commands.specs.Serves.{IsServedBy}
 use Rattle.commands.proofs.serving.serve_volume.Goals as goal

@@ -1,4 +1,4 @@
-use Rattle.std.proofs.Common.{◌⊎◌, inl}
+use Rattle.std.proofs.Common.{inl}
 use Rattle.commands.proofs.serving.served.Goals as goal
 
 pub returns : goal.returns

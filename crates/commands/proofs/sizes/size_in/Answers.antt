@@ -1,4 +1,4 @@
-use Rattle.std.proofs.Common.{◌≡◌, ◌≤◌, ◌<◌, ◌+◌, ℕ, length, string_bytes, Bool, true, false, sym, ap, ◌∙◌, subst, arith}
+use Rattle.std.proofs.Common.{◌≡◌, string_bytes, true, false, sym, ap, ◌∙◌, arith}
 use Rattle.pool_model.specs.Names.{same}
 use Rattle.commands.proofs.FoundRows.{no_row, none_before, row_found, row_passed}
 use Rattle.commands.proofs.sizes.size_in.Goals as goal

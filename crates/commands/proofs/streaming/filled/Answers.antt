@@ -1,6 +1,5 @@
-use Rattle.std.proofs.Common.{◌≡◌, sym, subst}
-use Rattle.volume_device.specs.Contents.{Contents}
-use Rattle.volume_device.specs.Devices.{Has, Shows}
+use Rattle.std.proofs.Common.{sym, subst}
+use Rattle.volume_device.specs.Devices.{Has}
 use Rattle.commands.specs.Streams.{IsFilledFrom}
 use Rattle.commands.proofs.Wholes.{filled_by}
 use Rattle.commands.proofs.streaming.filled.Goals as goal

@@ -1,4 +1,4 @@
-use Rattle.std.proofs.Common.{◌≡◌, sym, subst}
+use Rattle.std.proofs.Common.{sym, subst}
 use Rattle.commands.specs.Streams.{IsPoured}
 use Rattle.commands.proofs.Wholes.{poured_by}
 use Rattle.commands.proofs.streaming.printed.Goals as goal

@@ -1,4 +1,4 @@
-use Rattle.std.proofs.Common.{◌≡◌, ◌⊎◌, Result, Ok, Err, Bool, inl, inr, refl, sym, ap, ◌∙◌, subst}
+use Rattle.std.proofs.Common.{Ok, inr, refl, sym, ◌∙◌, subst}
 use Rattle.commands.proofs.Wholes.{not_filled}
 use Rattle.commands.specs.Streams.{IsFilledFrom}
 use Rattle.commands.proofs.streaming.write_all.Goals as goal
