@@ -229,36 +229,6 @@ fn node_text(alloc: Global, node: &ObjectNode) -> Result<String, Fail> {
     )?)
 }
 
-/// The pointers of a block that are no holes.
-fn pointers_of(alloc: Global, block: &Indirect) -> Result<String, Fail> {
-    let mut text = String::new(alloc);
-    for place in 0..128 {
-        let pointer = block.get(place);
-        if !pointer.is_hole() {
-            writeln!(text, "{place}: {}", pointer_text(alloc, &pointer)?)?;
-        }
-    }
-    Ok(text)
-}
-
-fn indirect_of(alloc: Global, block: &Indirect, bytes: &[u8]) -> Result<String, Fail> {
-    let is_kept = block.encode(alloc)?.as_slice() == bytes;
-    let (fill, count) = (block.fill(), block.pointers().len());
-    let pointers = pointers_of(alloc, block)?;
-    Ok(format!(in alloc; "fill {fill:?} of {count}, kept {is_kept}\n{pointers}")?)
-}
-
-fn pointer_of(alloc: Global, block: &[u8; 128]) -> Result<String, Fail> {
-    match block_pointer::decode(block) {
-        Ok(pointer) => {
-            let is_kept = block_pointer::encode(&pointer) == *block;
-            let text = pointer_text(alloc, &pointer)?;
-            Ok(format!(in alloc; "{text}, kept {is_kept}")?)
-        }
-        Err(refusal) => Ok(format!(in alloc; "{refusal}")?),
-    }
-}
-
 /// What the bytes of an area, a pointer or an indirect block are read as: of a block its fill, how many pointers it has,
 /// and those that are no holes.
 fn read(alloc: Global, verb: &str, bytes: &[u8]) -> Result<String, Fail> {
@@ -272,12 +242,29 @@ fn read(alloc: Global, verb: &str, bytes: &[u8]) -> Result<String, Fail> {
         };
     }
     if let ("pointer", Some(block)) = (verb, bytes.first_chunk::<128>()) {
-        return pointer_of(alloc, block);
+        return match block_pointer::decode(block) {
+            Ok(pointer) => {
+                let is_kept = block_pointer::encode(&pointer) == *block;
+                let text = pointer_text(alloc, &pointer)?;
+                Ok(format!(in alloc; "{text}, kept {is_kept}")?)
+            }
+            Err(refusal) => Ok(format!(in alloc; "{refusal}")?),
+        };
     }
-    match Indirect::decode(alloc, bytes) {
-        Ok(block) => indirect_of(alloc, &block, bytes),
-        Err(refusal) => Ok(format!(in alloc; "{refusal}")?),
+    let block = match Indirect::decode(alloc, bytes) {
+        Ok(block) => block,
+        Err(refusal) => return Ok(format!(in alloc; "{refusal}")?),
+    };
+    let is_kept = block.encode(alloc)?.as_slice() == bytes;
+    let count = block.pointers().len();
+    let mut text = format!(in alloc; "fill {:?} of {count}, kept {is_kept}\n", block.fill())?;
+    for place in 0..128 {
+        let pointer = block.get(place);
+        if !pointer.is_hole() {
+            writeln!(text, "{place}: {}", pointer_text(alloc, &pointer)?)?;
+        }
     }
+    Ok(text)
 }
 
 /// What the bytes of a dnode, or else of an object set, are read as.
@@ -312,34 +299,24 @@ fn read_node(alloc: Global, verb: &str, bytes: &[u8]) -> Result<String, Fail> {
     }
 }
 
-/// Sets a pointer that words spell behind its place.
-fn set_pointer(alloc: Global, block: &mut Indirect, words: &str) -> Result<(), Fail> {
-    let (place, words) = words.split_once(" ").unwrap_or((words, ""));
-    let place = place.parse::<usize>()?.min(127);
-    if let Some(pointer) = spelled(alloc, words)?.first_chunk::<128>() {
-        block.set(place, block_pointer::decode(pointer)?);
-    }
-    Ok(())
-}
-
-/// The fills of a block in which pointers are set one after the other.
-fn fills(alloc: Global, block: &mut Indirect, pointers: &str) -> Result<String, Fail> {
-    let mut text = format!(in alloc; "{:?} ", block.fill())?;
-    for pointer in pointers.split("; ") {
-        set_pointer(alloc, block, pointer)?;
-        write!(text, "{:?} ", block.fill())?;
-    }
-    Ok(text)
-}
-
-/// The same of a block of holes, and whether it is then written as wanted.
+/// The fills of an indirect block of holes in which pointers are set one after the other, and whether it is then written
+/// as wanted.
 fn built(alloc: Global, line: &str) -> Result<String, Fail> {
     let (pointers, wanted) = line.split_once(" = ").unwrap_or((line, ""));
+    let wanted = spelled(alloc, wanted)?;
     let mut block = Indirect::holes(alloc)?;
-    let text = fills(alloc, &mut block, pointers)?;
-    let bytes = block.encode(alloc)?;
-    let is_wanted = bytes.as_slice() == spelled(alloc, wanted)?.as_slice();
-    Ok(format!(in alloc; "{text}{is_wanted}")?)
+    let mut text = format!(in alloc; "{:?} ", block.fill())?;
+    for pointer in pointers.split("; ") {
+        let (place, words) = pointer.split_once(" ").unwrap_or((pointer, ""));
+        let place = place.parse::<usize>()?.min(127);
+        if let Some(pointer) = spelled(alloc, words)?.first_chunk::<128>() {
+            block.set(place, block_pointer::decode(pointer)?);
+        }
+        write!(text, "{:?} ", block.fill())?;
+    }
+    let is_wanted = block.encode(alloc)?.as_slice() == wanted.as_slice();
+    write!(text, "{is_wanted}")?;
+    Ok(text)
 }
 
 pub(crate) fn answer(alloc: Global, line: &str) -> Result<String, Fail> {

@@ -530,35 +530,6 @@ fn scanned(alloc: Global, disks: &mut Disks, rewind: u64) -> Result<String, Fail
     Ok(format!(in alloc; "{:?} {} {taken} {highest}", choice.members, choice.source)?)
 }
 
-/// Four bytes of a disk.
-fn front(alloc: Global, disks: &mut Disks, which: usize, place: u64) -> Result<String, Fail>
-    requires which { which < length disks.old.starts }
-    ensures starts { disks.new.starts ≡ disks.old.starts }
-{
-    let mut front = [0; 4];
-    let size = disks.size(which);
-    if size >= 4 && place <= size - 4 {
-        disks.read(which, place, &mut front)?;
-    }
-    Ok(hex::encode(alloc, front.as_slice())?)
-}
-
-/// How many slots there are, which is the highest, its uberblock, and the one that is so many groups before.
-fn slots_text(alloc: Global, slots: &[Option<Uberblock>], groups: u64) -> Result<String, Fail> {
-    let place = highest(slots);
-    let top = match place {
-        Some(place) => slots.get(place).copied().flatten(),
-        None => None,
-    };
-    let before = match &top {
-        Some(top) => rewound(slots, top, groups),
-        None => None,
-    };
-    let top = uberblock_text(alloc, top.as_ref())?;
-    let before = uberblock_text(alloc, before.as_ref())?;
-    Ok(format!(in alloc; "{} {place:?} {top} {before}", slots.len())?)
-}
-
 /// What a label of a disk shows, or four bytes; or how many slots it has, which is the highest, its uberblock, and the one that
 /// is so many groups before.
 fn shown(alloc: Global, disks: &mut Disks, step: &Step<'_>) -> Result<String, Fail>
@@ -568,14 +539,33 @@ fn shown(alloc: Global, disks: &mut Disks, step: &Step<'_>) -> Result<String, Fa
 {
     let which = step.numbers[0].min(2) as usize;
     let number = step.numbers[1];
-    match step.verb {
-        "label" => match read_label(alloc, disks, which, number.min(3)) {
+    if step.verb == "label" {
+        return match read_label(alloc, disks, which, number.min(3)) {
             Ok(label) => label_text(alloc, &label),
             Err(refusal) => Ok(format!(in alloc; "{refusal}")?),
-        },
-        "front" => front(alloc, disks, which, number),
-        _ => slots_text(alloc, &read_slots(alloc, disks, which)?, number),
+        };
     }
+    if step.verb == "front" {
+        let mut front = [0; 4];
+        let size = disks.size(which);
+        if size >= 4 && number <= size - 4 {
+            disks.read(which, number, &mut front)?;
+        }
+        return Ok(hex::encode(alloc, front.as_slice())?);
+    }
+    let slots = read_slots(alloc, disks, which)?;
+    let place = highest(&slots);
+    let top = match place {
+        Some(place) => slots.get(place).copied().flatten(),
+        None => None,
+    };
+    let before = match &top {
+        Some(top) => rewound(&slots, top, number),
+        None => None,
+    };
+    let top = uberblock_text(alloc, top.as_ref())?;
+    let before = uberblock_text(alloc, before.as_ref())?;
+    Ok(format!(in alloc; "{} {place:?} {top} {before}", slots.len())?)
 }
 
 /// What a call answers that answers nothing.

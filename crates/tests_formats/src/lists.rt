@@ -3,7 +3,6 @@
 use crate::spelling::{parse, spelled};
 use nvlist::{NvList, Value};
 use std::alloc::Global;
-use std::fmt::Display;
 use std::test::Fail;
 use vdev_label::*;
 
@@ -218,52 +217,32 @@ pub(crate) const CASES: &[(&str, &str)] = &[
     ("area LABEL len=114688 seal 114655^01 114687^02", TAIL),
 ];
 
-/// What a list answers of the list or the lists under a name.
-fn below(
-    alloc: Global,
-    list: &NvList,
-    verb: &str,
-    name: &str,
-    other: &str,
-) -> Result<String, Fail> {
-    if verb == "list" {
-        return Ok(match list.list(name) {
-            Some(list) => format!(in alloc; "{:?}", list.number(other))?,
-            None => String::new(alloc),
-        });
-    }
-    Ok(match list.lists(name) {
-        Some([first, second]) => {
-            format!(in alloc; "2 {} {:?}", first.is_empty(), second.number(other))?
-        }
-        _ => String::new(alloc),
-    })
-}
-
-/// Whether a pair is pushed.
-fn pushed(alloc: Global, list: &mut NvList, name: &str, text: Option<&str>) -> Result<bool, Fail> {
-    let value = match text {
-        None => Value::Number(4),
-        Some(text) => Value::Text(String::from_str(alloc, text)?),
-    };
-    Ok(list.push(name, value).is_ok())
-}
-
 /// What a list answers.
 fn asked(alloc: Global, list: &mut NvList, query: &str) -> Result<String, Fail> {
     let mut words = query.split(" ");
     let verb = words.next().unwrap_or("");
     let name = words.next().unwrap_or("");
     let other = words.next().unwrap_or("");
-    let text = match verb {
-        "number" => format!(in alloc; "{:?}", list.number(name)),
-        "text" => format!(in alloc; "{:?}", list.text(name)),
-        "list" | "lists" => return below(alloc, list, verb, name, other),
-        "push" => format!(in alloc; "{}", pushed(alloc, list, name, None)?),
-        "say" => format!(in alloc; "{}", pushed(alloc, list, name, Some(other))?),
-        _ => format!(in alloc; "{} {}", list.len(), list.is_empty()),
-    };
-    Ok(text?)
+    Ok(match verb {
+        "number" => format!(in alloc; "{:?}", list.number(name))?,
+        "text" => format!(in alloc; "{:?}", list.text(name))?,
+        "list" => match list.list(name) {
+            Some(list) => format!(in alloc; "{:?}", list.number(other))?,
+            None => String::new(alloc),
+        },
+        "lists" => match list.lists(name) {
+            Some([first, second]) => {
+                format!(in alloc; "2 {} {:?}", first.is_empty(), second.number(other))?
+            }
+            _ => String::new(alloc),
+        },
+        "push" => format!(in alloc; "{}", list.push(name, Value::Number(4)).is_ok())?,
+        "say" => {
+            let value = Value::Text(String::from_str(alloc, other)?);
+            format!(in alloc; "{}", list.push(name, value).is_ok())?
+        }
+        _ => format!(in alloc; "{} {}", list.len(), list.is_empty())?,
+    })
 }
 
 /// What a list answers, one after the other.
@@ -306,55 +285,38 @@ pub(crate) fn label_text(alloc: Global, label: &Label) -> Result<String, Fail> {
     )?)
 }
 
-/// What a configuration is that bytes are read as.
-fn config_of(alloc: Global, config: &Config, bytes: &[u8]) -> Result<String, Fail> {
-    let is_kept = config.encode(alloc)?.as_slice() == bytes;
-    let digest = hex::encode(alloc, config.digest(alloc)?.as_slice())?;
-    let (text, sum) = (config_text(alloc, config)?, config.guid_sum());
-    Ok(format!(in alloc; "{text}; sum {sum}; {digest}, kept {is_kept}")?)
-}
-
-/// What the label is whose area bytes are read as.
-fn label_of(alloc: Global, label: &Label, bytes: &[u8]) -> Result<String, Fail> {
-    let is_kept = encode_area(alloc, label)?.as_slice() == bytes;
-    let text = label_text(alloc, label)?;
-    Ok(format!(in alloc; "{text}, kept {is_kept}")?)
-}
-
-/// Whether a list is written as these bytes.
-fn is_kept(alloc: Global, list: &NvList, bytes: &[u8]) -> Result<bool, Fail> {
-    let mut again = Vec::new(alloc);
-    nvlist::encode(alloc, list, &mut again)?;
-    Ok(again.as_slice() == bytes)
-}
-
-/// What a list answers that bytes are read as.
-fn list_of(alloc: Global, list: NvList, bytes: &[u8], queries: &str) -> Result<String, Fail> {
-    let mut list = list;
-    let is_kept = is_kept(alloc, &list, bytes)?;
-    let text = answers(alloc, &mut list, queries)?;
-    Ok(format!(in alloc; "{text}kept {is_kept}")?)
-}
-
-fn refused<E: Display + Drop>(alloc: Global, refusal: E) -> Result<String, Fail> {
-    Ok(format!(in alloc; "{refusal}")?)
-}
-
 /// What the bytes of a list, a configuration or the area of a label are read as.
 fn read(alloc: Global, verb: &str, bytes: &[u8], queries: &str) -> Result<String, Fail> {
     match verb {
         "config" => match Config::decode(alloc, bytes) {
-            Ok(config) => config_of(alloc, &config, bytes),
-            Err(refusal) => refused(alloc, refusal),
+            Ok(config) => {
+                let is_kept = config.encode(alloc)?.as_slice() == bytes;
+                let digest = hex::encode(alloc, config.digest(alloc)?.as_slice())?;
+                let text = config_text(alloc, &config)?;
+                Ok(format!(in alloc;
+                    "{text}; sum {}; {digest}, kept {is_kept}",
+                    config.guid_sum()
+                )?)
+            }
+            Err(refusal) => Ok(format!(in alloc; "{refusal}")?),
         },
         "area" if bytes.len() == AREA_LEN => match decode_area(alloc, bytes) {
-            Ok(label) => label_of(alloc, &label, bytes),
-            Err(refusal) => refused(alloc, refusal),
+            Ok(label) => {
+                let is_kept = encode_area(alloc, &label)?.as_slice() == bytes;
+                let text = label_text(alloc, &label)?;
+                Ok(format!(in alloc; "{text}, kept {is_kept}")?)
+            }
+            Err(refusal) => Ok(format!(in alloc; "{refusal}")?),
         },
         _ => match nvlist::decode(alloc, bytes) {
-            Ok((list, len)) if len == bytes.len() => list_of(alloc, list, bytes, queries),
-            Ok(_) => Ok(String::from_str(alloc, "a part is read")?),
-            Err(refusal) => refused(alloc, refusal),
+            Ok((mut list, len)) => {
+                let mut again = Vec::new(alloc);
+                nvlist::encode(alloc, &list, &mut again)?;
+                let is_kept = again.as_slice() == bytes && len == bytes.len();
+                let text = answers(alloc, &mut list, queries)?;
+                Ok(format!(in alloc; "{text}kept {is_kept}")?)
+            }
+            Err(refusal) => Ok(format!(in alloc; "{refusal}")?),
         },
     }
 }
@@ -388,29 +350,28 @@ fn is_allowed(alloc: Global, pool: u64, words: &str) -> Result<bool, Fail> {
     Ok(Config { vdevs }.is_allowed(alloc, pool)?)
 }
 
-/// What is read of each front of a list.
-fn fronts(alloc: Global, bytes: &[u8]) -> Result<String, Fail> {
-    for len in 0..bytes.len() {
-        if nvlist::decode(alloc, &bytes[..len]).err() != Some(nvlist::Refusal::BadLabel) {
-            return Ok(format!(in alloc; "the first {len} bytes are read")?);
-        }
-    }
-    Ok(String::from_str(alloc, "each is refused")?)
-}
-
 /// What is read, or what a list answers to whom pushes pairs, or whether vdevs are allowed, or where a label is.
 pub(crate) fn answer(alloc: Global, line: &str) -> Result<String, Fail> {
     let (head, rest) = line.split_once(": ").unwrap_or((line, ""));
     let (verb, words) = head.split_once(" ").unwrap_or((head, ""));
     let [first, second, _] = parse(head).numbers;
     match verb {
-        "allowed" => Ok(format!(in alloc; "{}", is_allowed(alloc, first, rest)?)?),
+        "allowed" => return Ok(format!(in alloc; "{}", is_allowed(alloc, first, rest)?)?),
         "offset" => {
             let offset = label_offset(first.max(1_048_576), second.min(3));
-            Ok(format!(in alloc; "{offset}")?)
+            return Ok(format!(in alloc; "{offset}")?);
         }
-        "new" => answers(alloc, &mut NvList::new(alloc), rest),
-        "fronts" => fronts(alloc, &spelled(alloc, words)?),
-        _ => read(alloc, verb, &spelled(alloc, words)?, rest),
+        "new" => return answers(alloc, &mut NvList::new(alloc), rest),
+        _ => {}
     }
+    let bytes = spelled(alloc, words)?;
+    if verb != "fronts" {
+        return read(alloc, verb, &bytes, rest);
+    }
+    for len in 0..bytes.len() {
+        if nvlist::decode(alloc, &bytes[..len]).err() != Some(nvlist::Refusal::BadLabel) {
+            return Ok(format!(in alloc; "the first {len} bytes are read")?);
+        }
+    }
+    Ok(String::from_str(alloc, "each is refused")?)
 }

@@ -59,47 +59,38 @@ fn map_of(alloc: Global, words: &str) -> Result<Vec<u8>, Fail> {
     Ok(map)
 }
 
-/// What the word of an entry says.
-fn word(alloc: Global, digits: &str) -> Result<String, Fail> {
-    match Entry::from_word(u64::from_str_radix(digits, 16)?) {
-        Ok(entry) => {
-            let kind = match entry.kind {
-                Kind::Allocated => "taken",
-                Kind::Freed => "freed",
-            };
-            let run = entry.run;
-            Ok(format!(in alloc; "{kind} {},{} {:x}", run.start, run.len, entry.to_word())?)
-        }
-        Err(refusal) => Ok(format!(in alloc; "{refusal}")?),
+/// What the word of an entry says; or the bytes of a map, the shortest one with its runs, or the runs that it leaves free.
+pub(crate) fn answer(alloc: Global, line: &str) -> Result<String, Fail> {
+    let (verb, words) = line.split_once(" ").unwrap_or((line, ""));
+    let (number, changes) = words.split_once(" ").unwrap_or((words, ""));
+    if verb == "word" {
+        return match Entry::from_word(u64::from_str_radix(number, 16)?) {
+            Ok(entry) => {
+                let kind = match entry.kind {
+                    Kind::Allocated => "taken",
+                    Kind::Freed => "freed",
+                };
+                let run = entry.run;
+                Ok(format!(in alloc; "{kind} {},{} {:x}", run.start, run.len, entry.to_word())?)
+            }
+            Err(refusal) => Ok(format!(in alloc; "{refusal}")?),
+        };
     }
-}
-
-/// The runs that are left free.
-fn runs_of(alloc: Global, set: &FreeSet) -> Result<String, Fail> {
+    if verb == "bytes" {
+        return Ok(hex::encode(alloc, map_of(alloc, words)?.as_slice())?);
+    }
+    let map = map_of(alloc, changes)?;
+    let set = match replay(alloc, &map, number.parse::<u64>()?.clamp(1, 1 << 20)) {
+        Ok(set) => set,
+        Err(refusal) => return Ok(format!(in alloc; "{refusal}")?),
+    };
+    if verb == "condense" {
+        return Ok(hex::encode(alloc, condense(alloc, &set)?.as_slice())?);
+    }
     let mut text = String::new(alloc);
     for run in set.runs() {
         write!(text, "{},{} ", run.start, run.len)?;
     }
     write!(text, "of {}", set.sectors())?;
     Ok(text)
-}
-
-/// The shortest map with the runs of one, or the runs that it leaves free.
-fn replayed(alloc: Global, verb: &str, map: &[u8], sectors: u64) -> Result<String, Fail> {
-    match replay(alloc, map, sectors.clamp(1, 1 << 20)) {
-        Ok(set) if verb == "condense" => Ok(hex::encode(alloc, condense(alloc, &set)?.as_slice())?),
-        Ok(set) => runs_of(alloc, &set),
-        Err(refusal) => Ok(format!(in alloc; "{refusal}")?),
-    }
-}
-
-/// What the word of an entry says; or the bytes of a map, the shortest one with its runs, or the runs that it leaves free.
-pub(crate) fn answer(alloc: Global, line: &str) -> Result<String, Fail> {
-    let (verb, words) = line.split_once(" ").unwrap_or((line, ""));
-    let (number, changes) = words.split_once(" ").unwrap_or((words, ""));
-    match verb {
-        "word" => word(alloc, number),
-        "bytes" => Ok(hex::encode(alloc, map_of(alloc, words)?.as_slice())?),
-        _ => replayed(alloc, verb, &map_of(alloc, changes)?, number.parse()?),
-    }
 }

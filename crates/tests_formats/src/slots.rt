@@ -3,7 +3,7 @@ ghost use Rattle.uberblock_ring.specs.Uberblock.{Fits};
 
 use crate::spelling::{parse, spelled};
 use block_pointer::{Block, Copies, Dva, Property};
-use std::alloc::{AllocError, Global};
+use std::alloc::Global;
 use std::test::Fail;
 use uberblock_ring::*;
 use words::LAST_COUNT;
@@ -180,46 +180,33 @@ pub(crate) fn uberblock_text(alloc: Global, found: Option<&Uberblock>) -> Result
     Ok(String::from_str(alloc, "another")?)
 }
 
-/// The uberblocks in slots that words tell, where there is one.
-fn slots_of(alloc: Global, words: &str) -> Result<Vec<Option<Uberblock>>, AllocError> {
-    let mut slots = Vec::new(alloc);
-    for word in words.split(", ") {
-        let it = parse(word);
-        let is_none = it.verb == "none";
-        slots.push(if is_none {
-            None
-        } else {
-            Some(named(it.verb, it.numbers[0]))
-        })?;
+/// Where the slot of a group is; or of uberblocks the best, of slots that have them the highest, and the one so many groups
+/// before another; or what the bytes of a slot are read as.
+pub(crate) fn answer(alloc: Global, line: &str) -> Result<String, Fail> {
+    let (head, words) = line.split_once(": ").unwrap_or((line, ""));
+    let step = parse(head);
+    let [number, groups, _] = step.numbers;
+    if step.verb == "place" {
+        return Ok(format!(in alloc; "{} {}", slot_of(number), slot_offset(number))?);
     }
-    Ok(slots)
-}
-
-/// Those of them that are there.
-fn there(alloc: Global, slots: &[Option<Uberblock>]) -> Result<Vec<Uberblock>, AllocError> {
-    let mut there = Vec::new(alloc);
-    for uberblock in slots.iter().flatten() {
-        there.push(*uberblock)?;
+    if step.verb == "rank" {
+        let mut slots = Vec::new(alloc);
+        let mut there = Vec::new(alloc);
+        for word in words.split(", ") {
+            let it = parse(word);
+            if it.verb == "none" {
+                slots.push(None)?;
+            } else {
+                slots.push(Some(named(it.verb, it.numbers[0])))?;
+                there.push(named(it.verb, it.numbers[0]))?;
+            }
+        }
+        let best = uberblock_text(alloc, best(&there).as_ref())?;
+        let before = rewound(&slots, &named(step.name, number), groups);
+        let before = uberblock_text(alloc, before.as_ref())?;
+        return Ok(format!(in alloc; "{best}, {:?}, {before}", highest(&slots))?);
     }
-    Ok(there)
-}
-
-/// Of uberblocks the best, the place of the highest, and what is so many groups before another.
-fn ranked(
-    alloc: Global,
-    slots: &[Option<Uberblock>],
-    top: &Uberblock,
-    groups: u64,
-) -> Result<String, Fail> {
-    let best = best(&there(alloc, slots)?);
-    let before = rewound(slots, top, groups);
-    let best = uberblock_text(alloc, best.as_ref())?;
-    let before = uberblock_text(alloc, before.as_ref())?;
-    Ok(format!(in alloc; "{best}, {:?}, {before}", highest(slots))?)
-}
-
-/// What the bytes of a slot are read as.
-fn read(alloc: Global, number: u64, bytes: &[u8]) -> Result<String, Fail> {
+    let bytes = spelled(alloc, words)?;
     let Some(slot) = bytes.first_chunk::<1024>() else {
         return Ok(String::new(alloc));
     };
@@ -230,21 +217,5 @@ fn read(alloc: Global, number: u64, bytes: &[u8]) -> Result<String, Fail> {
             Ok(format!(in alloc; "{text}, kept {is_kept}")?)
         }
         Err(refusal) => Ok(format!(in alloc; "{refusal}")?),
-    }
-}
-
-/// Where the slot of a group is; or of uberblocks the best, of slots that have them the highest, and the one so many groups
-/// before another; or what the bytes of a slot are read as.
-pub(crate) fn answer(alloc: Global, line: &str) -> Result<String, Fail> {
-    let (head, words) = line.split_once(": ").unwrap_or((line, ""));
-    let step = parse(head);
-    let [number, groups, _] = step.numbers;
-    match step.verb {
-        "place" => Ok(format!(in alloc; "{} {}", slot_of(number), slot_offset(number))?),
-        "rank" => {
-            let top = named(step.name, number);
-            ranked(alloc, &slots_of(alloc, words)?, &top, groups)
-        }
-        _ => read(alloc, number, &spelled(alloc, words)?),
     }
 }
