@@ -4,8 +4,9 @@
 
 use commands::command;
 use file_pools::FilePools;
+use progress::Metered;
 use std::alloc::{AllocError, Global};
-use std::io::BufWriter;
+use std::io::{BufWriter, IsTerminal};
 use std::process::ExitCode;
 use std::time::{SystemTime, UNIX_EPOCH};
 use std::{env, io};
@@ -36,13 +37,16 @@ fn run(rt: &HostRuntime) -> io::Result<u8> {
     let given: Vec<String> = env::args(rt)?.collect(alloc)?;
     let words = words_of(alloc, given.as_slice())?;
     let mut pools = FilePools::new(rt);
-    let mut output = BufWriter::new(alloc, io::writer(rt))?;
+    let is_shown = rt.stderr().is_terminal();
+    let mut input = Metered::new(rt.reader(), rt.stderr(), "zfs", is_shown);
+    let output = BufWriter::new(alloc, io::writer(rt))?;
+    let mut output = Metered::new(output, rt.stderr(), "zfs", is_shown);
     let status = command(
         alloc,
         &mut pools,
         words.as_slice(),
         seconds(rt),
-        &mut rt.reader(),
+        &mut input,
         &mut output,
         &mut rt.stderr(),
     );
