@@ -11,7 +11,7 @@ use model_disk::{Fault, FaultDisk, MemDisk};
 use raidz_io::Vdev;
 use raidz_map::Geometry;
 use space_map::append_update;
-use std::alloc::{AllocError, Global};
+use std::alloc::Global;
 use std::test::Fail;
 
 type TestDisk = FaultDisk<MemDisk>;
@@ -53,53 +53,6 @@ fn disks(alloc: Global, sizes: &[usize], fault: Fault) -> Result<Vec<TestDisk>, 
 
 type Made = (Option<TestStore>, String);
 
-/// One vdev of three disks with one parity.
-fn small() -> Result<VdevConfig, Fail> {
-    Ok(VdevConfig {
-        geometry: Geometry::new(3, 1, 9)?,
-        metaslab_shift: 12,
-        meta_slabs: 1,
-    })
-}
-
-/// A vdev of two disks with one parity, whose metaslabs have this shift.
-fn pair(shift: usize) -> Result<VdevConfig, Fail> {
-    Ok(VdevConfig {
-        geometry: Geometry::new(2, 1, 9)?,
-        metaslab_shift: shift.min(64) as u32,
-        meta_slabs: 1,
-    })
-}
-
-fn outcome_of(alloc: Global, store: &Result<TestStore, Refusal>) -> Result<String, AllocError> {
-    match store {
-        Ok(_) => "new".to_string(alloc),
-        Err(refusal) => format!(in alloc; "{refusal:?}"),
-    }
-}
-
-fn made(alloc: Global, store: Result<TestStore, Refusal>) -> Result<Made, Fail> {
-    let text = outcome_of(alloc, &store)?;
-    Ok((store.ok(), text))
-}
-
-/// A new store.
-fn fresh(alloc: Global, call: &Call) -> Result<Made, Fail> {
-    if call.name == "vdevs" {
-        let vdevs = vec![in alloc; pair(call.number(1))?; call.number(0)]?;
-        let sizes = call.numbers.get(2..).unwrap_or(&[]);
-        let disks = disks(alloc, sizes, Fault::At(u64::MAX))?;
-        return made(alloc, BlockStore::new(alloc, disks, &vdevs));
-    }
-    let fault = match call.numbers.first() {
-        Some(write) => Fault::Write(*write as u64),
-        None => Fault::At(u64::MAX),
-    };
-    let vdev = small()?;
-    let disks = disks(alloc, &[SMALL_DISK; 3], fault)?;
-    made(alloc, BlockStore::new(alloc, disks, &[vdev]))
-}
-
 /// A store over the array of another one, with these disks out.
 fn opened(alloc: Global, store: TestStore, geometry: Geometry, call: &Call) -> Result<Made, Fail> {
     let child_sectors = match sectors_for_blocks(SMALL_DISK as u64) {
@@ -119,24 +72,57 @@ fn opened(alloc: Global, store: TestStore, geometry: Geometry, call: &Call) -> R
     ];
     let out = marks.get(..call.numbers.len()).unwrap_or(&marks);
     match BlockStore::opened(alloc, store.into_array(), &[shape], out) {
-        Ok(store) => made(alloc, Ok(store)),
+        Ok(store) => Ok((Some(store), format!(in alloc; "new")?)),
         Err((refusal, disks)) => {
-            let count = disks.len();
-            Ok((None, format!(in alloc; "{refusal:?} {count} disks")?))
+            Ok((
+                None,
+                format!(in alloc; "{refusal:?} {} disks", disks.len())?,
+            ))
         }
     }
 }
 
-/// The store that a call makes of that which was there.
-fn changed(alloc: Global, call: &Call, store: TestStore) -> Result<Made, Fail> {
-    let vdev = small()?;
-    match call.name {
-        "over" => made(alloc, BlockStore::new(alloc, store.into_disks(), &[vdev])),
-        "opened" => opened(alloc, store, vdev.geometry, call),
-        _ => {
-            let count = store.into_disks().len();
-            Ok((None, format!(in alloc; "{count} disks")?))
+/// The store that a call makes, by that which was there.
+fn made(alloc: Global, call: &Call, before: Option<TestStore>) -> Result<Made, Fail> {
+    let small = VdevConfig {
+        geometry: Geometry::new(3, 1, 9)?,
+        metaslab_shift: 12,
+        meta_slabs: 1,
+    };
+    let pair = VdevConfig {
+        geometry: Geometry::new(2, 1, 9)?,
+        metaslab_shift: call.number(1).min(64) as u32,
+        meta_slabs: 1,
+    };
+    let is_small = call.name != "vdevs";
+    let sizes = if is_small {
+        &[SMALL_DISK; 3]
+    } else {
+        call.numbers.get(2..).unwrap_or(&[])
+    };
+    let fault = match call.numbers.first() {
+        Some(write) if is_small => Fault::Write(*write as u64),
+        _ => Fault::At(u64::MAX),
+    };
+    let store = match (call.name, before) {
+        ("small" | "beside", _) => BlockStore::new(alloc, disks(alloc, sizes, fault)?, &[small]),
+        ("vdevs", _) => {
+            let vdevs = vec![in alloc; pair; call.number(0)]?;
+            BlockStore::new(alloc, disks(alloc, sizes, fault)?, &vdevs)
         }
+        ("over", Some(store)) => BlockStore::new(alloc, store.into_disks(), &[small]),
+        ("opened", Some(store)) => return opened(alloc, store, small.geometry, call),
+        ("disks", Some(store)) => {
+            return Ok((
+                None,
+                format!(in alloc; "{} disks", store.into_disks().len())?,
+            ));
+        }
+        _ => return Err(Fail::new("no store")),
+    };
+    match store {
+        Ok(store) => Ok((Some(store), format!(in alloc; "new")?)),
+        Err(refusal) => Ok((None, format!(in alloc; "{refusal:?}")?)),
     }
 }
 
@@ -349,31 +335,6 @@ fn planned(
     Ok(())
 }
 
-/// Writes all blocks that are due: how many writes failed.
-fn write_all(store: &mut TestStore) -> usize {
-    let mut failed = 0usize;
-    for _ in 0..store.due_count() {
-        if store.due_count() > 0 && store.write_next().is_err() {
-            failed = failed.saturating_add(1);
-        }
-    }
-    failed
-}
-
-fn maps_text(store: &TestStore, alloc: Global, gone: &[Block]) -> Result<String, AllocError> {
-    match maps(store, alloc, gone) {
-        Ok((bytes, refused)) => format!(in alloc; "{bytes} bytes {refused} refused"),
-        Err(refusal) => format!(in alloc; "{refusal:?}"),
-    }
-}
-
-fn ended(alloc: Global, ended: Result<(), Refusal>) -> Result<String, AllocError> {
-    match ended {
-        Ok(()) => "ok".to_string(alloc),
-        Err(refusal) => format!(in alloc; "{refusal:?}"),
-    }
-}
-
 /// What comes of a call on a store that is there.
 fn called(
     store: &mut TestStore,
@@ -381,49 +342,54 @@ fn called(
     alloc: Global,
     call: &Call,
 ) -> Result<String, Fail> {
+    let blocks = chosen(known, alloc, call)?;
     let disk = call.number(0);
-    let text = match call.name {
+    let refusal = match call.name {
         "plan" | "begin" | "drop" | "finish" | "take" | "take_far" | "release" => {
-            let blocks = chosen(known, alloc, call)?;
-            ended(alloc, planned(store, known, alloc, call, &blocks))
+            match planned(store, known, alloc, call, &blocks) {
+                Ok(()) => return Ok(format!(in alloc; "ok")?),
+                Err(refusal) => refusal,
+            }
         }
-        "write" => format!(in alloc; "{} failed", write_all(store)),
+        "write" => {
+            let mut failed = 0usize;
+            for _ in 0..store.due_count() {
+                if store.due_count() > 0 && store.write_next().is_err() {
+                    failed = failed.saturating_add(1);
+                }
+            }
+            return Ok(format!(in alloc; "{failed} failed")?);
+        }
         "flush" if disk < store.disk_count() && store.flush(disk).is_ok() => {
-            "ok".to_string(alloc)
+            return Ok(format!(in alloc; "ok")?);
         }
-        "maps" => maps_text(store, alloc, &chosen(known, alloc, call)?),
+        "maps" => match maps(store, alloc, &blocks) {
+            Ok((bytes, refused)) => {
+                return Ok(format!(in alloc; "{bytes} bytes {refused} refused")?);
+            }
+            Err(refusal) => refusal,
+        },
         "due" | "out" | "since" | "size" | "two_vdevs" | "same_place" | "shape" => {
             return said(store, known, alloc, call);
         }
         _ => return read(store, known, alloc, call),
     };
-    Ok(text?)
-}
-
-impl Blocks {
-    /// What comes of a call that makes another store.
-    fn replaced(&mut self, alloc: Global, call: &Call) -> Result<String, Fail> {
-        let (store, text) = match (call.name, self.store.take()) {
-            ("over" | "opened" | "disks", Some(store)) => changed(alloc, call, store)?,
-            ("over" | "opened" | "disks", None) => return Err(Fail::new("no store")),
-            (_, before) => {
-                self.other = before;
-                self.known.clear();
-                fresh(alloc, call)?
-            }
-        };
-        self.store = store;
-        Ok(text)
-    }
+    Ok(format!(in alloc; "{refusal:?}")?)
 }
 
 impl Bench for Blocks {
     fn answer(&mut self, alloc: Global, call: &Call) -> Result<String, Fail> {
+        if matches!(call.name, "small" | "vdevs" | "beside") {
+            self.other = self.store.take();
+            self.known.clear();
+        }
         if matches!(
             call.name,
             "small" | "vdevs" | "beside" | "over" | "opened" | "disks"
         ) {
-            return self.replaced(alloc, call);
+            let (store, text) = made(alloc, call, self.store.take())?;
+            self.store = store;
+            return Ok(text);
         }
         let Some(store) = &mut self.store else {
             return Err(Fail::new("no store"));

@@ -2,7 +2,7 @@
 use crate::lines::{Bench, Call};
 use disk_set::{Behind, DiskSet, SlotWrite};
 use model_disk::{DiskArray, Fault, FaultDisk, MemDisk};
-use std::alloc::{AllocError, Global};
+use std::alloc::Global;
 use std::collections::VecDeque;
 use std::test::Fail;
 
@@ -65,66 +65,42 @@ fn plan_without(alloc: Global, disk: usize) -> Result<String, Fail> {
     )?)
 }
 
-/// A set of two disks of 16 bytes, of which the second fails each call.
-fn new_set(alloc: Global) -> Result<DiskSet<Disk>, Fail> {
-    let mut disks = DiskArray::new(Vec::new(alloc));
-    disks.push(FaultDisk::new(MemDisk::new(alloc, 16)?, Fault::At(u64::MAX)))?;
-    disks.push(FaultDisk::new(MemDisk::new(alloc, 16)?, Fault::From(0)))?;
-    let out = vec![in alloc; false; disks.len()]?;
-    Ok(DiskSet::new(alloc, disks, out)?)
-}
-
-/// What a set says of itself.
-fn said(set: &DiskSet<Disk>, alloc: Global, call: &Call) -> Result<String, AllocError> {
-    let disk = call.number(0);
-    match call.name {
-        "due" => format!(in alloc; "{} due", set.due_count()),
-        "out" => format!(in alloc; "{}", set.is_out(disk)),
-        "since" => format!(in alloc; "{:?}", set.out_since(disk)),
-        "absent" => format!(in alloc; "{:?}", set.absent(alloc, &call.numbers)?),
-        _ => format!(in alloc; "group {}", set.group()),
-    }
-}
-
-/// What comes of a call of one disk.
-fn on_disk(set: &mut DiskSet<Disk>, alloc: Global, call: &Call) -> Result<String, Fail> {
-    let disk = call.number(0);
-    let ended = match call.name {
-        "flush" if disk < set.len() => set.flush(disk),
-        "write" if disk < set.len() && set.size(disk) == 16 => set.write_at(disk, 13, b"abc"),
-        _ => return Err(Fail::new("no such disk")),
-    };
-    match ended {
-        Ok(()) => Ok("ok".to_string(alloc)?),
-        Err(failed) => Ok(format!(in alloc; "{} is out", failed.disk)?),
-    }
-}
-
-/// What comes of a call of a set that is there.
-fn called(set: &mut DiskSet<Disk>, alloc: Global, call: &Call) -> Result<String, Fail> {
-    if matches!(call.name, "flush" | "write") {
-        return on_disk(set, alloc, call);
-    }
-    if call.name == "enter" {
-        set.enter(call.number(0) as u64);
-    }
-    Ok(said(set, alloc, call)?)
-}
-
 impl Bench for Sets {
     fn answer(&mut self, alloc: Global, call: &Call) -> Result<String, Fail> {
-        match (call.name, &mut self.0) {
-            ("plan_without", _) => plan_without(alloc, call.number(0)),
-            ("set", _) => {
-                self.0 = Some(new_set(alloc)?);
-                Ok("new".to_string(alloc)?)
-            }
+        let disk = call.number(0);
+        let ended = match (call.name, &mut self.0) {
+            ("plan_without", _) => return plan_without(alloc, disk),
             ("read", set) => match set.take() {
-                Some(set) => set.into_array().answer(alloc, call),
-                None => Err(Fail::new("no set")),
+                Some(set) => return set.into_array().answer(alloc, call),
+                None => return Err(Fail::new("no set")),
             },
-            (_, Some(set)) => called(set, alloc, call),
-            (_, None) => Err(Fail::new("no set")),
+            ("enter", Some(set)) => {
+                set.enter(disk as u64);
+                return Ok(format!(in alloc; "group {}", set.group())?);
+            }
+            ("due", Some(set)) => return Ok(format!(in alloc; "{} due", set.due_count())?),
+            ("out", Some(set)) => return Ok(format!(in alloc; "{}", set.is_out(disk))?),
+            ("since", Some(set)) => return Ok(format!(in alloc; "{:?}", set.out_since(disk))?),
+            ("absent", Some(set)) => {
+                return Ok(format!(in alloc; "{:?}", set.absent(alloc, &call.numbers)?)?);
+            }
+            ("flush", Some(set)) if disk < set.len() => set.flush(disk),
+            ("write", Some(set)) if disk < set.len() && set.size(disk) == 16 => {
+                set.write_at(disk, 13, b"abc")
+            }
+            ("group", Some(set)) => return Ok(format!(in alloc; "group {}", set.group())?),
+            _ => {
+                let mut disks = DiskArray::new(Vec::new(alloc));
+                disks.push(FaultDisk::new(MemDisk::new(alloc, 16)?, Fault::At(u64::MAX)))?;
+                disks.push(FaultDisk::new(MemDisk::new(alloc, 16)?, Fault::From(0)))?;
+                let out = vec![in alloc; false; disks.len()]?;
+                self.0 = Some(DiskSet::new(alloc, disks, out)?);
+                return Ok(format!(in alloc; "new")?);
+            }
+        };
+        match ended {
+            Ok(()) => Ok(format!(in alloc; "ok")?),
+            Err(failed) => Ok(format!(in alloc; "{} is out", failed.disk)?),
         }
     }
 }

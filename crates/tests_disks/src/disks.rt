@@ -4,8 +4,7 @@ use crate::disk_sets::{SETS, Sets};
 use crate::lines::{Bench, Call, wrong_lines};
 use model_disk::{Disk, DiskArray, DiskError, Fault, FaultDisk, FileDisk, MemDisk, Member};
 use pool_members::{AllPresent, Arranged, Child, HandedIn, all_present, arrange};
-use std::alloc::{AllocError, Global};
-use std::fs::{File, Files};
+use std::alloc::Global;
 use std::test::Fail;
 use std::{fs, mem};
 
@@ -159,42 +158,31 @@ enum Disks {
     Members(DiskArray<Member<MemDisk>>, HandedIn<MemDisk>),
 }
 
-/// One disk of zeros with a fault.
-fn faulty(alloc: Global, fault: Fault) -> Result<Disks, Fail> {
-    let mut disks = DiskArray::new(Vec::new(alloc));
-    disks.push(FaultDisk::new(MemDisk::new(alloc, 16)?, fault))?;
-    Ok(Disks::Faulty(disks))
-}
-
-/// A disk with one byte all over.
-fn filled(alloc: Global, size: usize, byte: usize) -> Result<MemDisk, Fail> {
-    let byte = u8::try_from(byte)?;
-    Ok(MemDisk::holding(vec![in alloc; byte; size]?))
-}
-
-fn memory(alloc: Global, numbers: &[usize]) -> Result<Disks, Fail> {
-    let mut disks = DiskArray::new(Vec::new(alloc));
-    for pair in numbers.chunks(2) {
-        if let [size, byte] = pair {
-            disks.push(filled(alloc, *size, *byte)?)?;
-        }
-    }
-    Ok(Disks::Memory(disks))
-}
-
 /// The disks that a call makes.
 fn new_disks(alloc: Global, call: &Call) -> Result<Disks, Fail> {
     let number = call.number(0) as u64;
     let fault = match call.name {
-        "memory" => return memory(alloc, &call.numbers),
-        "fault_at" => Fault::At(number),
-        "fault_from" => Fault::From(number),
-        "fault_write" => Fault::Write(number),
-        "fault_flush" => Fault::Flush(number),
-        "fault_read" => Fault::Read(number),
+        "memory" => None,
+        "fault_at" => Some(Fault::At(number)),
+        "fault_from" => Some(Fault::From(number)),
+        "fault_write" => Some(Fault::Write(number)),
+        "fault_flush" => Some(Fault::Flush(number)),
+        "fault_read" => Some(Fault::Read(number)),
         _ => return Err(Fail::new(format_args!("no call {}", call.name))),
     };
-    faulty(alloc, fault)
+    if let Some(fault) = fault {
+        let mut disks = DiskArray::new(Vec::new(alloc));
+        disks.push(FaultDisk::new(MemDisk::new(alloc, 16)?, fault))?;
+        return Ok(Disks::Faulty(disks));
+    }
+    let mut disks = DiskArray::new(Vec::new(alloc));
+    for pair in call.numbers.chunks(2) {
+        if let [size, byte] = pair {
+            let bytes = vec![in alloc; u8::try_from(*byte)?; *size]?;
+            disks.push(MemDisk::holding(bytes))?;
+        }
+    }
+    Ok(Disks::Memory(disks))
 }
 
 /// The disks in the order of the children that a call tells.
@@ -218,82 +206,59 @@ fn in_order(alloc: Global, disks: Vec<MemDisk>, call: &Call) -> Result<(Disks, S
     }
 }
 
-/// The disks as those of as many children.
-fn present(alloc: Global, disks: Vec<MemDisk>) -> Result<(Disks, String), Fail> {
-    match all_present(alloc, disks) {
-        Ok(AllPresent { disks, handed }) => {
-            let text = "present".to_string(alloc)?;
-            Ok((Disks::Members(DiskArray::new(disks), handed), text))
-        }
-        Err(disks) => {
-            let text = "no memory".to_string(alloc)?;
-            Ok((Disks::Memory(DiskArray::new(disks)), text))
-        }
-    }
-}
-
-/// What the last of these disks holds.
-fn last(alloc: Global, disks: &mut Vec<MemDisk>) -> Result<String, AllocError> {
-    match disks.pop() {
-        Some(disk) => hex::encode(alloc, disk.bytes()),
-        None => "none".to_string(alloc),
-    }
-}
-
-/// Disks in memory after a call that makes others of them.
-fn of_memory(alloc: Global, disks: Vec<MemDisk>, call: &Call) -> Result<(Disks, String), Fail> {
-    let mut disks = disks;
-    let text = match call.name {
-        "arrange" => return in_order(alloc, disks, call),
-        "present" => return present(alloc, disks),
-        "last" => last(alloc, &mut disks),
-        _ => "again".to_string(alloc),
-    };
-    Ok((Disks::Memory(DiskArray::new(disks)), text?))
-}
-
-/// The disk below the fault.
-fn below(alloc: Global, disks: Vec<FaultDisk<MemDisk>>) -> Result<(Disks, String), Fail> {
-    let mut below = Vec::new(alloc);
-    for disk in disks {
-        disk.fails_as_told();
-        below.push(disk.into_inner())?;
-    }
-    Ok((
-        Disks::Memory(DiskArray::new(below)),
-        "below".to_string(alloc)?,
-    ))
-}
-
-/// The disk of the last child.
-fn member(alloc: Global, members: Vec<Member<MemDisk>>) -> Result<(Disks, String), Fail> {
-    let mut members = members;
-    let Some(member) = members.pop() else {
-        return Err(Fail::new("no member"));
-    };
-    let text = format!(in alloc; "is absent: {}", member.is_absent())?;
-    let mut within = Vec::new(alloc);
-    if let Some(disk) = member.into_disk() {
-        within.push(disk)?;
-    }
-    Ok((Disks::Memory(DiskArray::new(within)), text))
-}
-
 impl Disks {
     /// The disks after a call that makes others of them.
     fn changed(self, alloc: Global, call: &Call) -> Result<(Disks, String), Fail> {
-        match (self, call.name) {
-            (Disks::Memory(array), "arrange" | "present" | "last" | "again") => {
-                of_memory(alloc, array.into_disks(), call)
+        let (disks, text) = match (self, call.name) {
+            (Disks::Memory(array), "arrange") => {
+                return in_order(alloc, array.into_disks(), call);
             }
-            (Disks::Faulty(array), "below") => below(alloc, array.into_disks()),
-            (Disks::Members(array, _), "member") => member(alloc, array.into_disks()),
-            (Disks::Members(array, handed), "restore") => {
-                let disks = DiskArray::new(handed.restore(array.into_disks()));
-                Ok((Disks::Memory(disks), "restored".to_string(alloc)?))
+            (Disks::Memory(array), "present") => {
+                return match all_present(alloc, array.into_disks()) {
+                    Ok(AllPresent { disks, handed }) => {
+                        let members = Disks::Members(DiskArray::new(disks), handed);
+                        Ok((members, "present".to_string(alloc)?))
+                    }
+                    Err(disks) => {
+                        let memory = Disks::Memory(DiskArray::new(disks));
+                        Ok((memory, "no memory".to_string(alloc)?))
+                    }
+                };
             }
-            _ => Ok((new_disks(alloc, call)?, "new".to_string(alloc)?)),
-        }
+            (Disks::Members(array, handed), "restore") => (
+                handed.restore(array.into_disks()),
+                "restored".to_string(alloc)?,
+            ),
+            (Disks::Memory(array), "again") => (array.into_disks(), "again".to_string(alloc)?),
+            (Disks::Memory(array), "last") => {
+                let mut disks = array.into_disks();
+                match disks.pop() {
+                    Some(disk) => (disks, hex::encode(alloc, disk.bytes())?),
+                    None => (disks, "none".to_string(alloc)?),
+                }
+            }
+            (Disks::Faulty(array), "below") => {
+                let mut below = Vec::new(alloc);
+                if let Some(disk) = array.into_disks().pop() {
+                    disk.fails_as_told();
+                    below.push(disk.into_inner())?;
+                }
+                (below, "below".to_string(alloc)?)
+            }
+            (Disks::Members(array, _), "member") => {
+                let mut within = Vec::new(alloc);
+                let Some(member) = array.into_disks().pop() else {
+                    return Err(Fail::new("no member"));
+                };
+                let is_absent = member.is_absent();
+                if let Some(disk) = member.into_disk() {
+                    within.push(disk)?;
+                }
+                (within, format!(in alloc; "is absent: {is_absent}")?)
+            }
+            _ => return Ok((new_disks(alloc, call)?, "new".to_string(alloc)?)),
+        };
+        Ok((Disks::Memory(DiskArray::new(disks)), text))
     }
 }
 
@@ -313,57 +278,23 @@ impl Bench for Disks {
     }
 }
 
-type FileDisks = DiskArray<FileDisk>;
-
-/// A disk over a new file keeps its bytes, and its file is not made twice: the lines of which something else comes, and
-/// whether it isn't.
-fn over_new_file<R: Eprint + Files<File = File>>(
-    rt: &R,
-    alloc: Global,
-    files: &mut FileDisks,
-) -> Result<(String, bool), Fail> {
-    files.push(FileDisk::create(rt, PATH, 16)?)?;
-    let wrong = wrong_lines(rt, alloc, files, NEW_FILE)?;
-    Ok((wrong, FileDisk::create(rt, PATH, 16).is_err()))
-}
-
-/// A second disk over the file has them.
-fn over_same_file<R: Eprint + Files<File = File>>(
-    rt: &R,
-    alloc: Global,
-    files: &mut FileDisks,
-) -> Result<String, Fail> {
-    files.push(FileDisk::open(rt, PATH)?)?;
-    wrong_lines(rt, alloc, files, SAME_FILE)
-}
-
-/// The lines of both of which something else comes, and whether the file isn't made twice.
-fn over_a_file<R: Eprint + Files<File = File>>(
-    rt: &R,
-    alloc: Global,
-) -> Result<(String, bool), Fail> {
-    let mut files = DiskArray::new(Vec::new(alloc));
-    let (mut wrong, stands) = over_new_file(rt, alloc, &mut files)?;
-    wrong.push_str(over_same_file(rt, alloc, &mut files)?.as_str())?;
-    Ok((wrong, stands))
-}
-
-#[test]
-fn disks_over_a_file(rt: HostRuntime) -> Result<(), Fail> {
-    let _ = fs::remove_file(&rt, PATH);
-    let (wrong, stands) = over_a_file(&rt, rt.alloc())?;
-    fs::remove_file(&rt, PATH)?;
-    assert!(rt; stands, "the file is there");
-    assert!(rt; wrong.is_empty(), "{wrong}");
-    Ok(())
-}
-
+/// Besides, a disk over a file keeps its bytes, its file is not made twice, and a second disk over it has
+/// them.
 #[test]
 fn disks_members_and_sets(rt: HostRuntime) -> Result<(), Fail> {
+    let _ = fs::remove_file(&rt, PATH);
+    let mut files = DiskArray::new(Vec::new(rt.alloc()));
+    files.push(FileDisk::create(&rt, PATH, 16)?)?;
+    let mut wrong = wrong_lines(&rt, rt.alloc(), &mut files, NEW_FILE)?;
+    let stands = FileDisk::create(&rt, PATH, 16).is_err();
+    files.push(FileDisk::open(&rt, PATH)?)?;
+    wrong.push_str(wrong_lines(&rt, rt.alloc(), &mut files, SAME_FILE)?.as_str())?;
+    fs::remove_file(&rt, PATH)?;
     let mut bench = Disks::Memory(DiskArray::new(Vec::new(rt.alloc())));
-    let mut wrong = wrong_lines(&rt, rt.alloc(), &mut bench, DISKS)?;
+    wrong.push_str(wrong_lines(&rt, rt.alloc(), &mut bench, DISKS)?.as_str())?;
     wrong.push_str(wrong_lines(&rt, rt.alloc(), &mut bench, MEMBERS)?.as_str())?;
     wrong.push_str(wrong_lines(&rt, rt.alloc(), &mut Sets(None), SETS)?.as_str())?;
+    assert!(rt; stands, "the file is there");
     assert!(rt; wrong.is_empty(), "{wrong}");
     Ok(())
 }

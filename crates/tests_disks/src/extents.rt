@@ -6,7 +6,7 @@ ghost use Rattle.raidz_io.specs.Places.{CanHold, IsOnDisks};
 use crate::lines::{Bench, Call};
 use crate::pattern::Pattern;
 use model_disk::{DiskArray, Fault, FaultDisk, MemDisk};
-use raidz_io::{ColumnWrite, DATA_START, Extent, Refusal, Vdev, WritesAt, extent_fits};
+use raidz_io::{DATA_START, Extent, Refusal, Vdev, WritesAt, extent_fits};
 use raidz_map::Geometry;
 use sha2::{Digest, Sha256};
 use std::alloc::{AllocError, Global};
@@ -197,56 +197,31 @@ fn tally(
     Ok(format!(in alloc; "{count} {came}")?)
 }
 
-/// A block of five sectors with one parity, as `fresh` makes it, without its disks.
-fn alone(alloc: Global) -> Result<Extent, Fail>
-    ensures fits { IfOk result CanHold }
-    ensures sectors { IfOk result (λ it. it.sectors ≡ 5) }
-{
-    let (extent, _) = fresh(alloc, 1, 0)?;
-    Ok(extent)
-}
-
 /// The writes of the columns of a block with one parity, which share the bytes of others or have their own.
-fn writes_of(alloc: Global, block: &[u8], are_shared: bool) -> Result<Vec<ColumnWrite>, Fail>
-    requires { length block.now ≡ 2560 }
-{
-    let extent = alone(alloc)?;
-    let writes = extent.column_writes(alloc, block)?;
-    if !are_shared {
-        return Ok(writes);
-    }
-    Ok(extent.writes_like(alloc, block, &WritesAt { extent, writes })?)
-}
-
-/// Where a write goes, and where its bytes stand in the block from that place on, if they do.
-fn told(
-    alloc: Global,
-    write: &ColumnWrite,
-    block: &[u8],
-    at: Option<usize>,
-) -> Result<String, AllocError> {
-    let (disk, offset, len) = (write.disk, write.offset, write.bytes().len());
-    match at {
-        None => format!(in alloc; "{disk}@{offset:#x} parity"),
-        Some(at) if block.get(at..at.saturating_add(len)) == Some(write.bytes()) => {
-            format!(in alloc; "; {disk}@{offset:#x} {at}+{len}")
-        }
-        Some(_) => format!(in alloc; "; {disk}@{offset:#x} other bytes"),
-    }
-}
-
-/// All of them: the first is the parity's.
 fn writes(alloc: Global, are_shared: bool) -> Result<String, Fail> {
+    let (extent, _disks) = fresh(alloc, 1, 0)?;
     let block = Pattern::BLOCK.bytes(alloc, 2560)?;
-    let writes = writes_of(alloc, &block, are_shared)?;
+    let mut writes = extent.column_writes(alloc, &block)?;
+    if are_shared {
+        let others = WritesAt { extent, writes };
+        writes = extent.writes_like(alloc, &block, &others)?;
+    }
     let mut text = String::new(alloc);
-    let mut at = None;
+    let mut at = 0usize;
     for write in &writes {
-        text.push_str(told(alloc, write, &block, at)?.as_str())?;
-        at = match at {
-            None => Some(0),
-            Some(at) => Some(at.saturating_add(write.bytes().len())),
-        };
+        let (len, place) = (
+            write.bytes().len(),
+            format!(in alloc; "{}@{:#x}", write.disk, write.offset)?,
+        );
+        let end = at.saturating_add(len);
+        if text.is_empty() {
+            text.push_str(format!(in alloc; "{place} parity")?.as_str())?;
+        } else if block.get(at..end) == Some(write.bytes()) {
+            text.push_str(format!(in alloc; "; {place} {at}+{len}")?.as_str())?;
+            at = end;
+        } else {
+            text.push_str(format!(in alloc; "; {place} other bytes")?.as_str())?;
+        }
     }
     Ok(text)
 }
