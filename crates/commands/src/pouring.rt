@@ -23,7 +23,7 @@ fn print<W: Write>(output: &mut W, bytes: &[u8]) -> io::Result<()>
     output.write_all(bytes)
 }
 
-/// Reads the first bytes of a device, and prints them.
+/// Reads the first bytes of a device, and prints them. What an output may still hold back is on its way when this is done.
 pub(crate) fn pour_out<P: PoolSteps, W: Write, C>(
     alloc: Global,
     device: &mut Device<P>,
@@ -48,6 +48,9 @@ pub(crate) fn pour_out<P: PoolSteps, W: Write, C>(
             return Err(Stop::Output);
         };
     }
+    let Ok(()) = output.flush() else {
+        return Err(Stop::Output);
+    };
     Ok(())
 }
 

@@ -68,7 +68,7 @@ pub(crate) fn remove<F: Files<File = File>>(files: &F, paths: &Paths, count: usi
     }
 }
 
-/// Makes a file of so many zeros and locks it, where it can be locked.
+/// Makes a file of so many zeros and locks it, where it can be locked. One that another command has locked by then is removed again.
 fn make_one<F: Files<File = File>>(
     files: &F,
     path: &str,
@@ -77,7 +77,10 @@ fn make_one<F: Files<File = File>>(
     let disk = FileDisk::create(files, path, bytes).ok()?;
     match lock(files, path) {
         Ok(lock) => Some((disk, lock)),
-        Err(_) => None,
+        Err(_) => {
+            let _ = fs::remove_file(files, path);
+            None
+        }
     }
 }
 

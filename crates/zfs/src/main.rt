@@ -6,7 +6,7 @@ use commands::command;
 use file_pools::FilePools;
 use progress::Metered;
 use std::alloc::{AllocError, Global};
-use std::io::{BufWriter, IsTerminal, Write};
+use std::io::{BufWriter, IsTerminal};
 use std::process::ExitCode;
 use std::time::{SystemTime, UNIX_EPOCH};
 use std::{env, io};
@@ -50,13 +50,7 @@ fn run(rt: &HostRuntime) -> io::Result<u8> {
         &mut output,
         &mut rt.stderr(),
     );
-    let number = status.number();
-    // What a whole read left in the buffer: where that can't be written the line isn't done.
-    if output.flush().is_err() && number == 0 {
-        let _ = writeln!(rt.stderr(), "zfs: output");
-        return Ok(2);
-    }
-    Ok(number)
+    Ok(status.number())
 }
 
 fn main(rt: HostRuntime) -> ExitCode {

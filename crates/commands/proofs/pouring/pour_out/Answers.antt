@@ -2,6 +2,7 @@ use Rattle.std.proofs.Common.{◌≡◌, ◌≤◌, ◌<◌, ◌+◌, ◌*◌, �
 use Rattle.std.specs.Io.KnownBytes.{Appends}
 use Rattle.commands.specs.Pouring.{IsPouredOut}
 use Rattle.std.specs.Int.{div_ceil}
+use Rattle.std.proofs.KnownBytes.{Appends-kept}
 use Rattle.commands.proofs.Leading.{PouredSoFar, none_poured, poured_more, poured_still}
 use Rattle.commands.proofs.pouring.pour_out.Goals as goal
 
@@ -47,4 +48,11 @@ pub returns-clause-done : goal.returns-clause-done
 returns-clause-done g c =
     let ended : c.args.size ≤ c.loop-number.number * 2 ^ 20 = at_end c.args.size c.loop-number.number (subst (λ n. n ≤ c.loop-number.number) c.div_ceil-number-end.ensures c.loop-number-test.false) in
     let all : min c.args.size (c.loop-number.number * 2 ^ 20) ≡ c.args.size = omega (arith, ended) in
-    subst (λ n. IsPouredOut g.P.PoolSteps c.args.device.now c.loop-number.device n (g.W.Write.contents c.args.output.now) (g.W.Write.contents c.loop-number.output)) all c.loop-number.invariant.poured
+    let before = g.W.Write.contents c.args.output.now in
+    let after = g.W.Write.contents c.loop-number.output in
+    let poured = subst (λ n. IsPouredOut g.P.PoolSteps c.args.device.now c.loop-number.device n before after) all c.loop-number.invariant.poured in
+    record {
+      bytes = poured.bytes;
+      appends = Appends-kept before after (g.W.Write.contents c.flush.new.self) poured.bytes poured.appends c.flush.ensures.bytes;
+      reads = poured.reads;
+    }
