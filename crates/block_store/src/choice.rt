@@ -109,9 +109,10 @@ impl VdevMetaslabs {
     {
         let shape = self.shape();
         for metaslab in first..end {
+            // Its free runs are searched last, where nothing else speaks against the metaslab.
             if shape.is_in_region(wanted.copies, metaslab as u64)
-                && self.has_room(metaslab, wanted.sectors)
                 && may_take(shape, taken, vdev, metaslab, wanted.spread)
+                && self.has_room(metaslab, wanted.sectors)
             {
                 return Some(metaslab);
             }

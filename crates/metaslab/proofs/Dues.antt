@@ -1,6 +1,7 @@
 -- What is due is given to the free sectors.
 use Rattle.std.proofs.Common.{◌≡◌, ℕ, inl, inr, Bool, true, false, ◌||◌, ◌&&◌, not, Some, None, List, [], ◌∷◌, refl, sym, ap, ◌∙◌}
 use Rattle.std.specs.Prelude.{Option}
+use Rattle.std.specs.List.{list_any}
 use Rattle.space_map.specs.Sectors.{names, contains, changed}
 use Rattle.metaslab.specs.declared.settling.Release.{Release}
 use Rattle.metaslab.specs.Released.{released_by, frees, kept, AreHeldBack, IsHeldBack}
@@ -111,6 +112,27 @@ settled_space under old new g h sectors given rest pins =
         pins = pins;
       },
     )
+
+-- ---- where nothing is due
+
+stays : (under : List ℕ) (g : ℕ) (b : Bool) (rs : List Release) → list_any (λ (r : Release). is_due under g r.group) rs ≡ false
+    → (s : ℕ) → state_of b (released_by rs s) ≡ settled under g (state_of b (released_by rs s))
+stays under g true rs none s = refl
+stays under g false [] none s = refl
+stays under g false (r ∷ rs) none s =
+    elim (cases (is_due under g r.group)) [
+      | inl now ↦ let some : true ≡ false = rw now at none in absurd cc
+      | inr later ↦
+          let rest : list_any (λ (it : Release). is_due under g it.group) rs ≡ false = rw later at none in
+          elim (cases (names r.run s)) [ inl named ↦ rw (named, later) refl | inr other ↦ rw other (stays under g false rs rest s) ]
+    ]
+
+pub nothing_settles : (under : List ℕ) (space : Space) (g : ℕ) → list_any (λ (r : Release). is_due under g r.group) space.released ≡ false → SettlesUnder under space space g
+nothing_settles under space g none = record {
+  states = λ s. stays under g (contains space.free.runs s) space.released none s;
+  sectors = refl;
+  pins = refl;
+}
 
 -- ---- all that was released
 

@@ -3,7 +3,7 @@ ghost use Rattle.std.specs.Prelude.{◌≡◌, ◌<◌, [], ◌↔◌, IsTrue, O
 ghost use Rattle.std.specs.Bool.{OnTrue, OnFalse};
 
 use crate::refusal::Refusal;
-use crate::settling::{Release, change, drop_due, give_all, give_due};
+use crate::settling::{Release, change, drop_due, give_all, give_due, holds_due};
 use crate::sharing::{shares_released, shares_sector};
 use space_map::{FreeSet, Kind, Run};
 use std::alloc::{AllocError, Global};
@@ -165,11 +165,14 @@ impl Metaslab {
     }
 
     /// Settles under pins that stand elsewhere, as those of a vdev stand once beside its metaslabs: its own are not
-    /// asked. An error, that memory is short, leaves the metaslab as it was.
+    /// asked. It takes no memory where nothing is due. An error, that memory is short, leaves the metaslab as it was.
     pub fn settle_under(&mut self, pins: &[u64], group: u64) -> Result<(), AllocError>
         ensures settled { OnOk result (SettlesUnder pins.now self.old self.new group) }
         ensures err { OnErr result (self.new ≡ self.old) }
     {
+        if !holds_due(&self.released, pins, group) {
+            return Ok(());
+        }
         let mut free = self.free.clone()?;
         give_due(&mut free, &self.released, pins, group)?;
         drop_due(&mut self.released, pins, group);

@@ -1,6 +1,6 @@
 //! What was released, and when it may be handed out again.
 ghost use Rattle.std.specs.Prelude.{◌≡◌, ◌<◌, nat_le, true, OnOk, OnErr};
-ghost use Rattle.std.specs.List.{list_all};
+ghost use Rattle.std.specs.List.{list_all, list_any};
 ghost use Rattle.space_map.specs.FreeRuns.{entry_of, CanEnter, IsEntered};
 ghost use Rattle.metaslab.specs.State.{is_due};
 ghost use Rattle.metaslab.specs.Released.{kept, IsHeldBack, HasGained};
@@ -27,6 +27,15 @@ fn is_due(pins: &[u64], group: u64, releasing: u64) -> bool
     ensures { result ≡ is_due pins.now group releasing }
 {
     group >= 3 && releasing <= group - 3 && are_from(pins, releasing)
+}
+
+/// Whether something that was released is due.
+pub(crate) fn holds_due(released: &[Release], pins: &[u64], group: u64) -> bool
+    ensures { result ≡ list_any (λ release. is_due pins.now group release.group) released.now }
+{
+    released
+        .iter()
+        .any(|release| is_due(pins, group, release.group))
 }
 
 /// Gives what is due to the free sectors.
