@@ -2,7 +2,7 @@
 //! each column is read once and each parity is written once.
 ghost use Rattle.std.specs.Prelude.{◌≡◌, ℕ, ◌+◌, ◌<◌, ◌≤◌, ◌^◌, length, sum, slice_index, All};
 ghost use Rattle.raidz_parity.specs.Layout.{columns_of};
-ghost use Rattle.raidz_parity.specs.Parity.{weighted_sum_at, AreSums, AreSumsFrom};
+ghost use Rattle.raidz_parity.specs.Parity.{row_of, weighted_sum_at, AreSums, AreSumsFrom};
 
 use gf_lanes::doubled_wide;
 use std::simd::prelude::*;
@@ -203,4 +203,18 @@ pub(crate) fn fill_both(first: &mut [u8], second: &mut [u8], lengths: &[usize], 
     }
     fill_ends(0, first, at, lengths, bytes);
     fill_ends(1, second, at, lengths, bytes);
+}
+
+/// Makes `target`, as far as it reaches, the parity `row` of the columns of these lengths, which lie one after the other in
+/// `block`. It takes no memory.
+pub fn fill_row(row: u8, target: &mut [u8], lengths: &[usize], block: &[u8])
+    requires row { row ≤ 1 }
+    requires fits { sum lengths.now ≤ length block.now }
+    ensures { target.new ≡ row_of row (columns_of lengths.now block.now) (length target.old) }
+{
+    if row == 0 {
+        fill_first(target, lengths, block);
+        return;
+    }
+    fill_ends(row, target, 0, lengths, block);
 }
