@@ -10,7 +10,7 @@ use Rattle.raidz_parity.specs.Parity.{IsParity}
 use Rattle.raidz_io.specs.declared.vdev.Extent.{Extent}
 use Rattle.raidz_io.specs.Stripe.{IsShaped}
 use Rattle.raidz_io.specs.declared.vdev.Vdev.{Vdev}
-use Rattle.raidz_io.specs.declared.writes.ColumnWrite.{ColumnWrite}
+use Rattle.raidz_io.specs.Writes.{ColumnWrite}
 use Rattle.raidz_io.specs.Places.{sizes_of}
 use Rattle.raidz_io.specs.Stands.{parity_of, all_columns, AreBytesOf, IsWriteOf, AreWritesOf}
 use Rattle.raidz_io.proofs.Parts.{drop_drop, lengths-columns_of}
@@ -42,28 +42,12 @@ column_within (c ∷ layout) (suc i) d within =
       sum_by-cons (λ m. m) (c.sectors * 512) (sizes_of (take i layout)),
     )
 
-pub column_fits : (layout : List Column) (i : ℕ) (d : Column) (block rest : List ℕ) (size : ℕ) → i < length layout
-    → sum (sizes_of layout) ≤ length block → rest ≡ drop (sum (sizes_of (take i layout))) block
-    → size ≡ (get_or layout i d).sectors * 512 → size ≤ length rest
-column_fits layout i d block rest size within fits is size_is =
-    omega (
-      arith,
-      column_within layout i d within,
-      fits,
-      ap (length {A = ℕ}) is,
-      length-drop (sum (sizes_of (take i layout))) block,
-      size_is,
-    )
-
-pub rest_after : (layout : List Column) (i : ℕ) (d : Column) (block rest after : List ℕ) (size : ℕ) → i < length layout
-    → rest ≡ drop (sum (sizes_of (take i layout))) block → size ≡ (get_or layout i d).sectors * 512 → after ≡ drop size rest
-    → after ≡ drop (sum (sizes_of (take (i + 1) layout))) block
-rest_after layout i d block rest after size within is size_is after_is =
+-- how many bytes the columns have with one more
+pub size_more : (layout : List Column) (i : ℕ) (d : Column) → i < length layout
+    → sum (sizes_of (take (i + 1) layout)) ≡ sum (sizes_of (take i layout)) + (get_or layout i d).sectors * 512
+size_more layout i d within =
     let n : ℕ = (get_or layout i d).sectors * 512 in
-    let s : ℕ = sum (sizes_of (take i layout)) in
-    let more : sum (sizes_of (take (i + 1) layout)) ≡ s + n =
-    omega (arith, ap sum (sizes_of_more layout i d within), sum_by-append (λ m. m) (sizes_of (take i layout)) (n ∷ []), sum_by-cons (λ m. m) n []) in
-    after_is ∙ ap (λ bytes. drop size bytes) is ∙ ap (λ m. drop m (drop s block)) size_is ∙ drop_drop s n block ∙ ap (λ m. drop m block) (sym more)
+    omega (arith, ap sum (sizes_of_more layout i d within), sum_by-append (λ m. m) (sizes_of (take i layout)) (n ∷ []), sum_by-cons (λ m. m) n [])
 
 -- one write more, after n others
 pub data_written : (vdev : Vdev) (layout : List Column) (block : List ℕ) (writes : List ColumnWrite) (write : ColumnWrite) (n i : ℕ) (d : Column)

@@ -24,7 +24,7 @@ pub(crate) fn has_digest(block: &[u8], digest: &[u8; 32]) -> bool
 }
 
 /// A byte is below 256.
-fn are_bytes(block: &[u8])
+pub(crate) fn are_bytes(block: &[u8])
     ensures { All (λ byte. byte < 256) block.now }
 {
     let _len = block.len();

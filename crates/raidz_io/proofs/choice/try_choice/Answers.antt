@@ -1,4 +1,4 @@
-use Rattle.std.proofs.Common.{ℕ, length, ap, sym, ◌∙◌}
+use Rattle.std.proofs.Common.{ap, ◌∙◌}
 use Rattle.std.specs.List.{sum}
 use Rattle.raidz_io.specs.Places.{sizes_of}
 use Rattle.raidz_io.proofs.Found.{whole_length, none_agrees, found_choice, none_has_digest, none_fits, false_not_true}

@@ -2,7 +2,6 @@ use Rattle.std.proofs.Common.{ℕ, ◌≡◌, ◌++◌, List, length, map, repli
 use Rattle.raidz_parity.specs.Layout.{Block, columns_of, joined}
 use Rattle.raidz_parity.specs.Stored.{parity_columns}
 use Rattle.raidz_io.specs.Places.{sizes_of}
-use Rattle.raidz_io.proofs.DataWrites.{are_bytes}
 use Rattle.raidz_io.proofs.Parts.{lengths-columns_of, joined_buffer}
 use Rattle.raidz_io.proofs.Tries.{joined-append}
 use Rattle.raidz_io.proofs.choice.with_parity.Goals as goal

@@ -8,6 +8,6 @@ abbrev pub invariant-loop-column : goal.invariant-loop-column
 invariant-loop-column l = record {
   count : length l.writes.items ≡ length l.fn.writes.items + l.column-index;
   before : take (length l.fn.writes.items) l.writes.items ≡ l.fn.writes.items;
-  rest : l.rest ≡ drop (sum (sizes_of (take l.column-index l.layout))) l.fn.block;
-  made : AreWritesOf l.vdev l.layout (columns_of (sizes_of l.layout) l.fn.block) (drop (length l.fn.writes.items) l.writes.items);
+  from : l.from ≡ sum (sizes_of (take l.column-index l.layout));
+  made : AreWritesOf l.vdev l.layout (columns_of (sizes_of l.layout) l.block.value.items) (drop (length l.fn.writes.items) l.writes.items);
 }
