@@ -1,3 +1,4 @@
 pub mod Behind
+pub mod Making
 pub mod Outs
 pub mod Set

@@ -1,7 +1,7 @@
 -- What a `DiskSet` shows.
 use Rattle.std.specs.Prelude.{ℕ, ◌≡◌, ◌≤◌, Bool, List, length, slice_index, Contains}
 use Rattle.model_disk.specs.Joint.{Disks}
-use Rattle.raidz_io.specs.declared.writes.ColumnWrite.{ColumnWrite}
+use Rattle.raidz_io.specs.Writes.{ColumnWrite}
 use Rattle.raidz_io.specs.Stands.{IsWithin}
 use Rattle.disk_set.specs.Outs.{Spans}
 

@@ -2,7 +2,7 @@
 ghost use Rattle.std.specs.Prelude.{◌≡◌, ◌<◌, ◌≤◌, ◌+◌, ◌∷◌, length, is_ok, OnOk, IfErr};
 ghost use Rattle.model_disk.specs.Call.{write_call, flush_call};
 ghost use Rattle.model_disk.specs.Joint.{on, bytes_of};
-ghost use Rattle.raidz_io.specs.declared.writes.ColumnWrite.{ColumnWrite};
+ghost use Rattle.raidz_io.specs.Writes.{ColumnWrite};
 ghost use Rattle.disk_set.specs.Outs.{IsOutToo, spans_without};
 
 use crate::set::DiskSet;
@@ -16,13 +16,13 @@ pub struct FailedDisk {
 }
 
 impl<D: Disk + Drop> DiskSet<D> {
-    /// Makes the next write that is due. Where it fails, its disk is out from then on.
+    /// Makes the next write that is due, and its bytes before, where they are not made. Where it fails, its disk is out from then on.
     pub fn write_next(&mut self) -> Result<(), FailedDisk>
         requires { 0 < length self.old.due }
         ensures starts { self.new.disks.starts ≡ self.old.disks.starts }
         ensures call { (write : ColumnWrite) × (self.old.due ≡ write ∷ self.new.due)
             × (self.new.disks.calls
-            ≡ on write.disk (write_call result write.offset write.bytes.value.items)
+            ≡ on write.disk (write_call result write.offset write.bytes)
             ∷ self.old.disks.calls)
             × IfErr result (λ failed. failed.disk ≡ write.disk)
             × IfErr result (λ failed. IsOutToo self.old.out write.disk self.new.out) }
@@ -31,11 +31,12 @@ impl<D: Disk + Drop> DiskSet<D> {
         ensures gone { IfErr result (λ failed.
             self.new.spans ≡ spans_without self.old.out self.old.spans failed.disk) }
     {
-        let Some(write) = self.due.pop_front() else {
+        let Some(mut write) = self.due.pop_front() else {
             return Ok(());
         };
-        let answer = self.disks.write_at(write.disk, write.offset, write.bytes());
-        self.note(write.disk, answer.is_ok())
+        let disk = write.disk();
+        let answer = write.write_on(&mut self.disks);
+        self.note(disk, answer.is_ok())
     }
 
     /// Writes these bytes on a disk, from this byte of it on. Where it fails, the disk is out from then on.

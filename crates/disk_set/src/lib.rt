@@ -4,7 +4,9 @@
 mod absence;
 mod behind;
 mod device;
+mod making;
 mod reading;
+mod rows;
 mod set;
 
 pub use behind::{Behind, SlotWrite};

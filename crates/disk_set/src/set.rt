@@ -2,7 +2,7 @@
 ghost use Rattle.std.specs.Prelude.{◌≡◌, ◌<◌, ◌++◌, [], Contains, length, replicate, slice_index, Some, None, if◌then◌else◌, OnOk, OnErr, IfErr, IfOk, false};
 ghost use Rattle.model_disk.specs.Joint.{bytes_of};
 ghost use Rattle.raidz_io.specs.Stands.{IsWithin};
-ghost use Rattle.raidz_io.specs.declared.writes.ColumnWrite.{ColumnWrite as DueWrite};
+ghost use Rattle.raidz_io.specs.Writes.{ColumnWrite as DueWrite};
 ghost use Rattle.disk_set.specs.Outs.{is_out};
 ghost use Rattle.disk_set.specs.Set.{ArePoolDisks};
 
