@@ -11,7 +11,7 @@ use Rattle.block_pointer.specs.declared.copies.Copies.TheVariants.{One, Two, Thr
 use Rattle.block_pointer.specs.declared.dva.Dva.{Dva}
 use Rattle.block_pointer.specs.Copies.{dvas}
 use Rattle.raidz_io.specs.declared.vdev.Extent.{Extent}
-use Rattle.raidz_io.specs.declared.writes.ColumnWrite.{ColumnWrite}
+use Rattle.raidz_io.specs.Writes.{ColumnWrite}
 use Rattle.raidz_io.specs.Stands.{IsDone, IsWithin}
 use Rattle.raidz_io.proofs.Kept.{writes_on_disks}
 use Rattle.raidz_io.proofs.Placed.{extent_fits}

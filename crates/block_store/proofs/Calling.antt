@@ -6,7 +6,7 @@ use Rattle.model_disk.specs.Contents.{touches}
 use Rattle.model_disk.specs.Joint.{Disks, on, content}
 use Rattle.model_disk.proofs.ContentsLemmas.{covers-outside}
 use Rattle.model_disk.proofs.LawLemmas.{written_bytes_stand, other_bytes_stay}
-use Rattle.raidz_io.specs.declared.writes.ColumnWrite.{ColumnWrite}
+use Rattle.raidz_io.specs.Writes.{ColumnWrite}
 use Rattle.raidz_io.specs.Elsewhere.{ChangesOnlyWritten}
 use Rattle.raidz_io.specs.Stands.{IsDone}
 use Rattle.disk_set.specs.declared.device.FailedDisk.{FailedDisk}
@@ -39,20 +39,20 @@ untouched (Ok x) at bytes i out = covers-outside at (length bytes) i out
 untouched (Err e) at bytes i out = covers-outside at (length bytes) i out
 
 changes_only : (old new : Disks) (write : ColumnWrite) (result : Result (Unit {0}) FailedDisk) → new.starts ≡ old.starts
-    → new.calls ≡ on write.disk (write_call result write.offset write.bytes.value.items) ∷ old.calls → ChangesOnlyWritten (content old) (content new) write
+    → new.calls ≡ on write.disk (write_call result write.offset write.bytes) ∷ old.calls → ChangesOnlyWritten (content old) (content new) write
 changes_only old new write result starts calls disk i outside =
-    other_bytes_stay old new write.disk (write_call result write.offset write.bytes.value.items) starts calls disk i (elim (cases_eq disk write.disk) [
+    other_bytes_stay old new write.disk (write_call result write.offset write.bytes) starts calls disk i (elim (cases_eq disk write.disk) [
       | inr differ ↦ inl differ
-      | inl same ↦ elim (outside_or_in write.offset (length write.bytes.value.items) i) [
-        | inl out ↦ inr (untouched result write.offset write.bytes.value.items i out)
+      | inl same ↦ elim (outside_or_in write.offset (length write.bytes) i) [
+        | inl out ↦ inr (untouched result write.offset write.bytes i out)
         | inr (from, before) ↦ absurd (outside (record { which = same; from_first = from; before_end = before }))
       ]
     ])
 
 done_or_out : (old new : Store) (write : ColumnWrite) (result : Result (Unit {0}) FailedDisk) → new.disks.starts ≡ old.disks.starts
-    → new.disks.calls ≡ on write.disk (write_call result write.offset write.bytes.value.items) ∷ old.disks.calls
+    → new.disks.calls ≡ on write.disk (write_call result write.offset write.bytes) ∷ old.disks.calls
     → IfErr result (λ failed. IsOutToo old.out write.disk new.out) → ¬ Contains (outs new) write.disk → IsDone (content new.disks) write
-done_or_out old new write (Ok x) starts calls err present = written_bytes_stand old.disks new.disks write.disk write.offset write.bytes.value.items starts calls
+done_or_out old new write (Ok x) starts calls err present = written_bytes_stand old.disks new.disks write.disk write.offset write.bytes starts calls
 done_or_out old new write (Err e) starts calls err present = absurd (present (this_is_out old new write.disk err))
 
 pub lost_after : (old new : Store) (result : Result (Unit {0}) FailedDisk) (disk : ℕ) → OnOk result (new.out ≡ old.out)
@@ -67,7 +67,7 @@ group_after old new (Err e) disk spans gone = same_group old new disk gone
 
 -- the first write that was due was made
 pub made : (old new : Store) (write : ColumnWrite) (result : Result (Unit {0}) FailedDisk) → new.disks.starts ≡ old.disks.starts → new.spaces ≡ old.spaces
-    → old.due ≡ write ∷ new.due → new.disks.calls ≡ on write.disk (write_call result write.offset write.bytes.value.items) ∷ old.disks.calls
+    → old.due ≡ write ∷ new.due → new.disks.calls ≡ on write.disk (write_call result write.offset write.bytes) ∷ old.disks.calls
     → OnOk result (new.out ≡ old.out) → IfErr result (λ failed. IsOutToo old.out write.disk new.out)
     → OnOk result (new.spans ≡ old.spans) → IfErr result (λ failed. GoesOut old write.disk new) → new.stray ≡ old.stray → Makes old new write
 made old new write result starts spaces due calls ok err spans gone stray = record {

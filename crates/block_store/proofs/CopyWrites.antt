@@ -1,12 +1,12 @@
 -- The writes of the copies of a block.
-use Rattle.std.proofs.Common.{ℕ, zero, suc, ◌≡◌, ◌⊎◌, inl, inr, ◌+◌, ◌<◌, Bool, true, false, not, List, [], ◌∷◌, ◌++◌, length, Contains, Some, None, refl, sym, ap, subst, ◌∙◌, arith}
-use Rattle.std.specs.Prelude.{filter, All, slice_get, slice_index_or}
+use Rattle.std.proofs.Common.{ℕ, zero, suc, ◌≡◌, ◌⊎◌, inl, inr, ◌+◌, ◌<◌, Bool, true, false, not, List, [], ◌∷◌, ◌++◌, length, Contains, refl, sym, ap, subst, ◌∙◌, arith}
+use Rattle.std.specs.Prelude.{filter, All, slice_index_or}
 use Rattle.std.proofs.lemmas.List.{length-append}
 use Rattle.std.proofs.lemmas.List.Elements.{Contains-append_left, Contains-append_right, Contains-append_cases, All-append}
 use Rattle.std.proofs.lemmas.Option.{slice_get_within}
 use Rattle.block_pointer.specs.declared.dva.Dva.{Dva}
 use Rattle.raidz_io.specs.declared.vdev.Extent.{Extent}
-use Rattle.raidz_io.specs.declared.writes.ColumnWrite.{ColumnWrite}
+use Rattle.raidz_io.specs.Writes.{ColumnWrite}
 use Rattle.raidz_io.specs.Stands.{WouldStore, AreColumnWrites}
 use Rattle.raidz_io.proofs.Parts.{slice_get_before, slice_get_last}
 use Rattle.raidz_io.proofs.Written.{slice_get_push}
@@ -139,12 +139,3 @@ item_in {X = X} xs i d within = (i, within, it_is xs i within)
     it_is [] k within = absurd (omega arith)
     it_is (w ∷ them) zero within = refl
     it_is (w ∷ them) (suc k) within = it_is them k (omega arith)
-
--- the first of them is one of them
-pub first_in : (places : List Dva) (place : Dva) → Some place ≡ slice_get places 0 → Contains places place
-first_in [] place is = absurd (cc)
-first_in (p ∷ places) place is = (zero, omega arith, let same : p ≡ place = cc in same)
-
-pub none_there : (places : List Dva) → None ≡ slice_get places 0 → places ≡ []
-none_there [] is = refl
-none_there (p ∷ places) is = absurd (cc)

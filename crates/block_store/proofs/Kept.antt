@@ -2,7 +2,7 @@
 use Rattle.std.proofs.Common.{ℕ, ◌≡◌, inl, inr, ◌+◌, ◌<◌, ◌≤◌, List, length, Contains, sym, subst, ◌∙◌, arith}
 use Rattle.model_disk.specs.Joint.{content}
 use Rattle.raidz_io.specs.declared.vdev.Extent.{Extent}
-use Rattle.raidz_io.specs.declared.writes.ColumnWrite.{ColumnWrite}
+use Rattle.raidz_io.specs.Writes.{ColumnWrite}
 use Rattle.raidz_io.specs.Elsewhere.{StandsWhileKept, StandsWithMoreAbsent, IsOfExtent}
 use Rattle.raidz_io.specs.Stands.{IsDone, IsColumnWrite}
 use Rattle.block_pointer.specs.declared.block.Block.{Block}
@@ -47,7 +47,7 @@ keeps kept more old new is stored holds = record {
 }
 
 -- a byte of a column's write is one of its extent
-of_write : (extent : Extent) (k : ℕ) (write : ColumnWrite) (i : ℕ) → IsColumnWrite extent k write → i < length write.bytes.value.items
+of_write : (extent : Extent) (k : ℕ) (write : ColumnWrite) (i : ℕ) → IsColumnWrite extent k write → i < length write.bytes
     → IsOfExtent extent write.disk (write.offset + i)
 of_write extent k write i is within = record {
   k = k;

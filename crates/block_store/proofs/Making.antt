@@ -7,7 +7,7 @@ use Rattle.std.specs.List.{slice_get, Contains}
 use Rattle.std.proofs.lemmas.Option.{slice_get_within, get_or_from_slice_get}
 use Rattle.model_disk.specs.Joint.{bytes_of}
 use Rattle.raidz_map.specs.declared.geometry.Geometry.{Geometry}
-use Rattle.raidz_io.specs.declared.writes.ColumnWrite.{ColumnWrite}
+use Rattle.raidz_io.specs.Writes.{ColumnWrite}
 use Rattle.raidz_io.specs.Places.{HasRoom, offset_of_sector}
 use Rattle.raidz_io.proofs.Written.{same_some}
 use Rattle.block_store.specs.declared.create.VdevConfig.{VdevConfig}

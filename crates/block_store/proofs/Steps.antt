@@ -12,7 +12,7 @@ use Rattle.model_disk.proofs.LawLemmas.{parts_are_honest}
 use Rattle.block_pointer.specs.declared.block.Block.{Block}
 use Rattle.block_pointer.specs.declared.dva.Dva.{Dva}
 use Rattle.block_pointer.specs.Copies.{dvas}
-use Rattle.raidz_io.specs.declared.writes.ColumnWrite.{ColumnWrite}
+use Rattle.raidz_io.specs.Writes.{ColumnWrite}
 use Rattle.raidz_io.specs.Reads.{OnlyReads}
 use Rattle.raidz_io.proofs.Calls.{length-OnlyReads, OnlyReads-none, failed_since-more}
 use Rattle.block_store.specs.declared.block.Asked.{Asked}

@@ -5,7 +5,7 @@ use Rattle.std.specs.List.{slice_get}
 use Rattle.model_disk.specs.Joint.{content}
 use Rattle.block_pointer.specs.declared.block.Block.{Block}
 use Rattle.raidz_io.specs.declared.vdev.Extent.{Extent}
-use Rattle.raidz_io.specs.declared.writes.ColumnWrite.{ColumnWrite}
+use Rattle.raidz_io.specs.Writes.{ColumnWrite}
 use Rattle.raidz_io.specs.Elsewhere.{ChangesOnlyWritten, ShareNoByte}
 use Rattle.raidz_io.specs.Stands.{ExtentStands, IsDone, IsColumnWrite}
 use Rattle.raidz_io.specs.Places.{disk_of, offset_of}

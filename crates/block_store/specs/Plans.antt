@@ -4,7 +4,7 @@ use Rattle.model_disk.specs.Joint.{content}
 use Rattle.block_pointer.specs.declared.block.Block.{Block}
 use Rattle.block_pointer.specs.declared.dva.Dva.{Dva}
 use Rattle.raidz_io.specs.declared.vdev.Extent.{Extent}
-use Rattle.raidz_io.specs.declared.writes.ColumnWrite.{ColumnWrite}
+use Rattle.raidz_io.specs.Writes.{ColumnWrite}
 use Rattle.raidz_io.specs.Stands.{WouldStore, AreColumnWrites, IsDone}
 use Rattle.block_store.specs.Accounts.{AreAccounted}
 use Rattle.block_store.specs.Beside.{AreFreeBeside, AreInFreePlaces}

@@ -1,11 +1,11 @@
 -- A store of blocks, and what it holds.
-use Rattle.std.specs.Prelude.{ℕ, ◌≡◌, ◌⊎◌, nat_le, nat_lt, Some, Bool, if◌then◌else◌, List, map, filter, slice_get, slice_index, Contains}
+use Rattle.std.specs.Prelude.{ℕ, ◌≡◌, ◌⊎◌, nat_le, nat_lt, Some, Bool, if◌then◌else◌, List, filter, slice_get, slice_index, Contains}
 use Rattle.model_disk.specs.Joint.{Disks, content}
 use Rattle.block_pointer.specs.declared.block.Block.{Block}
 use Rattle.block_pointer.specs.declared.dva.Dva.{Dva}
 use Rattle.block_pointer.specs.Copies.{dvas}
 use Rattle.raidz_io.specs.declared.vdev.Extent.{Extent}
-use Rattle.raidz_io.specs.declared.writes.ColumnWrite.{ColumnWrite}
+use Rattle.raidz_io.specs.Writes.{ColumnWrite}
 use Rattle.raidz_io.specs.Stands.{ExtentStands, IsColumnWrite}
 pub use Rattle.disk_set.specs.Outs.{Spans, is_out, IsOutToo, outs_from, in_group, spans_without}
 use Rattle.block_store.specs.Spaces.{VdevSpace}

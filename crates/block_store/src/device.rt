@@ -2,7 +2,7 @@
 ghost use Rattle.std.specs.Prelude.{◌≡◌, ◌<◌, ◌∷◌, length, OnOk, IfErr};
 ghost use Rattle.model_disk.specs.Call.{write_call, flush_call};
 ghost use Rattle.model_disk.specs.Joint.{on};
-ghost use Rattle.raidz_io.specs.declared.writes.ColumnWrite.{ColumnWrite};
+ghost use Rattle.raidz_io.specs.Writes.{ColumnWrite};
 ghost use Rattle.block_store.specs.Laws.{Laws};
 ghost use Rattle.block_store.specs.Blocks.{Contents};
 ghost use Rattle.block_store.specs.Plans.{KeepsPlans, SparesAllBut};
@@ -15,6 +15,9 @@ use raidz_io::{
     apart_extents_share_no_byte, done_while_others_are_written, other_vdevs_share_no_byte,
     stands_while_kept, stands_while_others_are_written, stands_with_more_absent, writes_are_apart,
 };
+use std::alloc::{AllocError, Global};
+use std::thread::Threads;
+use worker_items::Gate;
 
 /// What holds of blocks that are written beside others.
 pub(crate) fn blocks_beside_others()
@@ -37,7 +40,7 @@ impl<D: Disk + Drop> BlockStore<D> {
         ensures spaces { self.new.spaces ≡ self.old.spaces }
         ensures call { (write : ColumnWrite) × (self.old.due ≡ write ∷ self.new.due)
             × (self.new.disks.calls
-            ≡ on write.disk (write_call result write.offset write.bytes.value.items)
+            ≡ on write.disk (write_call result write.offset write.bytes)
             ∷ self.old.disks.calls)
             × IfErr result (λ failed. failed.disk ≡ write.disk)
             × IfErr result (λ failed. IsOutToo self.old.out write.disk self.new.out) }
@@ -53,6 +56,27 @@ impl<D: Disk + Drop> BlockStore<D> {
     {
         blocks_beside_others();
         self.set.write_next()
+    }
+
+    /// Makes the parity of what is due, where it is not made, by as many workers: as `DiskSet::make_due` says.
+    pub fn make_due<R: Threads + Sync, G: Gate + Sync>(
+        &mut self,
+        rt: &R,
+        alloc: Global,
+        gate: &G,
+        workers: usize,
+    ) -> Result<(), AllocError>
+        requires { 0 < workers }
+        ensures { self.new ≡ self.old }
+    {
+        self.set.make_due(rt, alloc, gate, workers)
+    }
+
+    /// Makes the parity of what is due, where it is not made, on this thread. It takes no memory.
+    pub fn make_due_here(&mut self)
+        ensures { self.new ≡ self.old }
+    {
+        self.set.make_due_here();
     }
 
     /// Flushes a disk. Where this fails, it is out from then on.

@@ -3,7 +3,6 @@ ghost use Rattle.std.specs.Prelude.{◌≡◌, false, true, ◌≤◌, ◌<◌, 
 ghost use Rattle.block_pointer.specs.Block.{FitsBlock};
 ghost use Rattle.block_pointer.specs.Copies.{dvas};
 ghost use Rattle.raidz_io.specs.Places.{CanHold, IsOnDisks};
-ghost use Rattle.raidz_io.specs.Stands.{AreWritesOfBlock};
 ghost use Rattle.block_store.specs.Blocks.{Contents, FitsNew, IsBlockOf, count_of};
 ghost use Rattle.block_store.specs.Places.{shapes_of, filled, planned, HaveMarks, AreChosen, TookSome, RanOut, IsPlaceIn, ArePlacesIn, IsExtentAt};
 ghost use Rattle.block_store.specs.Plans.{Plans, KeepsPlans, PlansToo, MoreIsDue, AreWritesAt};
@@ -15,10 +14,11 @@ use crate::space::VdevMetaslabs;
 use crate::store::BlockStore;
 use block_pointer::{Block, Copies, Dva};
 use model_disk::Disk;
-use raidz_io::{ColumnWrite, Extent, WritesAt, extent_fits};
+use raidz_io::{ColumnWrite, Extent, extent_fits};
 use sha2::{Digest, Sha256};
 use std::alloc::{AllocError, Global};
 use std::collections::VecDeque;
+use std::sync::Arc;
 
 impl CopyCount {
     /// The number of copies.
@@ -268,7 +268,8 @@ impl<D: Disk + Drop> BlockStore<D> {
         Ok(block)
     }
 
-    /// The writes of the copies of a block to these places, but for those to disks that are out.
+    /// The writes of the copies of a block to these places, but for those to disks that are out. They share one copy of the bytes,
+    /// and no parity is made.
     fn writes_at(
         &self,
         alloc: Global,
@@ -282,36 +283,14 @@ impl<D: Disk + Drop> BlockStore<D> {
         ensures { IfOk result (λ writes.
             AreWritesAt self.now sectors bytes.now places.now writes.items) }
     {
+        let block = Arc::new(alloc, Vec::from_slice(alloc, bytes)?)?;
         let mut writes = VecDeque::new(alloc);
-        let Some(first) = places.first() else {
-            return Ok(writes);
-        };
-        let first = self.first_writes(alloc, *first, sectors, bytes)?;
         for place in places {
             let extent = self.extent_at(*place, sectors);
-            let copy = extent.writes_like(alloc, bytes, &first)?;
+            let copy = extent.column_writes(alloc, &block)?;
             self.add_in_use(copy, &mut writes)?;
         }
         Ok(writes)
-    }
-
-    /// The writes of the first copy of a block, whose bytes the others share.
-    fn first_writes(
-        &self,
-        alloc: Global,
-        place: Dva,
-        sectors: u32,
-        bytes: &[u8],
-    ) -> Result<WritesAt, AllocError>
-        requires size { length bytes.now ≡ sectors * 512 }
-        requires some { 0 < sectors }
-        requires place { IsPlaceIn self.now.spaces sectors place }
-        ensures { IfOk result (λ made.
-            AreWritesOfBlock made.extent bytes.now made.writes.items) }
-    {
-        let extent = self.extent_at(place, sectors);
-        let writes = extent.column_writes(alloc, bytes)?;
-        Ok(WritesAt { extent, writes })
     }
 
     /// The extent of a copy of a block.
@@ -341,7 +320,7 @@ impl<D: Disk + Drop> BlockStore<D> {
             (is_out self.now.out write.disk)) copy.items) }
     {
         for write in copy {
-            if !self.is_out(write.disk) {
+            if !self.is_out(write.disk()) {
                 writes.push_back(write)?;
             }
         }

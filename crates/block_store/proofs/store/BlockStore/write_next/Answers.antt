@@ -1,7 +1,7 @@
 use Rattle.std.proofs.Common.{◌≡◌, ◌∷◌, IfErr, OnOk, sym, ap, ◌∙◌, subst}
 use Rattle.model_disk.specs.Call.{write_call}
 use Rattle.model_disk.specs.Joint.{on}
-use Rattle.raidz_io.specs.declared.writes.ColumnWrite.{ColumnWrite}
+use Rattle.raidz_io.specs.Writes.{ColumnWrite}
 use Rattle.block_store.specs.Places.{IsLaidOut}
 use Rattle.block_store.specs.Store.{Store, IsOutToo, Spares, SparesBut, spans_without}
 use Rattle.block_store.proofs.Calling.{made, on_disk}
@@ -33,11 +33,11 @@ its_due : (g : Over) (c : goal.After-write_next g) → c.args.self.now.due ≡ i
 its_due g c = ap (λ (s : Store). s.due) (sym c.self.view_is) ∙ c.write_next.ensures.call.1
 
 its_calls : (g : Over) (c : goal.After-write_next g) → c.write_next.new.self.disks.calls
-    ≡ on (its_write g c).disk (write_call c.write_next.result (its_write g c).offset (its_write g c).bytes.value.items) ∷ c.args.self.now.disks.calls
+    ≡ on (its_write g c).disk (write_call c.write_next.result (its_write g c).offset (its_write g c).bytes) ∷ c.args.self.now.disks.calls
 its_calls g c =
     let write : ColumnWrite = its_write g c in
     c.write_next.ensures.call.2
-    ∙ ap (λ (s : Store). on write.disk (write_call c.write_next.result write.offset write.bytes.value.items) ∷ s.disks.calls) c.self.view_is
+    ∙ ap (λ (s : Store). on write.disk (write_call c.write_next.result write.offset write.bytes) ∷ s.disks.calls) c.self.view_is
 
 its_out : (g : Over) (c : goal.After-write_next g) → IfErr c.write_next.result (λ failed. IsOutToo c.args.self.now.out (its_write g c).disk c.write_next.new.self.out)
 its_out g c =
