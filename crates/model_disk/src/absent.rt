@@ -2,6 +2,7 @@
 ghost use Rattle.std.specs.Prelude.{◌≡◌, [], replicate};
 ghost use Rattle.model_disk.specs.Absent.{HaveFailed, HaveFailed-prop, IsHonest-failed};
 ghost use Rattle.model_disk.specs.Joint.{calls_in};
+ghost use Rattle.model_disk.specs.Within.{IsWithin-failed};
 
 use crate::log::{Log, Start};
 use crate::{Disk, DiskError, HonestDisk};
@@ -62,6 +63,9 @@ impl Disk for AbsentDisk {
         self.log.note_flush(0, &answer);
         answer
     }
+
+    ghost is_within = { λ disk. IsWithin-failed (replicate disk.size 0)
+        (calls_in disk.log.calls) disk.failed };
 }
 
 impl HonestDisk for AbsentDisk {

@@ -88,6 +88,15 @@ impl<D: Disk + Drop> Disk for Member<D> {
             Member::Absent(disk) => disk.flush(),
         }
     }
+
+    ghost use Rattle.model_disk.specs.declared.member.Member.TheVariants.{Present, Absent};
+    ghost use Rattle.model_disk.specs.Joint.{calls_in};
+    ghost use Rattle.model_disk.specs.Within.{IsWithin-failed};
+
+    ghost is_within = { elim [
+      | Present disk ↦ D.is_within disk
+      | Absent it ↦ IsWithin-failed (replicate it.size 0) (calls_in it.log.calls) it.failed
+    ] };
 }
 
 impl<D: HonestDisk + Drop> HonestDisk for Member<D> {

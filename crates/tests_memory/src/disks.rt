@@ -108,4 +108,6 @@ impl Disk for TimedDisk {
         self.record.note(false);
         self.inner.flush()
     }
+
+    ghost is_within = { λ disk. disk.inner.within };
 }

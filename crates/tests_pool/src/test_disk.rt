@@ -35,6 +35,8 @@ impl Disk for TestDisk {
     fn flush(&mut self) -> Result<(), DiskError> {
         self.inner.flush()
     }
+
+    ghost is_within = { λ disk. disk.inner.within };
 }
 
 /// A disk of zeros. They are put together from pieces: to make the bytes of all disks one by one takes most of the time of a

@@ -110,6 +110,8 @@ impl<D: Disk + Drop> Disk for RecordingDisk<D> {
         self.record.note_flush();
         self.inner.flush()
     }
+
+    ghost is_within = { λ disk. D.is_within disk.inner };
 }
 
 /// The calls on each child's disk. On one that is absent there were none.

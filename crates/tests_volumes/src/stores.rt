@@ -47,6 +47,8 @@ impl Disk for TestDisk {
     fn flush(&mut self) -> Result<(), DiskError> {
         self.inner.flush()
     }
+
+    ghost is_within = { λ disk. disk.inner.within };
 }
 
 pub(crate) type Store = BlockStore<TestDisk>;
