@@ -62,7 +62,7 @@ was_surveyed : (old : Disks) (shapes : List VdevShape) (out : List Bool) (rewind
     → (is : IsNotOpenedOver old shapes out rewind new refusal) → WasSurveyed old new out is.later
 was_surveyed old shapes out rewind new refusal is = ⊎_elim
     (λ (through, cause). surveyed_first old new out is.later through)
-    (λ (claimed, through, cause).
+    (λ (claimed, through, gives, cause).
     let first = surveyed_first old through.read out is.later through.before in
     let claims = through.claims.makes in
     record {

@@ -176,15 +176,17 @@ claim_fails out later left rewind old surveyed read ended new shapes s which few
 
 pub refused_by_core : (out later : List Bool) (rewind : ℕ) (old surveyed read new : Disks) (shapes : List VdevShape) (s : Surveyed) (contents : RootContents) (refusal : Refusal) → rewind < 3
     → AreSurveyed out later rewind old surveyed s → AreReadBeside later surveyed read → AreBegun later s read new
+    → OfSurveyed later s read (λ rewind first. OpenGives later rewind first s.claimed new)
     → IsReadOfRoot surveyed read shapes later s.claimed.group s.claimed.root contents
     → (refusal ≡ NoMemory) ⊎ ((refusal ≡ BadPointer) × AreMisplacedOver new shapes later contents) → IsNotOpenedOver old shapes out rewind new refusal
-refused_by_core out later rewind old surveyed read new shapes s contents refusal few are blocks begun root why = record {
+refused_by_core out later rewind old surveyed read new shapes s contents refusal few are blocks begun gives root why = record {
   later = later;
   count = are.count;
   kept = kept_by_claim later rewind old read new s few (still out later rewind old surveyed read s are blocks) begun;
   cause = inr (
     s.claimed,
     claimed_through out later rewind old surveyed read new s are blocks begun,
+    gives rewind old few (still out later rewind old surveyed read s are blocks),
     elim why [
       | inl memory ↦ inl memory
       | inr it ↦ inr (it.0, record { s = s; is = are.is; contents = contents; reads = root; why = it.1 })

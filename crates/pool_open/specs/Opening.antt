@@ -132,10 +132,11 @@ abbrev pub IsCauseOfClaim : Disks → Disks → Disks → Disks → List VdevSha
 IsCauseOfClaim old surveyed read new shapes later rewind refusal =
     (refusal ≡ NoMemory) ⊎ ((refusal ≡ BadPointer) × IsReadMisplaced old surveyed read new shapes later rewind)
 
+-- one of these; and once a claim was done the disks lead to it alone, with nothing unflushed
 abbrev pub IsOpenCause : Disks → Disks → List VdevShape → List Bool → List Bool → ℕ → Refusal → Type 0
 IsOpenCause old new shapes out later rewind refusal =
     ((through : AreReadThrough out later old new) × IsCauseOfReading old through.surveyed new shapes out later rewind refusal)
-    ⊎ ((claimed : Uberblock) × (through : AreClaimedThrough out later claimed old new)
+    ⊎ ((claimed : Uberblock) × (through : AreClaimedThrough out later claimed old new) × OpenGives later rewind old claimed new
     × IsCauseOfClaim old through.before.surveyed through.read new shapes later rewind refusal)
 
 -- The new disks are as a stop in the open might leave the old ones, and there is a cause.

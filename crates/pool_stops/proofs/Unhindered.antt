@@ -35,7 +35,7 @@ use Rattle.pool_create.specs.OpenRefusal.TheVariants.{NoMemory}
 use Rattle.pool_create.proofs.OpenThrough.{block_reads_made, honest_within}
 use Rattle.pool_slots.specs.Failures.{HasFailedOn}
 use Rattle.pool_slots.specs.Marks.{IsUsedUp}
-use Rattle.pool_slots.specs.Opens.{CanOpen, IsHighestShown, IsRead, IsShown}
+use Rattle.pool_slots.specs.Opens.{CanOpen, IsHighestShown, IsRead, IsShown, OpenGives}
 use Rattle.pool_slots.specs.Possible.{IsPossible, Possible, TreeStands, Trees}
 use Rattle.pool_slots.specs.Present.{GoOut}
 use Rattle.pool_slots.specs.Slots.{InUse, IsOutOfReach}
@@ -302,7 +302,7 @@ unhindered_opens_are_done law old shapes out p pools refusal led there new is un
     } in
     let count : length is.later ≡ length out = is.count ∙ sym free.may.flags in
     let R : List Bool → Type 0 = λ later. (through : AreReadThrough out later old new) × IsCauseOfReading old through.surveyed new shapes out later 0 refusal in
-    let C : List Bool → Type 0 = λ later. (claimed : Uberblock) × (through : AreClaimedThrough out later claimed old new)
+    let C : List Bool → Type 0 = λ later. (claimed : Uberblock) × (through : AreClaimedThrough out later claimed old new) × OpenGives later 0 old claimed new
     × IsCauseOfClaim old through.before.surveyed through.read new shapes later 0 refusal in
     ⊎_elim
     (λ (it : R is.later).
@@ -315,5 +315,5 @@ unhindered_opens_are_done law old shapes out p pools refusal led there new is un
     let all = all_stay out is.later old through.before.surveyed through.read no_write count free.none gone through.before.absent
     (block_reads_made through.before.surveyed through.read through.before.blocks.only) in
     let at : C out = subst C all it in
-    claim_case old new shapes out p pools at.0 refusal led free at.1 at.2)
+    claim_case old new shapes out p pools at.0 refusal led free at.1 at.3)
     is.cause

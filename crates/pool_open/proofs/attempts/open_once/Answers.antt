@@ -2,7 +2,9 @@ use Rattle.std.proofs.Common.{◌≡◌, ◌⊎◌, Bool, List, inl, refl, sym, 
 use Rattle.model_disk.specs.Joint.{Disks}
 use Rattle.pool_core.specs.StateOf.{state_of}
 use Rattle.pool_slots.specs.Labels.{IsClaimWrite}
+use Rattle.pool_slots.specs.Opens.{OpenGives}
 use Rattle.pool_slots.specs.Slots.{InUse}
+use Rattle.pool_slots.specs.Surveys.{OfSurveyed}
 use Rattle.pool_slots.proofs.Results.{if_err_is}
 use Rattle.uberblock_ring.specs.declared.uberblock.Uberblock.{Uberblock}
 use Rattle.pool_open.specs.Opening.{AreMisplacedOver, IsNotOpenedOver, IsOpenedOver}
@@ -30,11 +32,13 @@ returns-in_err-core-in-Ok-claim-clause-refused g c =
       rewrites = c.claim.ensures.rewrites;
     } in
     let begun = subst (λ (xs : List Bool). AreBegun xs s read new) c.deref.ensures.value here in
+    let G : List Bool → Type 0 = λ xs. OfSurveyed xs s read (λ rewind first. OpenGives xs rewind first s.claimed new) in
+    let gives = subst G c.deref.ensures.value c.in-Ok-claim.ensures.opened in
     let W : List Bool → Type 0 = λ xs. (cause ≡ NoMemory) ⊎ ((cause ≡ BadPointer) × AreMisplacedOver new c.args.shapes.now xs contents) in
     let why = subst W c.deref-in-Ok-claim.ensures.value c.in_err-core-in-Ok-claim.ensures.refused in
     if_err_is c.from_residual-in_err-core-in-Ok-claim.result failed (λ f. IsNotOpenedOver c.args.disks c.args.shapes.now c.args.out.items c.args.rewind f.1 f.0) c.from_residual-in_err-core-in-Ok-claim.ensures.1
     (subst (λ (d : Disks). IsNotOpenedOver c.args.disks c.args.shapes.now c.args.out.items c.args.rewind d cause) (sym c.in_err-core-in-Ok-claim.ensures.back)
-    (refused_by_core c.args.out.items later c.args.rewind c.args.disks it.surveyed read new c.args.shapes.now s contents cause c.requires.rewind are it.blocks begun it.root why))
+    (refused_by_core c.args.out.items later c.args.rewind c.args.disks it.surveyed read new c.args.shapes.now s contents cause c.requires.rewind are it.blocks begun gives it.root why))
 
 pub returns-in_ok-core-in-Ok-claim-clause-attempted : goal.returns-in_ok-core-in-Ok-claim-clause-attempted
 returns-in_ok-core-in-Ok-claim-clause-attempted g c =
