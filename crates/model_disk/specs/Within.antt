@@ -1,7 +1,7 @@
 -- What a disk shows ends where it ends.
 use Rattle.std.specs.Prelude.{◌≡◌, ℕ, ◌≤◌, true, List, [], ◌∷◌, length, None}
 use Rattle.std.specs.Coded.{Coded-set, coded_ℕ, coded_option, Π_prop}
-use Rattle.std.proofs.Common.{ℕ, ◌+◌, Bool, false, if◌then◌else◌, slice_get, Option, refl, ◌∙◌, arith}
+use Rattle.std.proofs.Common.{ℕ, Bool, false, if◌then◌else◌, Option, refl, ◌∙◌, arith}
 use Rattle.std.proofs.lemmas.Option.{slice_get_past}
 use Rattle.model_disk.specs.Absent.{HaveFailed}
 use Rattle.model_disk.specs.Call.{Call, Read, FailedRead, Wrote, FailedWrite, Flushed, FailedFlush}

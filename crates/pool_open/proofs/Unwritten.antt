@@ -20,8 +20,8 @@ use Rattle.pool_slots.proofs.Phases.{both_made}
 
 -- a call that writes nothing leaves no more than was left before it
 leaves_less : (start : List ℕ) (call : Call) (calls : List Call) (image : List ℕ) → WritesOnly (λ at bytes. ⊥) call → MayLeave start (call ∷ calls) image → MayLeave start calls image
-leaves_less start (Read at bytes) calls image none left = record { size = left.size; bytes = left.bytes; kept = left.kept }
-leaves_less start (FailedRead at n) calls image none left = record { size = left.size; bytes = left.bytes; kept = left.kept }
+leaves_less start (Read at bytes) calls image none left = record { size = left.size; kept = left.kept }
+leaves_less start (FailedRead at n) calls image none left = record { size = left.size; kept = left.kept }
 leaves_less start (Wrote at bytes) calls image none left = absurd none
 leaves_less start (FailedWrite at bytes) calls image none left = absurd none
 leaves_less start Flushed calls image none left = MayLeave-before_Flushed start calls image left
