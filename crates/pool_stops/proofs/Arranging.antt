@@ -34,7 +34,7 @@ use Rattle.pool_stops.proofs.Lists.{below_or, same_lists, same_some}
 -- ---- children
 
 -- each child's disk is the pool's in its place
-disk_at : (order : List ℕ) (children : List Child) (k place : ℕ) → AreChildren order children → slice_get order k ≡ Some place
+pub disk_at : (order : List ℕ) (children : List Child) (k place : ℕ) → AreChildren order children → slice_get order k ≡ Some place
     → (child : Child) × (slice_get children k ≡ Some child) × (child.disk ≡ Some place)
 disk_at order children k place are at =
     let named : slice_get (map (λ (c : Child). c.disk) children) k ≡ Some (Some place) =
@@ -99,6 +99,10 @@ none_marked (child ∷ children) (place ∷ order) are (suc disk) =
     let rest : map (λ (c : Child). c.disk) children ≡ map Some order = cc in
     none_marked children order rest disk
 
+-- what only reads leaves nothing unflushed
+pub settled_still : (old new : Disks) (which : ℕ) → Makes no_write old new → IsSettled (calls_on which old.calls) → IsSettled (calls_on which new.calls)
+settled_still old new which reads settled = settled_later old new which reads settled
+
 -- ---- the array
 
 -- it has the pool's disks in order, with nothing unflushed
@@ -129,20 +133,22 @@ module _ {D : Type 0} where
       let no_handed : (which : ℕ) → length disks ≤ which → bytes_of handed which ≡ [] =
       λ which past. ap (λ o. unwrap_or o []) (slice_get_past handed which (omega (arith, past, returned.hold.count))) in
       record {
-        count = count;
-        sizes = λ which. ⊎_elim
-            (λ (below : which < length disks).
-            let d = slice_get_some disks which below in
-            ap length (start which d.0 d.1) ∙ (returned.hold.each which d.0 d.1).size)
-            (λ (past : length disks ≤ which). ap length (no_bytes which past ∙ sym (no_handed which past)))
-            (below_or which (length disks));
-        held = λ which i. ⊎_elim
-            (λ (below : which < length disks).
-            let d = slice_get_some disks which below in
-            (λ j. byte_at (start which d.0 d.1 j) (calls which d.0 d.1 j) i) ∙ (returned.hold.each which d.0 d.1).held i)
-            (λ (past : length disks ≤ which).
-            (λ j. byte_at (no_bytes which past j) (none which past j) i) ∙ ap (λ bytes. slice_get bytes i) (sym (no_handed which past)))
-            (below_or which (length disks));
+        shown = record {
+          count = count;
+          sizes = λ which. ⊎_elim
+              (λ (below : which < length disks).
+              let d = slice_get_some disks which below in
+              ap length (start which d.0 d.1) ∙ (returned.hold.each which d.0 d.1).size)
+              (λ (past : length disks ≤ which). ap length (no_bytes which past ∙ sym (no_handed which past)))
+              (below_or which (length disks));
+          held = λ which i. ⊎_elim
+              (λ (below : which < length disks).
+              let d = slice_get_some disks which below in
+              (λ j. byte_at (start which d.0 d.1 j) (calls which d.0 d.1 j) i) ∙ (returned.hold.each which d.0 d.1).held i)
+              (λ (past : length disks ≤ which).
+              (λ j. byte_at (no_bytes which past j) (none which past j) i) ∙ ap (λ bytes. slice_get bytes i) (sym (no_handed which past)))
+              (below_or which (length disks));
+        };
         settled = λ which. ⊎_elim
             (λ (below : which < length disks).
             let d = slice_get_some disks which below in
@@ -177,15 +183,15 @@ module _ {D : Type 0} where
         handed = returned.handed;
         handed_in = returned.handed_in;
         hold = record {
-          count = sym (length-map back g.start) ∙ ap length (sym it.given.0) ∙ ap length reads.starts ∙ holding.count;
+          count = sym (length-map back g.start) ∙ ap length (sym it.given.0) ∙ ap length reads.starts ∙ holding.shown.count;
           each = λ which d at.
               let start : bytes_of it.new.starts which ≡ g.start d =
               ap (λ starts. bytes_of starts which) it.given.0 ∙ ap (λ o. unwrap_or o []) (slice_get-map g.start back which ∙ ap (option_map g.start) at) in
               let calls : calls_on which it.new.calls ≡ g.calls d =
               it.given.1 which ∙ ap (λ o. unwrap_or o []) (slice_get-map g.calls back which ∙ ap (option_map g.calls) at) in
               record {
-                size = ap length (sym start) ∙ ap (λ s. length (bytes_of s which)) reads.starts ∙ holding.sizes which;
-                held = λ i. (λ j. byte_at (sym start j) (sym calls j) i) ∙ none_same it.old it.new which i reads ∙ holding.held which i;
+                size = ap length (sym start) ∙ ap (λ s. length (bytes_of s which)) reads.starts ∙ holding.shown.sizes which;
+                held = λ i. (λ j. byte_at (sym start j) (sym calls j) i) ∙ none_same it.old it.new which i reads ∙ holding.shown.held which i;
                 settled = subst (λ them. IsSettled them) calls (settled_later it.old it.new which reads (holding.settled which));
               };
         };
@@ -219,7 +225,7 @@ module _ {D : Type 0} where
       let starts : array.starts ≡ map (start_for found.old.starts) children =
       ordered.starts ∙ found.arranged.same_start ∙ ap (λ them. map (start_for them) children) after in
       let lengths : map length array.starts ≡ map length images =
-      ap (map length) starts ∙ lengths_are images handed found.old.starts order children is laid.0 holding.sizes in
+      ap (map length) starts ∙ lengths_are images handed found.old.starts order children is laid.0 holding.shown.sizes in
       let calls : (child place : ℕ) → slice_get order child ≡ Some place → calls_on child array.calls ≡ calls_on place found.new.calls =
       λ child place at.
       let c = disk_at order children child place laid.0 at in
@@ -270,3 +276,23 @@ module _ {D : Type 0} where
             ∙ sym are.there.may.flags)
             are.there.none (λ disk. ap (λ flags. is_out flags disk) found.arranged.marked ∙ none_marked children order laid.0 disk);
       }
+
+  -- its children are the pool's disks in order
+  pub children_so : (g : disk.Ghosts D) (pool : PoolIdentity) (vdevs : List PlainVdev) (images : List (List ℕ)) (shapes : List VdevShape) (out : List Bool) (disks : List D)
+      (order : List ℕ) (rewind : ℕ) (array : Disks) (its_shapes : List VdevShape) (its_out : List Bool) → AreDisksOf pool vdevs shapes out (fresh images)
+      → AreReturned g images disks order → (ordered : AreInOrder g disks rewind array its_shapes its_out)
+      → AnswerTruly ordered.found.old ordered.found.new → AreChildren order ordered.found.layout.children.items
+  children_so g pool vdevs images shapes out disks order rewind array its_shapes its_out are returned ordered truly =
+      let found = ordered.found in
+      (own_disks_are_ordered pool vdevs shapes out images returned.handed order found.old found.new rewind found.layout are returned.handed_in
+      (still_holding g images disks order found.old returned found.read.before) truly found.laid_out).0
+
+  -- as many disks are found as were handed in
+  pub after_so : (g : disk.Ghosts D) (images : List (List ℕ)) (disks : List D) (order : List ℕ) (rewind : ℕ) (array : Disks) (its_shapes : List VdevShape)
+      (its_out : List Bool) → (returned : AreReturned g images disks order) → (ordered : AreInOrder g disks rewind array its_shapes its_out)
+      → length ordered.found.after ≡ length returned.handed
+  after_so g images disks order rewind array its_shapes its_out returned ordered =
+      let found = ordered.found in
+      let reads : Makes no_write found.old found.new = reads_made found.read.only in
+      sym (length-map found.after g.start) ∙ ap length (sym found.array.0 ∙ reads.starts ∙ found.read.before.0) ∙ length-map disks g.start
+      ∙ returned.hold.count

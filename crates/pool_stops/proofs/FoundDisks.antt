@@ -113,7 +113,7 @@ module _ {pool : PoolIdentity} {vdevs : List PlainVdev} {shapes : List VdevShape
       let child : mine.child ≡ which = it.is.once mine.child which place (mine.at ∙ ap Some read.4) at in
       let guid_is : mine.guid ≡ guid =
       same_some (slice_get (disk_guids vdevs) which) mine.guid guid (ap (slice_get (disk_guids vdevs)) (sym child) ∙ mine.named) named in
-      let below : place < length old.starts = omega (arith, (it.is.each which place at).0, it.holding.count) in
+      let below : place < length old.starts = omega (arith, (it.is.each which place at).0, it.holding.shown.count) in
       let d = slice_get_some scan.disks.items place (omega (arith, below, it.read.count)) in
       let scanned = it.read.disks place d.0 d.1 in
       let size : d.0.size ≡ size_of images which = scanned.size ∙ size_handed images handed order old which place it.is it.holding at in

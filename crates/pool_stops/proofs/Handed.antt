@@ -21,11 +21,11 @@ same_disk P old other place which size held it =
 -- one that was handed in is the pool's
 pub size_handed : (images handed : List (List ℕ)) (order : List ℕ) (old : Disks) (child place : ℕ) → AreHandedIn images handed order → AreHolding handed old
     → slice_get order child ≡ Some place → length (bytes_of old.starts place) ≡ length (bytes_of images child)
-size_handed images handed order old child place is holding at = holding.sizes place ∙ ap length (is.each child place at).1
+size_handed images handed order old child place is holding at = holding.shown.sizes place ∙ ap length (is.each child place at).1
 
 pub held_handed : (images handed : List (List ℕ)) (order : List ℕ) (old : Disks) (child place : ℕ) → AreHandedIn images handed order → AreHolding handed old
     → slice_get order child ≡ Some place → (i : ℕ) → content old place i ≡ content (fresh images) child i
-held_handed images handed order old child place is holding at i = holding.held place i ∙ ap (λ bytes. slice_get bytes i) (is.each child place at).1
+held_handed images handed order old child place is holding at i = holding.shown.held place i ∙ ap (λ bytes. slice_get bytes i) (is.each child place at).1
 
 pub as_own : (P : ℕ → (ℕ → Option ℕ) → Type 0) (images handed : List (List ℕ)) (order : List ℕ) (old : Disks) (child place : ℕ)
     → AreHandedIn images handed order → AreHolding handed old → slice_get order child ≡ Some place → OfDisk P old place → OfDisk P (fresh images) child

@@ -30,6 +30,7 @@ mod OwnHolding
 mod RunningOn
 mod StoppedDisks
 mod Arranging
+mod HandedOn
 mod OwnReopening
 mod Fitting
 mod Begun

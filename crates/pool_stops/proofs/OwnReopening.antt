@@ -2,6 +2,7 @@
 use Rattle.std.proofs.Common.{ℕ, ◌+◌, ◌≡◌, ⊎_elim, inl, inr, ◌<◌, ◌≤◌, Bool, List, [], ◌∷◌, ◌++◌, length, Option, Some, refl, sym, ap, subst, ◌∙◌, arith, append_assoc}
 use Rattle.std.proofs.lemmas.List.{length-map}
 use Rattle.model_disk.specs.Joint.{Disks, bytes_of, content}
+use Rattle.model_disk.specs.Runs.{AreSettled}
 use Rattle.model_disk.specs.declared.disk.Disk as disk
 use Rattle.raidz_io.specs.Reads.{IsHonestSince}
 use Rattle.block_store.specs.Config.{IsAllowedSize, sectors_of}
@@ -17,7 +18,7 @@ use Rattle.pool_create.specs.CoreState.{CoreState, config_of, disks_of}
 use Rattle.pool_model.specs.Pools.{PlainPool}
 use Rattle.pool_create.specs.Calls.{GrewTo}
 use Rattle.pool_create.specs.OpenCauses.{of_labels}
-use Rattle.pool_create.specs.OpenOpening.{IsKeptThrough, IsNotOpenedOver, IsOpenedOver}
+use Rattle.pool_create.specs.OpenOpening.{AreClaimedThrough, IsKeptThrough, IsNotOpenedOver, IsOpenedOver}
 use Rattle.std.specs.Prelude.{◌^◌}
 use Rattle.pool_create.specs.Opens.{OpenRefuses, refusal_of}
 use Rattle.pool_create.specs.NotOpened.{NotOpened}
@@ -44,11 +45,14 @@ use Rattle.pool_stops.proofs.LabelStops.{is_allowed, not_far, ranks_above}
 use Rattle.pool_stops.proofs.Whole.{WholeTreeOf}
 use Rattle.pool_stops.specs.Found.{ShowHighest}
 use Rattle.pool_stops.specs.Own.{AreDisksOf, IsLabeled, IsOwnDisk, disk_guids}
-use Rattle.pool_stops.specs.OwnReopening.{AreReturned, IsRefusedTruly, LeadToOwnPools, OwnPoolsOpenAgain, StoppedExportsLeadToOwnPools, StoppedOpensLeadToOwnPools, StoppedRunsLeadToOwnPools}
+use Rattle.pool_stops.specs.OwnReopening.{AreReturned, GrewFromKnown, IsRefusedTruly, LeadToOwnPools, OwnPoolsOpenAgain, StoppedExportsLeadToOwnPools, StoppedOpensLeadToOwnPools, StoppedRunsLeadToOwnPools}
 use Rattle.pool_stops.specs.OwnRunning.{AreOfSum, IsOnItsDisks, OpenedPoolsAreOnTheirDisks, RunsStayOnTheirDisks}
 use Rattle.pool_stops.specs.Stopping.{AreLabelsUntorn, LedDisksAreBound, OwnDisksAreNotFour, StoppedExportsLeaveDisks, StoppedOpensAreOfSum, StoppedOpensLeaveDisks, StoppedRunsLeaveDisks}
-use Rattle.pool_stops.proofs.Arranging.{IsArranged, is_arranged, own_found, still_holding}
+use Rattle.pool_stops.proofs.Arranging.{IsArranged, after_so, children_so, is_arranged, own_found, settled_still, still_holding}
+use Rattle.pool_stops.proofs.HandedOn.{AreWithin, come_back, in_place}
 use Rattle.pool_stops.proofs.Handed.{fresh_known}
+use Rattle.pool_stops.proofs.Holding.{get_in_use}
+use Rattle.pool_stops.proofs.Unhindered.{none_goes_out}
 use Rattle.pool_stops.proofs.Steps.{used_below}
 use Rattle.pool_stops.proofs.FoundDisks.{own_disks_are_found}
 
@@ -209,11 +213,11 @@ module _ {images : List (List ℕ)} {shapes : List VdevShape} {out : List Bool} 
 
 -- ---- an open of them
 
-unopened_so : UnhinderedOpensAreDone → (images : List (List ℕ)) (shapes : List VdevShape) (out : List Bool) (p : Possible) (pools : Uberblock → PlainPool)
+memory_alone : UnhinderedOpensAreDone → (images : List (List ℕ)) (shapes : List VdevShape) (out : List Bool) (p : Possible) (pools : Uberblock → PlainPool)
     (array : Disks) (its_shapes : List VdevShape) (its_out : List Bool) (refusal : Refusal) → IsArranged images shapes out array its_shapes its_out
     → LeadToWholePools (fresh images) shapes out p pools → AreAllThere images shapes out → HaveLeft out (fresh images)
     → (back : Disks) → IsNotOpenedOver array its_shapes its_out 0 back refusal → AnswerTruly array back → refusal ≡ NoMemory
-unopened_so law images shapes out p pools array its_shapes its_out refusal are led there left =
+memory_alone law images shapes out p pools array its_shapes its_out refusal are led there left =
     let P : List VdevShape × List Bool → Type 0 = λ x. (back : Disks) → IsNotOpenedOver array x.0 x.1 0 back refusal → AnswerTruly array back → refusal ≡ NoMemory in
     subst P (λ j. (sym are.shapes_are j, sym are.out_is j))
     (λ back is truly.
@@ -224,6 +228,50 @@ unopened_so law images shapes out p pools array its_shapes its_out refusal are l
       };
       truly = truly;
     }))
+
+-- the disks of a claim were called
+claimed_grew : (out later : List Bool) (claimed : Uberblock) (old new : Disks) → AreClaimedThrough out later claimed old new → GrewTo old new
+claimed_grew out later claimed old new it =
+    let reads = through_made out later old it.read it.before in
+    let claims = it.claims.makes in
+    record {
+      starts = claims.starts ∙ reads.starts;
+      newer = claims.newer ++ reads.newer;
+      calls = claims.calls ∙ ap (λ cs. claims.newer ++ cs) reads.calls ∙ sym (append_assoc claims.newer reads.newer old.calls);
+    }
+
+-- Where one is refused by no call that failed, nothing is unflushed: the disks were only read, or a claim was done.
+unopened_at : (images : List (List ℕ)) (shapes : List VdevShape) (out : List Bool) (p : Possible) (pools : Uberblock → PlainPool) (array : Disks)
+    (its_shapes : List VdevShape) (its_out : List Bool) (rewind : ℕ) (new : Disks) (refusal : Refusal) → IsArranged images shapes out array its_shapes its_out
+    → LeadToWholePools (fresh images) shapes out p pools → AreAllThere images shapes out → IsNotOpenedOver array shapes out rewind new refusal
+    → AnswerTruly array new → GrewFromKnown array new × AreSettled new
+unopened_at images shapes out p pools array its_shapes its_out rewind new refusal are led there is truly =
+    let known : (which : ℕ) → IsKnown array which = λ which. known_so are which in
+    let flags : length out ≡ length array.starts = there.may.flags ∙ sym (count_so are) in
+    ⊎_elim
+    (λ (through, cause).
+    let reads = through_made out is.later array new through in (
+      record { grew = record { starts = reads.starts; newer = reads.newer; calls = reads.calls }; known = known },
+      λ which below. settled_still array new which reads (are.settled which),
+    ))
+    (λ (claimed, through, gives, cause).
+    let same : is.later ≡ out = none_goes_out array new out is.later claimed (is.count ∙ sym flags) there.none truly.none_failed through in
+    let gives_all : OpenGives out rewind array claimed new = subst (λ (them : List Bool). OpenGives them rewind array claimed new) same gives in
+    let lead = lead_so p pools are led in
+    let done = gives_all lead.led.trees p lead.led.can truly.honest in
+    let grew = claimed_grew out is.later claimed array new through in (
+      record { grew = grew; known = known },
+      λ which below. done.1.settled which (get_in_use out which (omega (arith, below, ap length grew.starts, flags)) (there.none which)),
+    ))
+    is.cause
+
+unopened_so : (images : List (List ℕ)) (shapes : List VdevShape) (out : List Bool) (p : Possible) (pools : Uberblock → PlainPool) (array : Disks)
+    (its_shapes : List VdevShape) (its_out : List Bool) (rewind : ℕ) (new : Disks) (refusal : Refusal) → IsArranged images shapes out array its_shapes its_out
+    → LeadToWholePools (fresh images) shapes out p pools → AreAllThere images shapes out → IsNotOpenedOver array its_shapes its_out rewind new refusal
+    → AnswerTruly array new → GrewFromKnown array new × AreSettled new
+unopened_so images shapes out p pools array its_shapes its_out rewind new refusal are led there is truly =
+    let P : List VdevShape × List Bool → Type 0 = λ x. IsNotOpenedOver array x.0 x.1 rewind new refusal in
+    unopened_at images shapes out p pools array its_shapes its_out rewind new refusal are led there (subst P (λ j. (are.shapes_are j, are.out_is j)) is) truly
 
 -- an open of them claims an uberblock that names the configuration of its core, if that is the pool's
 names_own : (pool : PoolIdentity) (vdevs : List PlainVdev) (digest : List ℕ) (images : List (List ℕ)) (shapes : List VdevShape) (out : List Bool) (p : Possible)
@@ -248,14 +296,7 @@ names_own pool vdevs digest images shapes out p pools array rewind claimed core 
 -- its disks were called
 opened_grew : (old : Disks) (shapes : List VdevShape) (out : List Bool) (rewind : ℕ) (claimed : Uberblock) (core : CoreState)
     → IsOpenedOver old shapes out rewind claimed core → GrewTo old (disks_of core)
-opened_grew old shapes out rewind claimed core is =
-    let reads = through_made out is.later old is.calls.read is.calls.before in
-    let claims = is.calls.claims.makes in
-    record {
-      starts = claims.starts ∙ reads.starts;
-      newer = claims.newer ++ reads.newer;
-      calls = claims.calls ∙ ap (λ cs. claims.newer ++ cs) reads.calls ∙ sym (append_assoc claims.newer reads.newer old.calls);
-    }
+opened_grew old shapes out rewind claimed core is = claimed_grew out is.later claimed old (disks_of core) is.calls
 
 opened_so : OpenedPoolsRunAs → OpenedPoolsAreOnTheirDisks → (pool : PoolIdentity) (vdevs : List PlainVdev) (digest : List ℕ) (images : List (List ℕ))
     (shapes : List VdevShape) (out : List Bool) (p : Possible) (pools : Uberblock → PlainPool) (array : Disks) (its_shapes : List VdevShape)
@@ -299,13 +340,13 @@ module _ {D : Type 0} where
       (still_holding g images disks order found.old returned found.read.before) truly found.cause)
   refused_so law g pool vdevs digest images shapes out p pools disks order (Refused refusal back) it returned left found truly =
       let once = unfailing_opens_claim_once found.array found.shapes found.out 0 found.new refusal found.refused truly.1.none_failed in
-      unopened_so law images shapes out p pools found.array found.shapes found.out refusal
+      memory_alone law images shapes out p pools found.array found.shapes found.out refusal
       (is_arranged g pool vdevs images shapes out disks order 0 found.array found.shapes found.out it.are returned found.ordered truly.0)
       it.led it.are.there left found.new once truly.1
 
   pub own_pools_open_again : UnhinderedOpensAreDone → OpenedPoolsRunAs → OpenedPoolsAreOnTheirDisks → StoppedOpensLeadToOwnPools → (g : disk.Ghosts D)
-      → OwnPoolsOpenAgain g
-  own_pools_open_again law runs own stop g pool vdevs digest images shapes out p pools it = record {
+      → AreWithin g → OwnPoolsOpenAgain g
+  own_pools_open_again law runs own stop g within pool vdevs digest images shapes out p pools it = record {
     refused = λ disks order failed returned left why truly.
         refused_so law g pool vdevs digest images shapes out p pools disks order failed it returned left why truly;
     done = λ disks order rewind claimed core returned is truly few.
@@ -318,6 +359,18 @@ module _ {D : Type 0} where
     stopped = λ disks order rewind array new its_shapes its_out left few by_group returned ordered truly kept honest leaves untorn.
         stopped_so stop pool vdevs digest images shapes out p pools array new its_shapes its_out rewind left it
         (is_arranged g pool vdevs images shapes out disks order rewind array its_shapes its_out it.are returned ordered truly) few by_group honest kept leaves untorn;
+    unopened = λ disks back order rewind refusal returned is found truly.
+        let are = is_arranged g pool vdevs images shapes out disks order rewind is.array is.shapes is.out it.are returned is.ordered found in
+        let once = unfailing_opens_claim_once is.array is.shapes is.out rewind is.new refusal is.refused truly.none_failed in
+        unopened_so images shapes out p pools is.array is.shapes is.out rewind is.new refusal are it.led it.are.there once truly;
+    back = λ disks back order rewind array new its_shapes its_out returned ordered truly starts given count safe.
+        let are = is_arranged g pool vdevs images shapes out disks order rewind array its_shapes its_out it.are returned ordered truly in
+        let many : length new.starts ≡ length images = ap length starts ∙ count_so are in
+        let all : length back ≡ length returned.handed = count ∙ returned.hold.count in
+        come_back g within new images returned.handed order back returned.handed_in many all
+        (in_place g new images returned.handed order ordered.found.after back ordered.found.layout.children.items ordered.places returned.handed_in
+        (children_so g pool vdevs images shapes out disks order rewind array its_shapes its_out it.are returned ordered truly) ordered.handed
+        (after_so g images disks order rewind array its_shapes its_out returned ordered) many given all) safe;
   }
 
 -- ---- what stops leave

@@ -149,7 +149,7 @@ module _ {pool : PoolIdentity} {vdevs : List PlainVdev} {shapes : List VdevShape
   scanned_below it i s at =
       let has : Contains (map place_of scan.labels.items) (place_of s) = contains_at (map place_of scan.labels.items) i (place_of s) (slice_get-map place_of scan.labels.items i ∙ ap (option_map place_of) at) in
       let here : Contains (places_to old.starts (length old.starts)) (place_of s) = subst (λ xs. Contains xs (place_of s)) it.read.places has in
-      omega (arith, below_places old.starts (length old.starts) (place_of s) here, it.holding.count)
+      omega (arith, below_places old.starts (length old.starts) (place_of s) here, it.holding.shown.count)
 
   -- what a valid one shows
   pub valid_shown : IsHanded pool vdevs shapes out images handed order old new scan → (i : ℕ) (s : ScannedLabel) (label : Label)
@@ -187,7 +187,7 @@ module _ {pool : PoolIdentity} {vdevs : List PlainVdev} {shapes : List VdevShape
       → (i : ℕ) × (s : ScannedLabel) × (slice_get scan.labels.items i ≡ Some s) × (s.disk ≡ place) × (s.number ≡ number)
   label_read it child place number at allowed low =
       let same : length (bytes_of old.starts place) ≡ length (bytes_of images child) = size_handed images handed order old child place it.is it.holding at in
-      let below : place < length old.starts = omega (arith, (it.is.each child place at).0, it.holding.count) in
+      let below : place < length old.starts = omega (arith, (it.is.each child place at).0, it.holding.shown.count) in
       let has = has_places old.starts (length old.starts) place number below (subst (λ (n : ℕ). IsAllowedSize n) (sym same) allowed) low in
       let found = at_contains (map place_of scan.labels.items) (place, number) (subst (λ xs. Contains xs (place, number)) (sym it.read.places) has) in
       let s = found_in_map place_of scan.labels.items found.0 (place, number) found.1 in

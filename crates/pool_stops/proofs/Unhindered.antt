@@ -100,6 +100,15 @@ all_stay out later old surveyed new may count none well gone makes =
     (λ there. there)
     (flag_is (is_out later disk)))
 
+-- so it is of a claim
+pub none_goes_out : (old new : Disks) (out later : List Bool) (claimed : Uberblock) → length later ≡ length out → ((disk : ℕ) → is_out out disk ≡ false)
+    → ((disk : ℕ) → ¬ HasFailedOn old new disk) → AreClaimedThrough out later claimed old new → later ≡ out
+none_goes_out old new out later claimed count none well through =
+    let surveyed = through.before.surveyed in
+    all_stay out later old surveyed through.read no_write count none
+    (λ disk failed. well disk (fails_before _ old through.read new disk through.claims.makes failed)) through.before.absent
+    (block_reads_made surveyed through.read through.before.blocks.only)
+
 -- ---- all disks are there
 
 none_lost : (lost : ℕ → Bool) (first n : ℕ) → ((disk : ℕ) → lost disk ≡ false) → lost_in lost first n ≡ 0
@@ -311,9 +320,7 @@ unhindered_opens_are_done law old shapes out p pools refusal led there new is un
     reading_case law old new shapes out p pools refusal led free at.0 at.1)
     (λ (it : C is.later).
     let through = it.1 in
-    let gone : (disk : ℕ) → ¬ HasFailedOn old through.read disk = λ disk failed. free.none_failed disk (fails_before _ old through.read new disk through.claims.makes failed) in
-    let all = all_stay out is.later old through.before.surveyed through.read no_write count free.none gone through.before.absent
-    (block_reads_made through.before.surveyed through.read through.before.blocks.only) in
+    let all = none_goes_out old new out is.later it.0 count free.none free.none_failed through in
     let at : C out = subst C all it in
     claim_case old new shapes out p pools at.0 refusal led free at.1 at.3)
     is.cause

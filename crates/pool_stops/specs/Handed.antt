@@ -13,11 +13,15 @@ pub record AreHandedIn (images handed : List (List ℕ)) (order : List ℕ) : Ty
   pub all : (place : ℕ) → place < length handed → Contains order place
   pub once : (child other place : ℕ) → slice_get order child ≡ Some place → slice_get order other ≡ Some place → child ≡ other
 
--- disks that hold these bytes, and on which nothing is unflushed
+-- disks that show these bytes
+pub record AreShown (images : List (List ℕ)) (disks : Disks) : Type 0 where
+  pub count : length disks.starts ≡ length images
+  pub sizes : (which : ℕ) → length (bytes_of disks.starts which) ≡ length (bytes_of images which)
+  pub held : (which i : ℕ) → content disks which i ≡ slice_get (bytes_of images which) i
+
+-- disks that hold them: nothing on them is unflushed
 pub record AreHolding (handed : List (List ℕ)) (disks : Disks) : Type 0 where
-  pub count : length disks.starts ≡ length handed
-  pub sizes : (which : ℕ) → length (bytes_of disks.starts which) ≡ length (bytes_of handed which)
-  pub held : (which i : ℕ) → content disks which i ≡ slice_get (bytes_of handed which) i
+  pub shown : AreShown handed disks
   pub settled : (which : ℕ) → IsSettled (calls_on which disks.calls)
 
 module _ {D : Type 0} where

@@ -1,6 +1,7 @@
 -- Pools are opened again on their own disks, handed in in any order.
 use Rattle.std.specs.Prelude.{ℕ, ◌≡◌, ◌<◌, ◌≤◌, ◌^◌, Bool, [], List, length, map, Contains}
 use Rattle.model_disk.specs.Joint.{Disks}
+use Rattle.model_disk.specs.Runs.{AreSettled}
 use Rattle.model_disk.specs.declared.disk.Disk as disk
 use Rattle.raidz_io.specs.Reads.{IsHonestSince}
 use Rattle.block_store.specs.Places.{shapes_of}
@@ -16,9 +17,10 @@ use Rattle.pool_model.specs.View.{View}
 use Rattle.pool_model.specs.declared.step.Reply.{Reply}
 use Rattle.pool_model.specs.declared.step.Step.{Step}
 use Rattle.pool_create.specs.OpenExporting.{IsExportBegun}
-use Rattle.pool_create.specs.OpenFinding.{FindRefuses}
+use Rattle.pool_create.specs.OpenFinding.{AreBack, FindRefuses, IsArrayOf}
 use Rattle.pool_create.specs.OpenOpening.{IsKeptThrough}
-use Rattle.pool_create.specs.Opens.{AreInOrder, IsOpened, OpenRefuses, refusal_of}
+use Rattle.pool_create.specs.OpenRefusal.{Refusal}
+use Rattle.pool_create.specs.Opens.{AreInOrder, IsOpened, IsUnopened, OpenRefuses, refusal_of}
 use Rattle.pool_create.specs.OpenStops.{fresh}
 use Rattle.pool_create.specs.NotOpened.{NotOpened}
 use Rattle.pool_create.specs.NotOpened.TheVariants.{NotFound, Refused}
@@ -31,7 +33,7 @@ use Rattle.pool_stops.specs.OneConfig.{AreOfConfig, IsOpenedAs, IsRunningAs, Run
 use Rattle.pool_stops.specs.Reopening.{AreByGroup, IsPossibleBehind, LeavesImages}
 use Rattle.pool_stops.specs.Running.{IsLastStep, pool_of}
 use Rattle.pool_stops.specs.Unhindered.{AnswerTruly, HaveLeft, LeadToWholePools}
-use Rattle.pool_stops.specs.Handed.{AllHold, AreHandedIn}
+use Rattle.pool_stops.specs.Handed.{AllHold, AreHandedIn, AreShown}
 use Rattle.pool_stops.specs.Own.{AreDisksOf, IsKnownAs}
 use Rattle.pool_stops.specs.OwnRunning.{AreOfSum, IsOnItsDisks}
 use Rattle.pool_stops.specs.Stopping.{AreLabelsUntorn}
@@ -44,6 +46,11 @@ pub record LeadToOwnPools (pool : PoolIdentity) (vdevs : List PlainVdev) (digest
   pub one : AreOfConfig digest p
   pub sums : AreOfSum vdevs p
 
+-- each byte of the disks is known, and nothing on them is unflushed
+pub record AreSafe (disks : Disks) : Type 0 where
+  pub known : (which : ℕ) → IsKnown disks which
+  pub settled : AreSettled disks
+
 -- the disks were called since the old moment, at which each byte of theirs was known
 pub record GrewFromKnown (old new : Disks) : Type 0 where
   pub grew : GrewTo old new
@@ -55,6 +62,12 @@ module _ {D : Type 0} where
     pub handed : List (List ℕ)
     pub handed_in : AreHandedIn images handed order
     pub hold : AllHold g handed disks
+
+  -- These disks, which come back in this order, show some bytes and may be handed in again: nothing on them is unflushed.
+  pub record ComeBack (g : disk.Ghosts D) (disks : Disks) (back : List D) (order : List ℕ) : Type 0 where
+    pub images : List (List ℕ)
+    pub shown : AreShown images disks
+    pub returned : AreReturned g images back order
 
   -- an open of them that was refused: each of its answers was true, and none of its calls failed
   abbrev pub IsRefusedTruly : (g : disk.Ghosts D) (disks : List D) (rewind : ℕ) (failed : NotOpened D) → OpenRefuses g disks rewind failed → Type 0
@@ -85,6 +98,15 @@ module _ {D : Type 0} where
         → IsKeptThrough its_out rewind array new → IsHonestSince array new → (leaves : LeavesImages its_out array new left)
         → AreLabelsUntorn array.starts leaves.calls left
         → (later : Possible) × IsPossibleBehind p rewind later × LeadToOwnPools pool vdevs digest left shapes out later pools
+    -- where it was refused behind that, by no call that failed, nothing is unflushed;
+    pub unopened : (disks back : List D) (order : List ℕ) (rewind : ℕ) (refusal : Refusal) → AreReturned g images disks order
+        → (is : IsUnopened g disks rewind back refusal) → AnswerTruly is.ordered.found.old is.ordered.found.new → AnswerTruly is.array is.new
+        → GrewFromKnown is.array is.new × AreSettled is.new
+    -- and the disks that come back of it then or later, if they are as many, may be handed in again in their order
+    pub back : (disks back : List D) (order : List ℕ) (rewind : ℕ) (array new : Disks) (its_shapes : List VdevShape) (its_out : List Bool)
+        → AreReturned g images disks order → (ordered : AreInOrder g disks rewind array its_shapes its_out)
+        → AnswerTruly ordered.found.old ordered.found.new → new.starts ≡ array.starts → AreBack g new ordered.places back → length back ≡ length disks
+        → AreSafe new → ComeBack g new back order
 
   -- ---- laws
 
@@ -100,11 +122,21 @@ module _ {D : Type 0} where
       (images : List (List ℕ)) (disks back : List D) (order : List ℕ) (rewind : ℕ) (cause : LabelsRefusal) → AreReturned g images disks order
       → FindRefuses g disks rewind back cause → AreReturned g images back order
 
+  -- And so may those that come back of an array, as they stand in it.
+  abbrev pub ArraysComeBack : disk.Ghosts D → Type 0
+  ArraysComeBack g = (array : Disks) (disks : List D) → IsArrayOf g disks array → AreSafe array → (order : List ℕ) × ComeBack g array disks order
+
   abbrev pub OwnPoolsOpenAgain : disk.Ghosts D → Type 0
   OwnPoolsOpenAgain g =
       (pool : PoolIdentity) (vdevs : List PlainVdev) (digest : List ℕ) (images : List (List ℕ)) (shapes : List VdevShape) (out : List Bool) (p : Possible)
       (pools : Uberblock → PlainPool) → LeadToOwnPools pool vdevs digest images shapes out p pools
       → OpenAgain g pool vdevs digest images shapes out p pools
+
+-- What disks show is left by a stop that loses nothing: all that was written stands, and nothing is torn.
+abbrev pub ShownImagesAreLeft : Type 0
+ShownImagesAreLeft =
+    (out : List Bool) (old new : Disks) (images : List (List ℕ)) → GrewTo old new → AreShown images new
+    → (leaves : LeavesImages out old new images) × AreLabelsUntorn old.starts leaves.calls images
 
 -- Wherever a run of a pool on its own disks is stopped, it leaves such disks,
 abbrev pub StoppedRunsLeadToOwnPools : Type 0

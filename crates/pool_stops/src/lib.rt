@@ -28,9 +28,9 @@ pub use laws::{
     stopped_opens_lead, stopped_steps_lead,
 };
 pub use opening::{
-    disks_may_be_handed_in, own_pools_open_again, stopped_exports_lead_to_own_pools,
-    stopped_opens_lead_to_own_pools, stopped_runs_lead_to_own_pools,
-    stopped_steps_lead_to_own_pools,
+    disks_may_be_handed_in, disks_may_be_handed_on, own_pools_open_again,
+    stopped_exports_lead_to_own_pools, stopped_opens_lead_to_own_pools,
+    stopped_runs_lead_to_own_pools, stopped_steps_lead_to_own_pools,
 };
 pub use running::{
     created_pools_are_on_their_disks, none_was_out, opened_pools_are_on_their_disks,

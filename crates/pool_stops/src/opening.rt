@@ -2,6 +2,7 @@
 ghost use Rattle.pool_stops.specs.Begun.{StoppedStepsLeadToOwnPools};
 ghost use Rattle.pool_stops.specs.OwnReopening.{OwnPoolsOpenAgain, StoppedExportsLeadToOwnPools};
 ghost use Rattle.pool_stops.specs.OwnReopening.{StoppedOpensLeadToOwnPools, StoppedRunsLeadToOwnPools};
+ghost use Rattle.pool_stops.specs.OwnReopening.{ArraysComeBack, ShownImagesAreLeft};
 ghost use Rattle.pool_stops.specs.OwnReopening.{UncalledDisksAreReturned, UnfoundDisksAreReturned};
 
 use crate::configured::{opened_pools_run_as, stopped_opens_are_of_config};
@@ -18,11 +19,12 @@ use crate::whole_pools::{
     unhindered_opens_are_done,
 };
 use model_disk::Disk;
+use model_disk::laws::held_bytes_are_known;
 use pool_slots::stepwise::blocks_phase;
 
 /// **An open of a pool's own disks, handed in in any order**, is refused for want of memory alone, where all answers are true, no call fails, it doesn't go
 /// back, and groups and claims are left. One that is done gives a core of the pool of a possible group, or of one so many groups less, that runs on, and
-/// tells the pool's name and guid. And wherever one is stopped, it leaves disks that open again.
+/// tells the pool's name and guid. And wherever one is stopped, it leaves disks that open again; so do the disks that come back of it.
 pub fn own_pools_open_again<D: Disk + Drop>()
     ensures { OwnPoolsOpenAgain D.Disk }
 {
@@ -37,6 +39,15 @@ pub fn disks_may_be_handed_in<D: Disk + Drop>()
     ensures uncalled { UncalledDisksAreReturned D.Disk }
     ensures unfound { UnfoundDisksAreReturned D.Disk }
 {}
+
+/// Disks may be handed on with no stop between: what they show is left by a stop that loses nothing; and those that come back of an array, each byte known
+/// and nothing unflushed, may be handed in again.
+pub fn disks_may_be_handed_on<D: Disk + Drop>()
+    ensures shown { ShownImagesAreLeft }
+    ensures back { ArraysComeBack D.Disk }
+{
+    held_bytes_are_known();
+}
 
 /// Wherever a run of a pool on its own disks is stopped, as long as no disk is out: it leaves disks that open again.
 pub fn stopped_runs_lead_to_own_pools()
