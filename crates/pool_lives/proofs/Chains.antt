@@ -13,7 +13,7 @@ use Rattle.pool_format.specs.declared.labeling.PoolIdentity.{PoolIdentity}
 use Rattle.pool_model.specs.View.{Given, View}
 use Rattle.pool_model.specs.declared.step.Reply.{Reply}
 use Rattle.pool_model.specs.declared.step.Step.{Step}
-use Rattle.pool_slots.specs.Lives.{IsNextGroup}
+use Rattle.pool_slots.specs.Commits.{IsNextGroup}
 use Rattle.pool_stops.specs.OneConfig.{IsRunningAs}
 use Rattle.pool_stops.specs.OwnRunning.{IsOnItsDisks, StepsOnItsDisks, StepsStayOnTheirDisks}
 use Rattle.pool_stops.specs.Running.{IsNextOf, IsRunning, NoneWasOut}

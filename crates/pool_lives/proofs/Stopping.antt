@@ -20,8 +20,7 @@ use Rattle.pool_model.specs.declared.step.Reply.{Reply}
 use Rattle.pool_model.specs.declared.step.Reply.TheVariants.{Refused}
 use Rattle.pool_model.specs.declared.step.Step.{Step}
 use Rattle.pool_model.specs.declared.step.Step.TheVariants.{Hold}
-use Rattle.pool_slots.specs.Commits.{last_or, only_last}
-use Rattle.pool_slots.specs.Lives.{IsNextGroup}
+use Rattle.pool_slots.specs.Commits.{last_or, only_last, IsNextGroup}
 use Rattle.pool_slots.specs.Possible.{Possible}
 use Rattle.pool_slots.specs.Slots.{AreUntorn}
 use Rattle.pool_stops.specs.Begun.{IsBegun, IsPossibleNow, StoppedStepsLeadToOwnPools, at_stop}

@@ -9,8 +9,7 @@ use Rattle.pool_model.specs.Pools.{PlainPool}
 use Rattle.pool_model.specs.View.{Given, Vdev, View, opened_as}
 use Rattle.pool_model.specs.declared.step.Reply.{Reply}
 use Rattle.pool_model.specs.declared.step.Step.{Step}
-use Rattle.pool_slots.specs.Commits.{last_or, only_last}
-use Rattle.pool_slots.specs.Lives.{IsNextGroup}
+use Rattle.pool_slots.specs.Commits.{last_or, only_last, IsNextGroup}
 use Rattle.pool_slots.specs.Opens.{IsClaimOf}
 use Rattle.pool_slots.specs.Possible.{Possible}
 use Rattle.pool_stops.specs.Begun.{IsBegun}

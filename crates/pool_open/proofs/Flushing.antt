@@ -6,8 +6,7 @@ use Rattle.model_disk.specs.Call.{flush_call, is_failed}
 use Rattle.model_disk.specs.Joint.{Disks, JointCall, calls_on, on}
 use Rattle.model_disk.specs.Runs.{IsSettled, no_write}
 use Rattle.pool_slots.specs.Failures.{HasFailedOn}
-use Rattle.pool_slots.specs.Lives.{StayOut}
-use Rattle.pool_slots.specs.Slots.{InUse, MakesOn}
+use Rattle.pool_slots.specs.Slots.{InUse, MakesOn, StayOut}
 use Rattle.pool_open.proofs.Outs.{fails_before, put_out, used_or_out}
 use Rattle.pool_slots.proofs.Failing.{fails_later, fails_now}
 use Rattle.pool_slots.proofs.Phases.{MakesOn-more, MakesOn-none, MakesOn-wider}

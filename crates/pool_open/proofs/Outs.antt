@@ -4,8 +4,7 @@ use Rattle.model_disk.specs.Joint.{Disks, JointCall, failed_since}
 use Rattle.model_disk.specs.Runs.{Makes}
 use Rattle.model_disk.proofs.FailureLemmas.{kept_through}
 use Rattle.pool_slots.specs.Failures.{HasFailedOn}
-use Rattle.pool_slots.specs.Lives.{StayOut}
-use Rattle.pool_slots.specs.Slots.{InUse}
+use Rattle.pool_slots.specs.Slots.{InUse, StayOut}
 
 some_bool : (a b : Bool) → Some a ≡ Some b → a ≡ b
 some_bool a b e = cc

@@ -3,9 +3,8 @@ use Rattle.std.specs.Prelude.{ℕ, ◌≡◌, ◌⊎◌, Bool, List, length}
 use Rattle.model_disk.specs.Joint.{Disks}
 use Rattle.model_disk.specs.Runs.{no_write}
 use Rattle.pool_slots.specs.Failures.{HasFailedOn}
-use Rattle.pool_slots.specs.Lives.{StayOut}
 use Rattle.pool_slots.specs.Present.{HaveFailed}
-use Rattle.pool_slots.specs.Slots.{AreSettled, InUse, MakesOn}
+use Rattle.pool_slots.specs.Slots.{AreSettled, InUse, MakesOn, StayOut}
 
 -- Disks in use were flushed, and those of which that failed are out now, and no others went out.
 pub record GoOutFlushing (out later : List Bool) (old new : Disks) : Type 0 where

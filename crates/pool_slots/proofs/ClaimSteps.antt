@@ -8,21 +8,13 @@ use Rattle.pool_slots.specs.Configs.{ClaimConfigures, OpenConfigures}
 use Rattle.pool_slots.specs.Labels.{AreasStand, IsClaimWrite}
 use Rattle.pool_slots.specs.Opens.{ClaimGives, ClaimKeeps, OpenGives, OpenKeeps, OpenMarks}
 use Rattle.pool_slots.specs.Relabels.{AreFirst, AreMadeOf, IsRewrite, OpenMarksFirst, OpenRelabels, OpenRewrites, InAllLabels, of_areas}
-use Rattle.pool_slots.specs.Slots.{InUse, MakesOn}
 use Rattle.pool_slots.specs.Surveys.{Surveyed, IsWholeOf, OfSurveyed}
 use Rattle.pool_slots.specs.declared.found.Found.{Found}
 use Rattle.pool_slots.specs.declared.labeled.Area.{Area}
 use Rattle.pool_slots.proofs.ConfigLabels.{open_configures}
 use Rattle.pool_slots.proofs.Opened.{claims_always, made_from, marked_by, marks_always, opened_from, opened_is, relabeled_by}
-use Rattle.pool_slots.proofs.Phases.{MakesOn-more, none_wider, settled_later}
+use Rattle.pool_slots.proofs.Phases.{settled_later}
 use Rattle.pool_slots.proofs.Used.{are_there}
-
--- reads, and then a claim
-pub scan_then_claim : (out : List Bool) (old mid new : Disks) (u : Uberblock) → MakesOn (InUse out) no_write old mid → MakesOn (InUse out) (IsClaimWrite mid.starts out u) mid new
-    → MakesOn (InUse out) (IsClaimWrite old.starts out u) old new
-scan_then_claim out old mid new u scan makes =
-    let P : List (List ℕ) → Type 0 = λ s. MakesOn (InUse out) (IsClaimWrite s out u) mid new in
-    MakesOn-more (InUse out) (IsClaimWrite old.starts out u) old mid new (none_wider (InUse out) (IsClaimWrite old.starts out u) old mid scan) (subst P scan.makes.starts makes)
 
 -- the survey's uberblock is claimed
 made_as : (out : List Bool) (old new : Disks) (s : Surveyed) (u : Uberblock) → u ≡ s.claimed → Makes (IsClaimWrite old.starts out u) old new → Makes (IsClaimWrite old.starts out s.claimed) old new

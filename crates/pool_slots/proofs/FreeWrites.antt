@@ -8,12 +8,11 @@ use Rattle.model_disk.specs.Runs.{Makes, IsOff}
 use Rattle.model_disk.proofs.ContentsLemmas.{covers-inside}
 use Rattle.model_disk.proofs.RunLemmas.{Makes-wider}
 use Rattle.vdev_label.specs.Place.{label_at}
-use Rattle.pool_slots.specs.Slots.{AreThere, InUse, HaveLabels, slot_at, IsSlot}
+use Rattle.pool_slots.specs.Slots.{AreThere, InUse, HaveLabels, slot_at, IsSlot, StayOut}
 use Rattle.pool_slots.specs.Possible.{IsInReach, Trees}
 use Rattle.pool_slots.specs.Writes.{IsBlockWrite, ArePlaced, IsOffBlocks}
 use Rattle.pool_slots.specs.Commits.{AreOffLabels, IsPlan, only_last}
 use Rattle.pool_slots.specs.Labels.{area_place}
-use Rattle.pool_slots.specs.Lives.{StayOut}
 use Rattle.pool_slots.specs.Phases.{if_used, IsOffSlots, IsRelabel, free_writes, slot_writes}
 use Rattle.pool_slots.specs.declared.blocks.BlockWrite.{BlockWrite}
 use Rattle.pool_slots.proofs.LabelWrites.{area_in_label, area_off_slot}

@@ -1,7 +1,6 @@
 -- Writes of labels: what they leave.
-use Rattle.std.proofs.Common.{◌≡◌, ◌⊎◌, inl, inr, ◌<◌, ◌≤◌, ◌∙◌, ℕ, ◌+◌, ◌*◌, Bool, true, false, List, ◌∷◌, length, slice_get, get_or, Option, Some, None, Vec, Result, Ok, Err, OnOk, Bor, refl, sym, ap, subst, arith}
-use Rattle.std.specs.declared.alloc.Global.{Global}
-use Rattle.std.proofs.lemmas.Option.{slice_get-get_or, slice_get_read}
+use Rattle.std.proofs.Common.{◌≡◌, ◌⊎◌, inl, inr, ◌<◌, ◌≤◌, ◌∙◌, ℕ, ◌+◌, ◌*◌, Bool, true, false, List, ◌∷◌, length, slice_get, get_or, Option, Some, None, Result, Ok, Err, OnOk, refl, sym, ap, subst, arith}
+use Rattle.std.proofs.lemmas.Option.{slice_get-get_or}
 use Rattle.std.proofs.lemmas.Bool.{cases_lt}
 use Rattle.uberblock_ring.specs.declared.uberblock.Uberblock.{Uberblock}
 use Rattle.uberblock_ring.specs.Uberblock.{Fits}
@@ -15,17 +14,13 @@ use Rattle.model_disk.proofs.LawLemmas.{written_bytes_stand}
 use Rattle.model_disk.proofs.RunLemmas.{off_content}
 use Rattle.vdev_label.specs.Place.{label_at}
 use Rattle.pool_slots.specs.Commits.{AreOffLabels}
-use Rattle.pool_slots.specs.Configures.{IsPlanFor, picks_of}
-use Rattle.pool_slots.specs.Labels.{AreWhole, AreasStand, InAreaTurn, IsAreaWrite, IsPicked, area_place, copies, of_disk, of_label, turn_of}
+use Rattle.pool_slots.specs.Labels.{AreWhole, AreasOn, AreasStand, InAreaTurn, IsAreaWrite, IsPicked, area_place, copies, of_disk, of_label, turn_of}
 use Rattle.pool_slots.specs.Phases.{IsRelabel}
 use Rattle.pool_slots.specs.Possible.{Possible, Trees, Leads}
 use Rattle.pool_slots.specs.Slots.{AreThere, InUse, HaveLabels, IsSlot, MakesOn, is_disk, slot_at}
 use Rattle.pool_slots.specs.Writes.{IsSlotWrite}
 use Rattle.pool_slots.specs.declared.labeled.Area.{Area}
 use Rattle.pool_slots.specs.declared.labeled.Pick.{Pick}
-use Rattle.pool_slots.specs.declared.labeled.Pick.TheVariants.{Half}
-use Rattle.pool_slots.specs.declared.labeled.AreaPlan.{AreaPlan}
-use Rattle.pool_slots.specs.declared.labeled.AreaPlan.TheVariants.{Claim, Config}
 use Rattle.pool_slots.proofs.Phases.{IsPhase, MakesOn-more, MakesOn-wider, none_same}
 use Rattle.pool_slots.proofs.Places.{apart_covers, labels_apart, length-spelled}
 use Rattle.pool_slots.proofs.Writing.{MakesOn-write, on_used, slot_number_small}
@@ -235,97 +230,57 @@ is_turn areas first which area has number bytes it =
     let P : Area → Type 0 = λ a. IsPicked (turn_of first a) number in
     subst P (same_area it.area area (sym it.has ∙ has)) it.turn
 
--- ---- the disks of a commit with which the configuration changes
-
-same_vec : (a b : Vec ℕ Global) → Some a ≡ Some b → a ≡ b
-same_vec a b e = cc
-
--- the area of that disk, as it is read
-area_there : (areas : List (Vec ℕ Global)) (starts : List (List ℕ)) (which : ℕ) (area : Vec ℕ Global) → length areas ≡ length starts → which < length starts → area ≡ get_or areas which area
-    → slice_get areas which ≡ Some area
-area_there areas starts which area count below is = slice_get_read areas (length starts) which area (sym count) below is
-
 -- ---- what is planned
 
 -- it is for disks in use
-pub planned_used : (out : List Bool) (starts : List (List ℕ)) (plan : AreaPlan) → IsPlanFor out starts plan → (which number : ℕ) (bytes : List ℕ) → picks_of out plan which number bytes → InUse out which
-planned_used out starts (Claim areas first) fits which number bytes it = (fits.1 which).1 (it.area, it.has)
-planned_used out starts (Config areas half) fits which number bytes it = it.0.used
+pub planned_used : (out : List Bool) (areas : List (Option Area)) (first : Bool) → AreasOn out areas → (which number : ℕ) (bytes : List ℕ) → InAreaTurn areas first which number bytes → InUse out which
+planned_used out areas first on which number bytes it = (on which).1 (it.area, it.has)
 
 -- a disk that is out has none
-pub none_planned : (out : List Bool) (starts : List (List ℕ)) (plan : AreaPlan) (disk : ℕ) → IsPlanFor out starts plan → ¬ InUse out disk
-    → (which number : ℕ) (bytes : List ℕ) → ¬ of_disk disk (picks_of out plan) which number bytes
-none_planned out starts plan disk fits unused which number bytes it =
-    let P : ℕ → Type 0 = InUse out in unused (subst P it.0 (planned_used out starts plan fits which number bytes it.1))
+pub none_planned : (out : List Bool) (areas : List (Option Area)) (first : Bool) (disk : ℕ) → AreasOn out areas → ¬ InUse out disk
+    → (which number : ℕ) (bytes : List ℕ) → ¬ of_disk disk (InAreaTurn areas first) which number bytes
+none_planned out areas first disk on unused which number bytes it =
+    let P : ℕ → Type 0 = InUse out in unused (subst P it.0 (planned_used out areas first on which number bytes it.1))
 
-pub none_claimed : (out : List Bool) (starts : List (List ℕ)) (plan : AreaPlan) (areas : Bor (List (Option Area))) (first : Bool) (disk : ℕ) (d : Option Area) → plan ≡ Claim areas first
-    → IsPlanFor out starts plan → disk < length starts → d ≡ get_or areas.now disk d → d ≡ None → (which number : ℕ) (bytes : List ℕ) → ¬ of_disk disk (picks_of out plan) which number bytes
-none_claimed out starts plan areas first disk d is fits below read none which number bytes picked =
-    let F : AreaPlan → Type 0 = IsPlanFor out starts in
-    let Q : AreaPlan → Type 0 = λ p. of_disk disk (picks_of out p) which number bytes in
-    let fits' : F (Claim areas first) = subst F is fits in
-    let it : Q (Claim areas first) = subst Q is picked in
-    let P : ℕ → Type 0 = λ w. slice_get areas.now w ≡ Some (Some it.1.area) in
-    none_some it.1.area (sym (area_at areas.now disk None d (omega (arith, below, fits'.0)) read none) ∙ subst P it.0 it.1.has)
+pub none_claimed : (starts : List (List ℕ)) (areas : List (Option Area)) (first : Bool) (disk : ℕ) (d : Option Area) → length areas ≡ length starts
+    → disk < length starts → d ≡ get_or areas disk d → d ≡ None → (which number : ℕ) (bytes : List ℕ) → ¬ of_disk disk (InAreaTurn areas first) which number bytes
+none_claimed starts areas first disk d count below read none which number bytes it =
+    let P : ℕ → Type 0 = λ w. slice_get areas w ≡ Some (Some it.1.area) in
+    none_some it.1.area (sym (area_at areas disk None d (omega (arith, below, count)) read none) ∙ subst P it.0 it.1.has)
 
 -- this area is planned for these labels of a disk, and no other for any
-pub record Suits (out : List Bool) (plan : AreaPlan) (disk : ℕ) (area : List ℕ) (pick : Pick) : Type 0 where
+pub record Suits (areas : List (Option Area)) (first : Bool) (disk : ℕ) (area : List ℕ) (pick : Pick) : Type 0 where
   pub long : length area ≡ 114688
-  pub to_plan : (which number : ℕ) (bytes : List ℕ) → copies disk area pick which number bytes → of_disk disk (picks_of out plan) which number bytes
-  pub of_plan : (which number : ℕ) (bytes : List ℕ) → of_disk disk (picks_of out plan) which number bytes → copies disk area pick which number bytes
+  pub to_plan : (which number : ℕ) (bytes : List ℕ) → copies disk area pick which number bytes → of_disk disk (InAreaTurn areas first) which number bytes
+  pub of_plan : (which number : ℕ) (bytes : List ℕ) → of_disk disk (InAreaTurn areas first) which number bytes → copies disk area pick which number bytes
 
-pub claim_suits : (out : List Bool) (starts : List (List ℕ)) (plan : AreaPlan) (areas : Bor (List (Option Area))) (first : Bool) (disk : ℕ) (area : Area) (d : Option Area) (pick : Pick) (items : List ℕ)
-    → plan ≡ Claim areas first → AreWhole (picks_of out plan) → IsPlanFor out starts plan → disk < length starts → d ≡ get_or areas.now disk d → d ≡ Some area → pick ≡ turn_of first area
-    → items ≡ area.bytes.items → Suits out plan disk items pick
-claim_suits out starts plan areas first disk area d pick items is whole fits below read some picked same =
-    let W : AreaPlan → Type 0 = λ p. AreWhole (picks_of out p) in
-    let F : AreaPlan → Type 0 = IsPlanFor out starts in
-    let S : AreaPlan → Type 0 = λ p. Suits out p disk items pick in
-    let whole' : W (Claim areas first) = subst W is whole in
-    let fits' : F (Claim areas first) = subst F is fits in
-    let has = area_at areas.now disk (Some area) d (omega (arith, below, fits'.0)) read some in
+pub claim_suits : (starts : List (List ℕ)) (areas : List (Option Area)) (first : Bool) (disk : ℕ) (area : Area) (d : Option Area) (pick : Pick) (items : List ℕ)
+    → AreWhole (InAreaTurn areas first) → length areas ≡ length starts → disk < length starts → d ≡ get_or areas disk d → d ≡ Some area → pick ≡ turn_of first area
+    → items ≡ area.bytes.items → Suits areas first disk items pick
+claim_suits starts areas first disk area d pick items whole count below read some picked same =
+    let has = area_at areas disk (Some area) d (omega (arith, below, count)) read some in
     let turn = some_turn first area in
-    subst S (sym is) (record {
-      long = whole' disk turn.0 items (record { area = area; has = has; turn = turn.1; same = same });
+    record {
+      long = whole disk turn.0 items (record { area = area; has = has; turn = turn.1; same = same });
       to_plan = λ which number bytes it.
-          let P : ℕ → Type 0 = λ w. slice_get areas.now w ≡ Some (Some area) in
+          let P : ℕ → Type 0 = λ w. slice_get areas w ≡ Some (Some area) in
           let Q : Pick → Type 0 = λ p. IsPicked p number in
           (it.0, record { area = area; has = subst P (sym it.0) has; turn = subst Q picked it.1; same = it.2 ∙ same });
       of_plan = λ which number bytes it.
-          let P : ℕ → Type 0 = λ w. slice_get areas.now w ≡ Some (Some it.1.area) in
+          let P : ℕ → Type 0 = λ w. slice_get areas w ≡ Some (Some it.1.area) in
           let one : it.1.area ≡ area = same_area it.1.area area (sym (subst P it.0 it.1.has) ∙ has) in
           let Q : Pick → Type 0 = λ p. IsPicked p number in
           let R : Area → Type 0 = λ a. IsPicked (turn_of first a) number in
           (it.0, subst Q (sym picked) (subst R one it.1.turn), it.1.same ∙ ap (λ (a : Area). a.bytes.items) one ∙ sym same);
-    })
-
-pub config_suits : (out : List Bool) (starts : List (List ℕ)) (plan : AreaPlan) (areas : Bor (List (Vec ℕ Global))) (half disk : ℕ) (area : Vec ℕ Global) (items : List ℕ) → plan ≡ Config areas half
-    → AreWhole (picks_of out plan) → IsPlanFor out starts plan → disk < length starts → InUse out disk → area ≡ get_or areas.now disk area → items ≡ area.items → Suits out plan disk items (Half half)
-config_suits out starts plan areas half disk area items is whole fits below used read same =
-    let W : AreaPlan → Type 0 = λ p. AreWhole (picks_of out p) in
-    let F : AreaPlan → Type 0 = IsPlanFor out starts in
-    let S : AreaPlan → Type 0 = λ p. Suits out p disk items (Half half) in
-    let whole' : W (Config areas half) = subst W is whole in
-    let fits' : F (Config areas half) = subst F is fits in
-    let has = area_there areas.now starts disk area fits' below read in
-    subst S (sym is) (record {
-      long = whole' disk half items (record { used = used; area = area; has = has; same = same }, inl refl);
-      to_plan = λ which number bytes it.
-          let P : ℕ → Type 0 = λ w. slice_get areas.now w ≡ Some area in
-          (it.0, (record { used = on_used out disk used which it.0; area = area; has = subst P (sym it.0) has; same = it.2 ∙ same }, it.1));
-      of_plan = λ which number bytes it.
-          let P : ℕ → Type 0 = λ w. slice_get areas.now w ≡ Some it.1.0.area in
-          let one : it.1.0.area ≡ area = same_vec it.1.0.area area (sym (subst P it.0 it.1.0.has) ∙ has) in
-          (it.0, it.1.1, it.1.0.same ∙ ap (λ (a : Vec ℕ Global). a.items) one ∙ sym same);
-    })
+    }
 
 -- so that it is written to them
-pub suits_makes : (out : List Bool) (plan : AreaPlan) (disk : ℕ) (area : List ℕ) (pick : Pick) (old new : Disks) → Suits out plan disk area pick → InUse out disk
-    → MakesOn (is_disk disk) (IsAreaWrite old.starts (copies disk area pick)) old new → MakesOn (InUse out) (IsAreaWrite old.starts (of_disk disk (picks_of out plan))) old new
-suits_makes out plan disk area pick old new suits used makes =
-    wider (is_disk disk) (InUse out) old.starts (copies disk area pick) (of_disk disk (picks_of out plan)) old new (on_used out disk used) suits.to_plan makes
+pub suits_makes : (out : List Bool) (areas : List (Option Area)) (first : Bool) (disk : ℕ) (area : List ℕ) (pick : Pick) (old new : Disks) → Suits areas first disk area pick → InUse out disk
+    → MakesOn (is_disk disk) (IsAreaWrite old.starts (copies disk area pick)) old new → MakesOn (InUse out) (IsAreaWrite old.starts (of_disk disk (InAreaTurn areas first))) old new
+suits_makes out areas first disk area pick old new suits used makes =
+    wider (is_disk disk) (InUse out) old.starts (copies disk area pick) (of_disk disk (InAreaTurn areas first)) old new (on_used out disk used) suits.to_plan makes
 
-pub suits_stand : {T E : Type 0} (r : Result T E) (out : List Bool) (plan : AreaPlan) (disk : ℕ) (area : List ℕ) (pick : Pick) (held : ℕ → ℕ → Option ℕ) (starts : List (List ℕ)) → Suits out plan disk area pick
-    → OnOk r (AreasStand held starts (copies disk area pick)) → OnOk r (AreasStand held starts (of_disk disk (picks_of out plan)))
-suits_stand (Ok x) out plan disk area pick held starts suits stand = λ which number bytes is it. stand which number bytes is (suits.of_plan which number bytes it)
-suits_stand (Err e) out plan disk area pick held starts suits stand = tt
+pub suits_stand : {T E : Type 0} (r : Result T E) (areas : List (Option Area)) (first : Bool) (disk : ℕ) (area : List ℕ) (pick : Pick) (held : ℕ → ℕ → Option ℕ) (starts : List (List ℕ)) → Suits areas first disk area pick
+    → OnOk r (AreasStand held starts (copies disk area pick)) → OnOk r (AreasStand held starts (of_disk disk (InAreaTurn areas first)))
+suits_stand (Ok x) areas first disk area pick held starts suits stand = λ which number bytes is it. stand which number bytes is (suits.of_plan which number bytes it)
+suits_stand (Err e) areas first disk area pick held starts suits stand = tt

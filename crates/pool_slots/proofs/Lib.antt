@@ -22,7 +22,6 @@ pub mod BackReads
 pub mod OpenSteps
 pub mod Opened
 mod SurveySteps
-pub mod LifeSteps
 mod Choices
 pub mod LabelAreas
 pub mod LabelScans
@@ -32,10 +31,5 @@ pub mod LabelPlans
 mod LabelPhases
 mod FourConfigs
 mod ConfigLabels
-mod ConfigPhases
-mod ConfigMoments
-mod ConfigMarks
-mod ConfigOpens
 mod ClaimSteps
 mod Absence
-pub mod LifeClaims

@@ -7,23 +7,31 @@ use Rattle.model_disk.specs.Contents.{covers}
 use Rattle.model_disk.specs.Joint.{JointCall, Disks, bytes_of, content}
 use Rattle.model_disk.specs.Runs.{Makes, no_write, EachSince, IsOff}
 use Rattle.model_disk.proofs.RunLemmas.{off_content, Makes-none, Makes-more, Makes-wider}
-use Rattle.pool_slots.specs.Slots.{AreThere, InUse, HaveLabels, MakesOn, is_disk, spelled, slot_at, IsSlot}
+use Rattle.pool_slots.specs.Slots.{AreThere, InUse, HaveLabels, MakesOn, is_disk, spelled, slot_at, IsSlot, StayOut}
 use Rattle.pool_slots.specs.Possible.{Possible, IsInReach, Trees, IsPossible, Leads, LeavesLeading}
 use Rattle.pool_slots.specs.Writes.{IsSlotWrite, in_use, IsBlockWrite, SlotStands, SlotsStand}
 use Rattle.pool_slots.specs.Commits.{AreOffLabels, AreAt, LeadAlways, only_last, last_or}
-use Rattle.pool_slots.specs.Lives.{StayOut}
 use Rattle.pool_slots.specs.Phases.{if_used, IsFree, IsInSlot, IsRelabel, AreInBlocks, CanWriteSlots, free_writes, slot_writes}
 use Rattle.pool_slots.specs.PhaseLaws.{BlocksBegin, BlocksGoOn, PlansGoOn, RelabelsGoOn, BlocksEnd, UnflushedIsFree, NextIsUnseen, LastTreeStands, SlotsBegin, SlotsGoOn, SlotsEnd, UnflushedIsSlots, SlotsKeepTree, DisksGoOut, ReadsAndFlushesKeep, SlotsStandInTurn}
 use Rattle.pool_slots.proofs.Among.{first_in, later_in}
 use Rattle.pool_slots.proofs.FreeWrites.{used_off, off_blocks, free_off_slots, free_off_trees, no_free_slot, free_writes_fewer, slot_writes_fewer, planned_is_free, relabel_is_free}
-use Rattle.pool_slots.proofs.LifeSteps.{at_fewer}
 use Rattle.pool_slots.proofs.NextUberblock.{last_is_good, more_begun, next_allowed, next_unseen, top_elsewhere}
 use Rattle.pool_slots.proofs.OneDisk.{AreAllowed, leads_kept_on}
-use Rattle.pool_slots.proofs.Phases.{IsPhase, phase_leaves, leads_more, none_same, settled_later}
+use Rattle.pool_slots.proofs.Phases.{IsPhase, phase_leaves, leads_fewer, leads_more, none_same, settled_later}
 use Rattle.pool_slots.proofs.Places.{length-spelled, same_or_not}
 use Rattle.pool_slots.proofs.SlotPhases.{slot_phase, tree_kept, finished}
 use Rattle.pool_slots.proofs.Unflushed.{unflushed_is_written}
 use Rattle.pool_slots.proofs.Writing.{just, makes_slot, off_slot_writes, stands_written, stays_through}
+
+-- with fewer disks in use
+at_fewer : (trees : Trees) (out later : List Bool) (disks : Disks) (u : Uberblock) (before : List Uberblock) → StayOut out later → AreAt trees out disks u before → AreAt trees later disks u before
+at_fewer trees out later disks u before stay at =
+    record {
+      there = λ which used. at.there which (stay which used);
+      fits = at.fits;
+      settled = λ which used. at.settled which (stay which used);
+      leads = leads_fewer trees out later disks.starts (content disks) (only_last u before) stay at.leads;
+    }
 
 -- ---- since a later moment
 

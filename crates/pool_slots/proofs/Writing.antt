@@ -1,5 +1,5 @@
 -- What writes and flushes leave.
-use Rattle.std.proofs.Common.{◌≡◌, ◌⊎◌, inl, inr, ◌<◌, ◌≤◌, ◌∙◌, ℕ, ◌+◌, ◌%◌, Bool, List, ◌∷◌, length, slice_get, get_or, Option, Some, None, Result, Ok, Err, OnOk, false, refl, sym, ap, subst, arith}
+use Rattle.std.proofs.Common.{◌≡◌, ◌⊎◌, inl, inr, ◌<◌, ◌≤◌, ◌∙◌, ℕ, ◌+◌, ◌%◌, Bool, List, ◌∷◌, length, get_or, Option, Some, None, Result, Ok, Err, OnOk, false, refl, sym, ap, subst, arith}
 use Rattle.uberblock_ring.specs.declared.uberblock.Uberblock.{Uberblock}
 use Rattle.uberblock_ring.specs.Uberblock.{Fits}
 use Rattle.uberblock_ring.specs.Slot.{slot_number}
@@ -11,7 +11,7 @@ use Rattle.model_disk.proofs.JointLemmas.{calls_on-same, calls_on-other}
 use Rattle.model_disk.proofs.LawLemmas.{written_bytes_stand}
 use Rattle.model_disk.proofs.RunLemmas.{off_content, Makes-write, Makes-flush}
 use Rattle.pool_slots.specs.Slots.{InUse, HaveLabels, MakesOn, is_disk, spelled, slot_at, IsSlot}
-use Rattle.pool_slots.specs.Writes.{IsSlotWrite, InHalf, InTurn, first_half_of, in_use, in_half_of, on_disk, SlotStands, SlotsStand, HasBlock, IsBlockWrite, AreApart, BlocksStand}
+use Rattle.pool_slots.specs.Writes.{IsSlotWrite, InHalf, InTurn, first_half_of, in_use, in_half_of, on_disk, SlotStands, SlotsStand}
 use Rattle.pool_slots.specs.declared.blocks.BlockWrite.{BlockWrite}
 use Rattle.pool_slots.specs.declared.found.Found.{Found}
 use Rattle.pool_slots.proofs.Places.{slots_apart, apart_covers, length-spelled, same_or_not}
@@ -192,15 +192,6 @@ first_half out old mid u which used makes =
     more_picked (is_disk which) (InUse out) old.starts u (in_half_of which 0) (on_disk which (in_use out)) old mid (on_used out which used)
     (λ w l it. (it.0, on_used out which used w it.0)) makes
 
--- both halves of a disk
-pub both_halves : (out : List Bool) (old mid new : Disks) (u : Uberblock) (which : ℕ) → InUse out which
-    → MakesOn (is_disk which) (IsSlotWrite old.starts u (in_half_of which 0)) old mid → MakesOn (is_disk which) (IsSlotWrite mid.starts u (in_half_of which 1)) mid new
-    → MakesOn (InUse out) (IsSlotWrite old.starts u (on_disk which (in_use out))) old new
-both_halves out old mid new u which used makes makes' =
-    MakesOn-more (InUse out) (IsSlotWrite old.starts u (on_disk which (in_use out))) old mid new (first_half out old mid u which used makes)
-    (more_picked (is_disk which) (InUse out) old.starts u (in_half_of which 1) (on_disk which (in_use out)) mid new (on_used out which used)
-    (λ w l it. (it.0, on_used out which used w it.0)) (same_starts (is_disk which) old.starts mid.starts u (in_half_of which 1) mid new makes.makes.starts makes'))
-
 both_stand : (old mid new : Disks) (out : List Bool) (u : Uberblock) (which : ℕ) → HaveLabels old.starts → Fits u → which < length old.starts → mid.starts ≡ old.starts
     → SlotsStand (content mid) old.starts u (in_half_of which 0) (length old.starts)
     → MakesOn (is_disk which) (IsSlotWrite mid.starts u (in_half_of which 1)) mid new → SlotsStand (content new) mid.starts u (in_half_of which 1) (length mid.starts)
@@ -214,13 +205,6 @@ both_stand old mid new out u which room fits inside same stand makes' stand' d l
       | inl even ↦ stays_through old.starts u (in_half_of which 1) mid new which label room fits inside is m1.makes (λ it. not_both label even it.1) (stand which label inside is (refl, even))
       | inr odd ↦ h1 which label inside is (refl, odd)
     ])
-
-pub both_halves_stand : {T E : Type 0} (r : Result T E) (old mid new : Disks) (out : List Bool) (u : Uberblock) (which : ℕ) → HaveLabels old.starts → Fits u → which < length old.starts → mid.starts ≡ old.starts
-    → SlotsStand (content mid) old.starts u (in_half_of which 0) (length old.starts)
-    → MakesOn (is_disk which) (IsSlotWrite mid.starts u (in_half_of which 1)) mid new → OnOk r (SlotsStand (content new) mid.starts u (in_half_of which 1) (length mid.starts))
-    → OnOk r (SlotsStand (content new) old.starts u (on_disk which (in_use out)) (length old.starts))
-both_halves_stand (Err e) old mid new out u which room fits inside same stand makes' stand' = tt
-both_halves_stand (Ok x) old mid new out u which room fits inside same stand makes' stand' = both_stand old mid new out u which room fits inside same stand makes' stand'
 
 -- ---- disk by disk
 
@@ -279,34 +263,6 @@ turn_stands (Ok x) out all turn which half old new u same stand = λ d label bel
 
 -- ---- blocks
 
-pub makes_block : {T E : Type 0} (r : Result T E) (blocks : List BlockWrite) (old new : Disks) (k : ℕ) (block : BlockWrite) → slice_get blocks k ≡ Some block → new.starts ≡ old.starts
-    → new.calls ≡ on block.disk (write_call r block.at block.bytes.items) ∷ old.calls → MakesOn (HasBlock blocks) (IsBlockWrite blocks) old new
-makes_block r blocks old new k block is same calls =
-    MakesOn-wider (is_disk block.disk) (HasBlock blocks) (IsBlockWrite blocks) (IsBlockWrite blocks) old new (λ w here. (k, block, is, here)) (λ w at bytes it. it)
-    (MakesOn-write r (IsBlockWrite blocks) old new block.disk block.at block.bytes.items same calls (record { k = k; block = block; is = is; disk = refl; place = refl; same = refl }))
-
--- just this write
-abbrev just_block : BlockWrite → ℕ → ℕ → List ℕ → Type 0
-just_block block which at bytes = (which ≡ block.disk) × (at ≡ block.at) × (bytes ≡ block.bytes.items)
-
 same_block : (a b : BlockWrite) → Some a ≡ Some b → a ≡ b
 same_block a b e = cc
 
-pub blocks_next : (blocks : List BlockWrite) (old new : Disks) (index : ℕ) (block : BlockWrite) → AreApart blocks → slice_get blocks index ≡ Some block → new.starts ≡ old.starts
-    → new.calls ≡ on block.disk (Wrote block.at block.bytes.items) ∷ old.calls → BlocksStand (content old) blocks index → BlocksStand (content new) blocks (index + 1)
-blocks_next blocks old new index block apart is same calls before k it below at i inside =
-    elim (same_or_not k index) [
-      | inl here ↦
-          let P : ℕ → Type 0 = λ n. slice_get blocks n ≡ Some it in
-          let one : it ≡ block = same_block it block (sym (subst P here at) ∙ is) in
-          let Q : BlockWrite → Type 0 = λ b. (j : ℕ) → j < length b.bytes.items → content new b.disk (b.at + j) ≡ slice_get b.bytes.items j in
-          subst Q (sym one) (written_bytes_stand old new block.disk block.at block.bytes.items same calls) i inside
-      | inr other ↦
-          let ok : Result (Unit {0}) (Unit {0}) = Ok tt in
-          let makes : Makes (just_block block) old new = Makes-write ok (just_block block) old new block.disk block.at block.bytes.items same calls (refl, refl, refl) in
-          let sides : it.disk ≡ block.disk → (it.at + length it.bytes.items ≤ block.at) ⊎ (block.at + length block.bytes.items ≤ it.at) = apart k index it block at is (omega (arith, below, other)) in
-          let off : IsOff (just_block block it.disk) (it.at + i) = λ to written write.
-          let away : covers block.at (length block.bytes.items) (it.at + i) ≡ false = apart_covers block.at (length block.bytes.items) it.at (length it.bytes.items) (elim (sides write.0) [ inl a ↦ inr a | inr b ↦ inl b ]) i inside in
-          ap (λ (n : ℕ). covers n (length written) (it.at + i)) write.1 ∙ ap (λ (x : List ℕ). covers block.at (length x) (it.at + i)) write.2 ∙ away in
-          off_content (just_block block) old new it.disk (it.at + i) makes off ∙ before k it (omega (arith, below, other)) at i inside
-    ]

@@ -15,6 +15,10 @@ abbrev pub AreOffLabels : Trees → List Bool → List (List ℕ) → Type 0
 AreOffLabels trees out starts =
     (root : Block) (which i value : ℕ) → InUse out which → trees root which i ≡ Some value → IsOffLabels (length (bytes_of starts which)) i
 
+-- the next group under the same claim
+abbrev pub IsNextGroup : Uberblock → Uberblock → Type 0
+IsNextGroup last u = (u.claim ≡ last.claim) × (u.group ≡ suc last.group)
+
 -- it alone, after these
 abbrev pub only_last : Uberblock → List Uberblock → Possible
 only_last u before = record { last = u; begun = []; before = before }
@@ -49,12 +53,3 @@ pub record IsNext (trees : Trees) (out : List Bool) (disks : Disks) (last : Uber
 abbrev pub LeadAlways : Trees → List Bool → Disks → Disks → Possible → Type 0
 LeadAlways trees out old new p = EachSince (length old.calls) (LeavesLeading trees out old.starts p) new.calls
 
--- what `commit` ensures of any trees, at each moment
-abbrev pub CommitKeeps : List Bool → Disks → List BlockWrite → Uberblock → Disks → Type 0
-CommitKeeps out old blocks u new =
-    (trees : Trees) (last : Uberblock) (before : List Uberblock) → IsNext trees out old last before u blocks → LeadAlways trees out old new (last_or last before u)
-
--- and once it is done
-abbrev pub CommitGives : List Bool → Disks → List BlockWrite → Uberblock → Disks → Type 0
-CommitGives out old blocks u new =
-    (trees : Trees) (last : Uberblock) (before : List Uberblock) → IsNext trees out old last before u blocks → AreAt trees out new u (last ∷ before)

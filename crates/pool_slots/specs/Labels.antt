@@ -11,11 +11,11 @@ use Rattle.vdev_label.specs.Plain.{PlainLabel}
 use Rattle.vdev_label.specs.declared.label.State.TheVariants.{Active}
 use Rattle.pool_slots.specs.Shown.{IsSummary, NoneHas}
 use Rattle.pool_slots.specs.Slots.{InUse}
-use Rattle.pool_slots.specs.Writes.{InHalf, IsSlotWrite, SlotsStand, in_use}
+use Rattle.pool_slots.specs.Writes.{IsSlotWrite, SlotsStand, in_use}
 use Rattle.pool_slots.specs.declared.labeled.Area.{Area}
 use Rattle.pool_slots.specs.declared.labeled.Labeled.{Labeled}
 use Rattle.pool_slots.specs.declared.labeled.Pick.{Pick}
-use Rattle.pool_slots.specs.declared.labeled.Pick.TheVariants.{One, Others, Half}
+use Rattle.pool_slots.specs.declared.labeled.Pick.TheVariants.{One, Others}
 use Rattle.pool_slots.specs.declared.labeled.Shown.{Shown}
 
 -- ---- what is shown
@@ -135,11 +135,10 @@ pub record FitsArea (u : Uberblock) (area : Area) : Type 0 where
 abbrev pub AreasFit : Uberblock → List (Option Area) → Type 0
 AreasFit u areas = (which : ℕ) (area : Area) → slice_get areas which ≡ Some (Some area) → FitsArea u area
 
--- one label, all but one, or labels 0 and 2, or labels 1 and 3
+-- one label, or all but one
 abbrev pub IsPicked : Pick → ℕ → Type 0
 IsPicked (One label) number = number ≡ label
 IsPicked (Others label) number = ¬ (number ≡ label)
-IsPicked (Half half) number = InHalf half number
 
 -- In a claim's first turn (true) each disk's claim label, in its last (false) the other three.
 abbrev pub turn_of : Bool → Area → Pick

@@ -10,12 +10,9 @@ pub mod Commits
 pub mod Opens
 pub mod Relabels
 pub mod Configs
-pub mod Configures
 pub mod LabelReads
 pub mod Surveys
 pub mod OpenRefusals
-pub mod Lives
 pub mod Phases
 pub mod PhaseLaws
-pub mod Claims
 pub mod Present

@@ -2,16 +2,16 @@
 use Rattle.std.specs.Prelude.{◌≡◌, ◌⊎◌, ◌<◌, ℕ, ◌-◌, ◌/◌, ◌%◌, Bool, List, [], ◌∷◌, length, slice_get, get_or, Option, Some, None, Contains, Result, Ok, Err, Vec}
 use Rattle.std.specs.declared.alloc.Global.{Global}
 use Rattle.model_disk.specs.Joint.{JointCall, Disks, bytes_of, content, AreHonestSince}
-use Rattle.model_disk.specs.Runs.{EachSince, no_write}
+use Rattle.model_disk.specs.Runs.{EachSince}
 use Rattle.uberblock_ring.specs.declared.uberblock.Uberblock.{Uberblock}
 use Rattle.uberblock_ring.specs.Ranking.{RanksUpTo, Has, IsRewound}
 use Rattle.uberblock_ring.specs.Uberblock.{Fits}
 use Rattle.pool_slots.specs.Failures.{HasFailedOn}
-use Rattle.pool_slots.specs.Slots.{InUse, MakesOn, AreSettled, slot_at, IsSlot, Shows}
+use Rattle.pool_slots.specs.Slots.{InUse, AreSettled, slot_at, IsSlot, Shows}
 use Rattle.pool_slots.specs.Possible.{Possible, all_of, IsInReach, IsTopped, Trees, TreeStands, Leads, LeavesLeading, AllAreBelow}
 use Rattle.pool_slots.specs.Writes.{InTurn}
 use Rattle.pool_slots.specs.Commits.{AreOffLabels, AreAt, LeadAlways}
-use Rattle.pool_slots.specs.Labels.{IsClaimWrite, IsNextClaim}
+use Rattle.pool_slots.specs.Labels.{IsNextClaim}
 use Rattle.pool_slots.specs.Marks.{AreMarked, IsSpared, LeavesMarked}
 use Rattle.pool_slots.specs.declared.found.Found.{Found}
 use Rattle.pool_slots.specs.declared.labeled.Area.{Area}
@@ -268,11 +268,6 @@ OpenGives out rewind old u new =
 -- which one it has taken
 abbrev pub OpenTakes : List Bool → ℕ → Disks → Uberblock → Disks → Type 0
 OpenTakes out rewind old u new = AreKnown out old → AreHonestSince (length old.calls) new.starts new.calls → IsTakenFrom out old rewind u
-
--- what it writes: nothing, or the slots of one uberblock and labels for it, on disks in use; and no call is made on another disk
-abbrev pub OpenMakes : List Bool → Disks → Disks → Type 0
-OpenMakes out old new =
-    MakesOn (InUse out) no_write old new ⊎ ((u : Uberblock) × MakesOn (InUse out) (IsClaimWrite old.starts out u) old new)
 
 -- A stop now leaves what led there before, with labels that show no less than before; or what leads also to a claim of it that is above
 -- all of them, with a label on each disk in use that shows it.

@@ -7,11 +7,10 @@ use Rattle.model_disk.specs.Runs.{Makes, IsSettled, no_write}
 use Rattle.uberblock_ring.specs.declared.uberblock.Uberblock.{Uberblock}
 use Rattle.uberblock_ring.specs.Slot.{slot_number}
 use Rattle.uberblock_ring.specs.Uberblock.{Fits}
-use Rattle.pool_slots.specs.Slots.{InUse, HaveLabels, AreSettled, IsSlot, Shows, slot_at, spelled}
+use Rattle.pool_slots.specs.Slots.{InUse, HaveLabels, AreSettled, IsSlot, Shows, slot_at, spelled, StayOut}
 use Rattle.pool_slots.specs.Possible.{IsInReach, Trees, TreeStands}
 use Rattle.pool_slots.specs.Writes.{IsBlockWrite, ArePlaced, BlocksStand, SlotStands, SlotsStand, in_use}
-use Rattle.pool_slots.specs.Commits.{AreOffLabels, AreAt, IsPlan, LeadAlways, only_last, last_or}
-use Rattle.pool_slots.specs.Lives.{StayOut, IsNextGroup}
+use Rattle.pool_slots.specs.Commits.{AreOffLabels, AreAt, IsPlan, LeadAlways, only_last, last_or, IsNextGroup}
 use Rattle.pool_slots.specs.Phases.{if_used, IsFree, IsInSlot, IsRelabel, AreInBlocks, AreInSlots, CanWriteSlots, free_writes, slot_writes}
 use Rattle.pool_slots.specs.declared.blocks.BlockWrite.{BlockWrite}
 

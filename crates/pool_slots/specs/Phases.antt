@@ -9,9 +9,8 @@ use Rattle.uberblock_ring.specs.Slot.{slot_number}
 use Rattle.pool_slots.specs.Slots.{InUse, HaveLabels, IsSlot, slot_at}
 use Rattle.pool_slots.specs.Possible.{Possible, IsInReach, Trees, TreeStands}
 use Rattle.pool_slots.specs.Writes.{IsSlotWrite, in_use}
-use Rattle.pool_slots.specs.Commits.{AreOffLabels, AreAt, only_last}
+use Rattle.pool_slots.specs.Commits.{AreOffLabels, AreAt, only_last, IsNextGroup}
 use Rattle.pool_slots.specs.Labels.{area_place}
-use Rattle.pool_slots.specs.Lives.{IsNextGroup}
 
 -- ---- which writes
 

@@ -4,10 +4,8 @@ use Rattle.model_disk.specs.Joint.{Disks}
 use Rattle.uberblock_ring.specs.declared.uberblock.Uberblock.{Uberblock}
 use Rattle.pool_slots.specs.Failures.{HasFailedOn}
 use Rattle.pool_slots.specs.Labels.{IsClaimWrite}
-use Rattle.pool_slots.specs.Lives.{StayOut}
-use Rattle.pool_slots.specs.Opens.{OpenMakes}
 use Rattle.pool_slots.specs.Reads.{OnlyReads, is_fault}
-use Rattle.pool_slots.specs.Slots.{InUse, MakesOn}
+use Rattle.pool_slots.specs.Slots.{InUse, MakesOn, StayOut}
 use Rattle.pool_slots.specs.declared.refusal.Refusal.{Refusal}
 
 abbrev pub is_out : List Bool → ℕ → Type 0
@@ -28,12 +26,6 @@ pub record GoOut (out later : List Bool) (old new : Disks) : Type 0 where
 abbrev pub IsNoFault : Refusal → Type 0
 IsNoFault refusal = (disk : ℕ) → ¬ is_fault refusal disk
 
--- Disks go out by reads alone. Then those in use are claimed, or nothing is called.
-pub record MakesPresent (out later : List Bool) (old new : Disks) : Type 0 where
-  pub read : Disks
-  pub absent : GoOut out later old read
-  pub makes : OpenMakes later read new
-
 -- the disk failed in the claim, once the reads were done
 pub record FailsInClaim (out later : List Bool) (old new : Disks) (disk : ℕ) : Type 0 where
   pub read : Disks
@@ -42,6 +34,3 @@ pub record FailsInClaim (out later : List Bool) (old new : Disks) (disk : ℕ) :
   pub makes : MakesOn (InUse later) (IsClaimWrite read.starts later u) read new
   pub failed : HasFailedOn read new disk
 
--- a disk that the refusal names did
-abbrev pub IsClaimFault : List Bool → List Bool → Disks → Disks → Refusal → Type 0
-IsClaimFault out later old new refusal = (disk : ℕ) → is_fault refusal disk → FailsInClaim out later old new disk

@@ -14,6 +14,10 @@ use Rattle.vdev_label.specs.Place.{label_at}
 abbrev pub InUse : List Bool → ℕ → Type 0
 InUse out which = slice_get out which ≡ Some false
 
+-- a disk in use now was so before: one that was out stays out
+abbrev pub StayOut : List Bool → List Bool → Type 0
+StayOut out later = (which : ℕ) → InUse later which → InUse out which
+
 -- each disk in use is there
 abbrev pub AreThere : List Bool → List (List ℕ) → Type 0
 AreThere out starts = (which : ℕ) → InUse out which → which < length starts

@@ -64,17 +64,10 @@ pub record IsBlockWrite (blocks : List BlockWrite) (which at : ℕ) (bytes : Lis
   pub place : at ≡ block.at
   pub same : bytes ≡ block.bytes.items
 
--- the disk of one of them
-abbrev pub HasBlock : List BlockWrite → ℕ → Type 0
-HasBlock blocks which = (k : ℕ) × (block : BlockWrite) × (slice_get blocks k ≡ Some block) × (which ≡ block.disk)
-
 -- each is within its disk
 pub record IsWithin (starts : List (List ℕ)) (block : BlockWrite) : Type 0 where
   pub below : block.disk < length starts
   pub room : block.at + length block.bytes.items ≤ length (bytes_of starts block.disk)
-
-abbrev pub AreWithin : List (List ℕ) → List BlockWrite → Type 0
-AreWithin starts blocks = (k : ℕ) (block : BlockWrite) → slice_get blocks k ≡ Some block → IsWithin starts block
 
 -- each is on a disk in use, within it, and shares no byte with a label
 pub record IsPlaced (out : List Bool) (starts : List (List ℕ)) (block : BlockWrite) : Type 0 where
@@ -104,6 +97,3 @@ BlocksStand held blocks count =
     (k : ℕ) (block : BlockWrite) → k < count → slice_get blocks k ≡ Some block
     → (i : ℕ) → i < length block.bytes.items → held block.disk (block.at + i) ≡ slice_get block.bytes.items i
 
--- a block, or an uberblock's slot on a disk in use
-abbrev pub IsCommitWrite : List Bool → List (List ℕ) → List BlockWrite → Uberblock → ℕ → ℕ → List ℕ → Type 0
-IsCommitWrite out starts blocks u which at bytes = IsBlockWrite blocks which at bytes ⊎ IsSlotWrite starts u (in_use out) which at bytes

@@ -13,7 +13,7 @@ ghost use Rattle.pool_slots.specs.Writes.{IsSlotWrite, in_use};
 
 use crate::found::Found;
 use crate::label_writes::settle_areas;
-use crate::labeled::{Area, AreaPlan};
+use crate::labeled::Area;
 use crate::refusal::DiskFailure;
 use crate::writes::{flush_all, write_turn};
 use model_disk::{Disk, DiskArray};
@@ -77,7 +77,7 @@ pub(crate) fn write_claim<D: Disk + Drop>(
         (AreasStand (content disks.new) disks.old.starts (InAllLabels areas.now)) }
     ensures first { OnOk result (AreFirst out.now disks.old areas.now disks.new) }
 {
-    settle_areas(disks, out, AreaPlan::Claim(areas, true))?;
+    settle_areas(disks, out, areas, true)?;
     claim_slots(disks, out, all, uberblock)?;
-    settle_areas(disks, out, AreaPlan::Claim(areas, false))
+    settle_areas(disks, out, areas, false)
 }

@@ -2,13 +2,12 @@
 ghost use Rattle.std.specs.Prelude.{◌≡◌, ◌↔◌, ◌<◌, ◌≤◌, ◌∷◌, length, IsTrue, IfErr, OnOk};
 ghost use Rattle.model_disk.specs.Call.{write_call};
 ghost use Rattle.model_disk.specs.Joint.{bytes_of, content, on};
-ghost use Rattle.pool_slots.specs.Configures.{IsPlanFor, picks_of};
 ghost use Rattle.pool_slots.specs.Failures.{IsFailure};
-ghost use Rattle.pool_slots.specs.Labels.{AreWhole, AreasStand, IsAreaWrite, IsPicked, area_place, copies, of_disk, of_label, turn_of};
+ghost use Rattle.pool_slots.specs.Labels.{AreWhole, AreasOn, AreasStand, InAreaTurn, IsAreaWrite, IsPicked, area_place, copies, of_disk, of_label, turn_of};
 ghost use Rattle.pool_slots.specs.Slots.{AreSettled, HaveLabels, InUse, MakesOn, is_disk};
 
 use crate::calls::write_at;
-use crate::labeled::{Area, AreaPlan, Pick};
+use crate::labeled::{Area, Pick};
 use crate::refusal::DiskFailure;
 use crate::writes::flush_all;
 use model_disk::{Disk, DiskArray};
@@ -46,7 +45,6 @@ fn is_picked(pick: Pick, number: u64) -> bool
     match pick {
         Pick::One(label) => number == label,
         Pick::Others(label) => number != label,
-        Pick::Half(half) => number == half || number >= 2 && number - 2 == half,
     }
 }
 
@@ -108,80 +106,78 @@ fn pick_for(area: &Area, first: bool) -> Pick
     }
 }
 
-/// Writes the labels of a disk for which an area is planned, if the disk is in use.
+/// Writes the labels of a disk whose turn it is, if the disk is in use: in the first turn its claim label, in the other the rest.
 fn write_on<D: Disk + Drop>(
     disks: &mut DiskArray<D>,
     out: &[bool],
-    plan: AreaPlan<'_>,
+    areas: &[Option<Area>],
+    first: bool,
     which: usize,
 ) -> Result<(), DiskFailure>
     requires which { which < length disks.old.starts }
     requires out { length out.now ≡ length disks.old.starts }
-    requires planned { IsPlanFor out.now disks.old.starts plan }
-    requires whole { AreWhole (picks_of out.now plan) }
+    requires count { length areas.now ≡ length disks.old.starts }
+    requires on { AreasOn out.now areas.now }
+    requires whole { AreWhole (InAreaTurn areas.now first) }
     requires labels { HaveLabels disks.old.starts }
     ensures makes { MakesOn (InUse out.now) (IsAreaWrite disks.old.starts
-        (of_disk which (picks_of out.now plan.entry))) disks.old disks.new }
+        (of_disk which (InAreaTurn areas.now first))) disks.old disks.new }
     ensures stand { OnOk result (AreasStand (content disks.new) disks.old.starts
-        (of_disk which (picks_of out.now plan.entry))) }
+        (of_disk which (InAreaTurn areas.now first))) }
     ensures fault { IfErr result (IsFailure disks.old disks.new) }
 {
     if out[which] {
         return Ok(());
     }
-    match plan {
-        AreaPlan::Claim(areas, first) => match &areas[which] {
-            Some(area) => write_picked(disks, which, &area.bytes, pick_for(area, first)),
-            None => Ok(()),
-        },
-        AreaPlan::Config(areas, half) => write_picked(
-            disks,
-            which,
-            &areas[which],
-            Pick::Half(half),
-        ),
+    match &areas[which] {
+        Some(area) => write_picked(disks, which, &area.bytes, pick_for(area, first)),
+        None => Ok(()),
     }
 }
 
-/// Writes the areas that are planned, on the disks in use.
+/// Writes the labels whose turn it is, on the disks in use.
 fn write_areas<D: Disk + Drop>(
     disks: &mut DiskArray<D>,
     out: &[bool],
-    plan: AreaPlan<'_>,
+    areas: &[Option<Area>],
+    first: bool,
 ) -> Result<(), DiskFailure>
     requires out { length out.now ≡ length disks.old.starts }
-    requires planned { IsPlanFor out.now disks.old.starts plan }
-    requires whole { AreWhole (picks_of out.now plan) }
+    requires count { length areas.now ≡ length disks.old.starts }
+    requires on { AreasOn out.now areas.now }
+    requires whole { AreWhole (InAreaTurn areas.now first) }
     requires labels { HaveLabels disks.old.starts }
     ensures makes { MakesOn (InUse out.now)
-        (IsAreaWrite disks.old.starts (picks_of out.now plan.entry)) disks.old disks.new }
+        (IsAreaWrite disks.old.starts (InAreaTurn areas.now first)) disks.old disks.new }
     ensures stand { OnOk result
-        (AreasStand (content disks.new) disks.old.starts (picks_of out.now plan.entry)) }
+        (AreasStand (content disks.new) disks.old.starts (InAreaTurn areas.now first)) }
     ensures fault { IfErr result (IsFailure disks.old disks.new) }
 {
     for which in 0..disks.len() {
-        write_on(disks, out, plan, which)?;
+        write_on(disks, out, areas, first, which)?;
     }
     Ok(())
 }
 
-/// Writes the areas that are planned, and flushes all disks in use.
+/// Writes the labels whose turn it is, and flushes all disks in use.
 pub(crate) fn settle_areas<D: Disk + Drop>(
     disks: &mut DiskArray<D>,
     out: &[bool],
-    plan: AreaPlan<'_>,
+    areas: &[Option<Area>],
+    first: bool,
 ) -> Result<(), DiskFailure>
     requires out { length out.now ≡ length disks.old.starts }
-    requires planned { IsPlanFor out.now disks.old.starts plan }
-    requires whole { AreWhole (picks_of out.now plan) }
+    requires count { length areas.now ≡ length disks.old.starts }
+    requires on { AreasOn out.now areas.now }
+    requires whole { AreWhole (InAreaTurn areas.now first) }
     requires labels { HaveLabels disks.old.starts }
     ensures makes { MakesOn (InUse out.now)
-        (IsAreaWrite disks.old.starts (picks_of out.now plan.entry)) disks.old disks.new }
+        (IsAreaWrite disks.old.starts (InAreaTurn areas.now first)) disks.old disks.new }
     ensures stand { OnOk result
-        (AreasStand (content disks.new) disks.old.starts (picks_of out.now plan.entry)) }
+        (AreasStand (content disks.new) disks.old.starts (InAreaTurn areas.now first)) }
     ensures settled { OnOk result (AreSettled out.now disks.new.calls) }
     ensures fault { IfErr result (IsFailure disks.old disks.new) }
 {
-    write_areas(disks, out, plan)?;
+    write_areas(disks, out, areas, first)?;
     flush_all(disks, out)
 }

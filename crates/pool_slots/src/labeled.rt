@@ -28,12 +28,11 @@ pub(crate) struct Donor {
     pub label: u64,
 }
 
-/// Which labels of a disk are written: one, all but one, or one half, which is 0 and 2, or 1 and 3.
+/// Which labels of a disk are written: one, or all but one.
 #[derive(Clone, Copy)]
 pub(crate) enum Pick {
     One(u64),
     Others(u64),
-    Half(u64),
 }
 
 /// The area that a claim writes to the four labels of a disk.
@@ -42,13 +41,4 @@ pub(crate) struct Area {
     /// The disk's claim label.
     pub first: u64,
     pub bytes: Vec<u8>,
-}
-
-/// Which areas are written, and to which labels.
-#[derive(Clone, Copy)]
-pub(crate) enum AreaPlan<'a> {
-    /// In a claim's first turn (true) to each claim label, in its last to the other three.
-    Claim(&'a [Option<Area>], bool),
-    /// To labels 0 and 2, or to labels 1 and 3.
-    Config(&'a [Vec<u8>], u64),
 }

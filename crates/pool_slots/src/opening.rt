@@ -4,7 +4,7 @@ ghost use Rattle.pool_slots.specs.Configs.{OpenConfigures};
 ghost use Rattle.pool_slots.specs.Failures.{IsFailure};
 ghost use Rattle.pool_slots.specs.Labels.{AreClaimed, AreSlotted, IsClaimWrite};
 ghost use Rattle.pool_slots.specs.OpenRefusals.{OpenRefuses};
-ghost use Rattle.pool_slots.specs.Opens.{OpenGives, OpenKeeps, OpenMakes, OpenMarks, OpenTakes};
+ghost use Rattle.pool_slots.specs.Opens.{OpenGives, OpenKeeps, OpenMarks, OpenTakes};
 ghost use Rattle.pool_slots.specs.Relabels.{OpenMarksFirst, OpenRelabels, OpenRewrites};
 ghost use Rattle.pool_slots.specs.Slots.{HaveLabels, InUse, MakesOn};
 ghost use Rattle.pool_slots.specs.Surveys.{IsWholeOf, OfSurveyed};
@@ -85,70 +85,5 @@ pub fn claim<D: Disk + Drop>(
 {
     let claimed = survey.claimed();
     write_claim(disks, out, &survey.found, &survey.plan.areas, &claimed)?;
-    Ok(claimed)
-}
-
-/// Opens the disks in use: claims the highest uberblock on them, or where it goes back (`rewind`, 1 or 2)
-/// the one of the same claim that is so many groups less. The new claim is one more than the greatest that
-/// a label or the highest uberblock has.
-///
-/// Four phases are written, each flushed on all disks in use before the next begins: each disk's claim
-/// label, the claimed uberblock in the half of each disk's labels in which its own highest one was not
-/// read (labels 0 and 2 of a disk that has none), the same in the other half, and the disk's other three
-/// labels. The claim label is the lowest one
-/// that shows nothing; else the lowest without which the other three show the same configurations and the
-/// greatest claim; else the lowest of those with the least claim. All four are written alike: as the
-/// latest label of the disk with the configuration of the taken uberblock, with the claim and the group.
-/// A disk that has none with it takes over one of another disk, with its own guid and that of its vdev.
-///
-/// `NoUberblock` where no disk has one, or none has one so many groups less: a disk without one is claimed like the
-/// others. `NoLabel` where no disk has a label with the taken uberblock's configuration, or a disk has no label at all;
-/// `UsedUp` where the last claim that there is was taken.
-pub fn open<D: Disk + Drop>(
-    alloc: Global,
-    disks: &mut DiskArray<D>,
-    out: &[bool],
-    rewind: u64,
-) -> Result<Uberblock, Refusal>
-    requires out { length out.now ≡ length disks.old.starts }
-    requires labels { HaveLabels disks.old.starts }
-    requires rewind { rewind < 3 }
-
-    // It is so many groups below one of the possible ones, under a claim above that of the last one, and the disks lead to it alone.
-    ensures opened { IfOk result (λ u. OpenGives out.now rewind disks.old u disks.new) }
-
-    // And it is what they show so many groups below the highest that they show, under the claim after all that they show.
-    ensures taken { IfOk result (λ u. OpenTakes out.now rewind disks.old u disks.new) }
-
-    // It stands in its slot in all four labels of each.
-    ensures slotted { IfOk result (λ u. AreSlotted out.now disks.new u) }
-
-    // Then each of their labels shows its claim.
-    ensures labeled { IfOk result (λ u. AreClaimed out.now disks.new u) }
-
-    // They are as the latest label of the disk with the configuration that is taken, or one of another disk with the disk's own guids.
-    ensures relabeled { IfOk result (λ u. OpenRelabels out.now disks.old u disks.new) }
-
-    // Of each disk the claim label is written first, and flushed on all before anything else is written.
-    ensures marked_first { IfOk result (λ u. OpenMarksFirst out.now disks.old u disks.new) }
-
-    // No disk that is out is called, and all that is written are an uberblock's slots, and labels with its claim.
-    ensures makes { OpenMakes out.now disks.old disks.new }
-
-    // Stopped at any moment, inside a device call too, the disks lead to one of the possible ones, or to a claim of one.
-    ensures any_moment { OpenKeeps out.now rewind disks.old disks.new }
-
-    // And until the claim is begun in a slot their labels show no less than before, and then on each disk one shows the claim.
-    ensures labels_any_moment { OpenMarks out.now rewind disks.old disks.new }
-
-    // And on each disk that showed it some label shows the configuration that is taken, where no disk showed four different ones before.
-    ensures configured_any_moment { OpenConfigures out.now rewind disks.old disks.new }
-
-    // It is refused for want of memory, or where a call failed on the disk that it names, or where no claim is left, or where none is so many groups less:
-    // there is a highest one. Or where no disk has a label with the configuration of the one that it takes, or a disk has no label.
-    ensures refused { IfErr result (OpenRefuses out.now rewind disks.old disks.new) }
-{
-    let found = survey(alloc, disks, out, rewind)?;
-    let claimed = claim(&found, disks, out)?;
     Ok(claimed)
 }

@@ -6,7 +6,7 @@ ghost use Rattle.model_disk.specs.Runs.{IsSettled, no_write};
 ghost use Rattle.uberblock_ring.specs.Uberblock.{Fits};
 ghost use Rattle.pool_slots.specs.Failures.{IsFailure};
 ghost use Rattle.pool_slots.specs.Slots.{AreSettled, HaveLabels, InUse, MakesOn, is_disk};
-ghost use Rattle.pool_slots.specs.Writes.{AreApart, AreWithin, BlocksStand, HasBlock, InTurn, IsBlockWrite, IsSlotWrite, IsWithin, SlotsStand, first_half_of, in_half_of, in_use, on_disk};
+ghost use Rattle.pool_slots.specs.Writes.{AreApart, BlocksStand, InTurn, IsBlockWrite, IsSlotWrite, IsWithin, SlotsStand, first_half_of, in_half_of, in_use, on_disk};
 
 use crate::blocks::BlockWrite;
 use crate::calls::{flush, write_at, write_slot};
@@ -52,39 +52,6 @@ pub(crate) fn flush_all<D: Disk + Drop>(
     Ok(())
 }
 
-// ---- blocks
-
-/// Writes a block.
-fn write_block<D: Disk + Drop>(
-    disks: &mut DiskArray<D>,
-    block: &BlockWrite,
-) -> Result<(), DiskFailure>
-    requires within { IsWithin disks.old.starts block.now }
-    ensures starts { disks.new.starts ≡ disks.old.starts }
-    ensures call { disks.new.calls
-        ≡ on block.now.disk (write_call result block.now.at block.now.bytes.items) ∷ disks.old.calls }
-    ensures fault { IfErr result (IsFailure disks.old disks.new) }
-{
-    write_at(disks, block.disk, block.at, &block.bytes)
-}
-
-/// Writes the blocks. The first fault ends it.
-pub(crate) fn write_blocks<D: Disk + Drop>(
-    disks: &mut DiskArray<D>,
-    blocks: &[BlockWrite],
-) -> Result<(), DiskFailure>
-    requires within { AreWithin disks.old.starts blocks.now }
-    requires apart { AreApart blocks.now }
-    ensures makes { MakesOn (HasBlock blocks.now) (IsBlockWrite blocks.now) disks.old disks.new }
-    ensures stand { OnOk result (BlocksStand (content disks.new) blocks.now (length blocks.now)) }
-    ensures fault { IfErr result (IsFailure disks.old disks.new) }
-{
-    for block in blocks {
-        write_block(disks, block)?;
-    }
-    Ok(())
-}
-
 // ---- slots
 
 /// Writes the slot of an uberblock in two labels of a disk: in 0 and 2, or in 1 and 3.
@@ -106,52 +73,6 @@ fn write_half<D: Disk + Drop>(
 {
     write_slot(disks, which, half, uberblock)?;
     write_slot(disks, which, half + 2, uberblock)
-}
-
-/// Writes the slot in all labels of a disk that is in use.
-fn write_if_used<D: Disk + Drop>(
-    disks: &mut DiskArray<D>,
-    out: &[bool],
-    which: usize,
-    uberblock: &Uberblock,
-) -> Result<(), DiskFailure>
-    requires which { which < length disks.old.starts }
-    requires out { length out.now ≡ length disks.old.starts }
-    requires labels { HaveLabels disks.old.starts }
-    requires fits { Fits uberblock.now }
-    ensures makes { MakesOn (InUse out.now)
-        (IsSlotWrite disks.old.starts uberblock.now (on_disk which (in_use out.now)))
-        disks.old disks.new }
-    ensures stand { OnOk result (SlotsStand (content disks.new) disks.old.starts uberblock.now
-        (on_disk which (in_use out.now)) (length disks.old.starts)) }
-    ensures fault { IfErr result (IsFailure disks.old disks.new) }
-{
-    if out[which] {
-        return Ok(());
-    }
-    write_half(disks, which, 0, uberblock)?;
-    write_half(disks, which, 1, uberblock)
-}
-
-/// Writes the slot in all labels of each disk in use.
-pub(crate) fn write_all<D: Disk + Drop>(
-    disks: &mut DiskArray<D>,
-    out: &[bool],
-    uberblock: &Uberblock,
-) -> Result<(), DiskFailure>
-    requires out { length out.now ≡ length disks.old.starts }
-    requires labels { HaveLabels disks.old.starts }
-    requires fits { Fits uberblock.now }
-    ensures makes { MakesOn (InUse out.now)
-        (IsSlotWrite disks.old.starts uberblock.now (in_use out.now)) disks.old disks.new }
-    ensures stand { OnOk result (SlotsStand (content disks.new) disks.old.starts uberblock.now
-        (in_use out.now) (length disks.old.starts)) }
-    ensures fault { IfErr result (IsFailure disks.old disks.new) }
-{
-    for which in 0..disks.len() {
-        write_if_used(disks, out, which, uberblock)?;
-    }
-    Ok(())
 }
 
 /// The half of a disk's labels that is written first: the one in which its highest uberblock was not

@@ -22,8 +22,7 @@ use Rattle.pool_model.specs.Pools.{PlainPool}
 use Rattle.pool_model.specs.View.{View}
 use Rattle.pool_model.specs.declared.step.Step.{Step}
 use Rattle.pool_model.specs.declared.step.Step.TheVariants.{Hold, Write, Act, Release, Close, Quiesce, Plan, Device, Read as ReadStep, ReadUnder}
-use Rattle.pool_slots.specs.Commits.{LeadAlways, last_or, only_last}
-use Rattle.pool_slots.specs.Lives.{IsNextGroup}
+use Rattle.pool_slots.specs.Commits.{LeadAlways, last_or, only_last, IsNextGroup}
 use Rattle.pool_slots.specs.PhaseLaws.{BlocksBegin, BlocksGoOn}
 use Rattle.pool_slots.specs.Phases.{AreInBlocks, AreInSlots, free_writes, if_used}
 use Rattle.pool_slots.specs.Possible.{IsAllowed, IsInReach, Leads, Possible, Trees, held_by}

@@ -10,8 +10,7 @@ use Rattle.pool_create.specs.Backs.{Backs}
 use Rattle.pool_create.specs.CommitState.{State}
 use Rattle.pool_create.specs.CommitWriting.{IsDueWrite, PlansFrom, WritesPlan}
 use Rattle.pool_model.specs.View.{View}
-use Rattle.pool_slots.specs.Commits.{LeadAlways, last_or, only_last}
-use Rattle.pool_slots.specs.Lives.{IsNextGroup}
+use Rattle.pool_slots.specs.Commits.{LeadAlways, last_or, only_last, IsNextGroup}
 use Rattle.pool_slots.specs.Phases.{AreInBlocks, AreInSlots}
 use Rattle.pool_slots.specs.Slots.{AreSettled, InUse}
 use Rattle.pool_slots.specs.Writes.{SlotsStand, in_use}

@@ -16,8 +16,7 @@ use Rattle.block_store.specs.Store.{Store, Stores, outs}
 use Rattle.block_store.specs.Spaces.{VdevSpace}
 use Rattle.pool_create.specs.Slots.{LabelsLieAside}
 use Rattle.pool_create.specs.CommitWriting.{IsDueWrite}
-use Rattle.pool_slots.specs.Commits.{LeadAlways, last_or, only_last}
-use Rattle.pool_slots.specs.Lives.{IsNextGroup}
+use Rattle.pool_slots.specs.Commits.{LeadAlways, last_or, only_last, IsNextGroup}
 use Rattle.pool_slots.specs.Phases.{AreInBlocks, AreInSlots}
 use Rattle.pool_slots.specs.Possible.{TreeStands, Trees}
 use Rattle.pool_slots.specs.Slots.{AreSettled}
