@@ -1,5 +1,5 @@
 -- Writes of free bytes, and writes on disks in use.
-use Rattle.std.proofs.Common.{◌≡◌, ◌⊎◌, inl, inr, ◌<◌, ◌≤◌, ◌∙◌, ℕ, ◌+◌, Bool, true, false, List, length, Option, Some, None, refl, sym, ap, subst, arith}
+use Rattle.std.proofs.Common.{◌≡◌, ◌⊎◌, inl, inr, ◌<◌, ◌≤◌, ◌∙◌, ℕ, ◌+◌, Bool, true, false, List, length, Option, Some, None, refl, sym, ap, arith}
 use Rattle.std.proofs.lemmas.Bool.Decides.{nat_tests}
 use Rattle.uberblock_ring.specs.declared.uberblock.Uberblock.{Uberblock}
 use Rattle.model_disk.specs.Contents.{covers}
@@ -10,13 +10,10 @@ use Rattle.model_disk.proofs.RunLemmas.{Makes-wider}
 use Rattle.vdev_label.specs.Place.{label_at}
 use Rattle.pool_slots.specs.Slots.{AreThere, InUse, HaveLabels, slot_at, IsSlot, StayOut}
 use Rattle.pool_slots.specs.Possible.{IsInReach, Trees}
-use Rattle.pool_slots.specs.Writes.{IsBlockWrite, ArePlaced, IsOffBlocks}
-use Rattle.pool_slots.specs.Commits.{AreOffLabels, IsPlan, only_last}
+use Rattle.pool_slots.specs.Commits.{AreOffLabels, only_last}
 use Rattle.pool_slots.specs.Labels.{area_place}
 use Rattle.pool_slots.specs.Phases.{if_used, IsOffSlots, IsRelabel, free_writes, slot_writes}
-use Rattle.pool_slots.specs.declared.blocks.BlockWrite.{BlockWrite}
 use Rattle.pool_slots.proofs.LabelWrites.{area_in_label, area_off_slot}
-use Rattle.pool_slots.proofs.Places.{range_off_slot}
 
 -- ---- on disks in use
 
@@ -31,9 +28,6 @@ used_makes out may old new makes = Makes-wider may (if_used out may) old new (λ
 not_true : (b : Bool) → ¬ (b ≡ true) → b ≡ false
 not_true true none = absurd (none refl)
 not_true false none = refl
-
-true_and_false : (b : Bool) → b ≡ true → b ≡ false → ⊥
-true_and_false b is isnt = let e : true ≡ false = sym is ∙ isnt in cc
 
 pub some_and_none : (o : Option ℕ) (value : ℕ) → o ≡ Some value → o ≡ None → ⊥
 some_and_none o value is none = let e : Some value ≡ None = sym is ∙ none in cc
@@ -79,30 +73,6 @@ slot_writes_fewer out later starts u stay old new makes =
     Makes-wider (slot_writes out starts u) (slot_writes later starts u) old new (λ which at bytes write used.
     let it = write (stay which used) in
     record { label = it.label; is_label = it.is_label; picked = used; place = it.place; spells = it.spells }) makes
-
--- the bytes of a placed block are off the slots
-placed_off : (size at n i : ℕ) → ((label : ℕ) → label < 4 → (at + n ≤ label_at size label) ⊎ (label_at size label + 262144 ≤ at)) → (at ≤ i) × (i < at + n) → IsOffSlots size i
-placed_off size at n i off inside label slot is =
-    elim (range_off_slot size at n label slot (off label is.is_label) is) [ inl before ↦ inl (omega (arith, before, inside.1)) | inr after ↦ inr (omega (arith, after, inside.0)) ]
-
-pub off_blocks : (blocks : List BlockWrite) (which i : ℕ) → IsOffBlocks blocks which i → IsOff (IsBlockWrite blocks which) i
-off_blocks blocks which i off at bytes write =
-    ap (λ (place : ℕ). covers place (length bytes) i) write.place ∙ ap (λ (b : List ℕ). covers write.block.at (length b) i) write.same
-    ∙ off write.k write.block write.is (sym write.disk)
-
-pub planned_is_free : (trees : Trees) (out : List Bool) (old : Disks) (last : Uberblock) (before : List Uberblock) (u : Uberblock) (blocks : List BlockWrite) → IsPlan trees out old last before u blocks
-    → ArePlaced out old.starts blocks → (which at : ℕ) (bytes : List ℕ) → IsBlockWrite blocks which at bytes → free_writes trees out old.starts last before which at bytes
-planned_is_free trees out old last before u blocks plan placed which at bytes write used i covered =
-    let here : covers write.block.at (length write.block.bytes.items) i ≡ true =
-    sym (ap (λ (place : ℕ). covers place (length bytes) i) write.place ∙ ap (λ (b : List ℕ). covers write.block.at (length b) i) write.same) ∙ covered in
-    let P : ℕ → Type 0 = λ w. IsOffSlots (length (bytes_of old.starts w)) i in
-    record {
-      off_slots = subst P (sym write.disk)
-          (placed_off (length (bytes_of old.starts write.block.disk)) write.block.at (length write.block.bytes.items) i (placed write.k write.block write.is).off_labels
-          (covered_range write.block.at (length write.block.bytes.items) i here));
-      off_trees = λ v reached. none_there (trees v.root which i) (λ value is.
-          true_and_false (covers write.block.at (length write.block.bytes.items) i) here (plan.free v reached which i value used is write.k write.block write.is (sym write.disk)));
-    }
 
 -- ---- labels that are written anew
 

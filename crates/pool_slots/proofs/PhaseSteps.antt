@@ -9,12 +9,12 @@ use Rattle.model_disk.specs.Runs.{Makes, no_write, EachSince, IsOff}
 use Rattle.model_disk.proofs.RunLemmas.{off_content, Makes-none, Makes-more, Makes-wider}
 use Rattle.pool_slots.specs.Slots.{AreThere, InUse, HaveLabels, MakesOn, is_disk, spelled, slot_at, IsSlot, StayOut}
 use Rattle.pool_slots.specs.Possible.{Possible, IsInReach, Trees, IsPossible, Leads, LeavesLeading}
-use Rattle.pool_slots.specs.Writes.{IsSlotWrite, in_use, IsBlockWrite, SlotStands, SlotsStand}
+use Rattle.pool_slots.specs.Writes.{IsSlotWrite, in_use, SlotStands, SlotsStand}
 use Rattle.pool_slots.specs.Commits.{AreOffLabels, AreAt, LeadAlways, only_last, last_or}
 use Rattle.pool_slots.specs.Phases.{if_used, IsFree, IsInSlot, IsRelabel, AreInBlocks, CanWriteSlots, free_writes, slot_writes}
-use Rattle.pool_slots.specs.PhaseLaws.{BlocksBegin, BlocksGoOn, PlansGoOn, RelabelsGoOn, BlocksEnd, UnflushedIsFree, NextIsUnseen, LastTreeStands, SlotsBegin, SlotsGoOn, SlotsEnd, UnflushedIsSlots, SlotsKeepTree, DisksGoOut, ReadsAndFlushesKeep, SlotsStandInTurn}
+use Rattle.pool_slots.specs.PhaseLaws.{BlocksBegin, BlocksGoOn, RelabelsGoOn, BlocksEnd, UnflushedIsFree, NextIsUnseen, LastTreeStands, SlotsBegin, SlotsGoOn, SlotsEnd, UnflushedIsSlots, SlotsKeepTree, DisksGoOut, ReadsAndFlushesKeep, SlotsStandInTurn}
 use Rattle.pool_slots.proofs.Among.{first_in, later_in}
-use Rattle.pool_slots.proofs.FreeWrites.{used_off, off_blocks, free_off_slots, free_off_trees, no_free_slot, free_writes_fewer, slot_writes_fewer, planned_is_free, relabel_is_free}
+use Rattle.pool_slots.proofs.FreeWrites.{used_off, free_off_slots, free_off_trees, no_free_slot, free_writes_fewer, slot_writes_fewer, relabel_is_free}
 use Rattle.pool_slots.proofs.NextUberblock.{last_is_good, more_begun, next_allowed, next_unseen, top_elsewhere}
 use Rattle.pool_slots.proofs.OneDisk.{AreAllowed, leads_kept_on}
 use Rattle.pool_slots.proofs.Phases.{IsPhase, phase_leaves, leads_fewer, leads_more, none_same, settled_later}
@@ -100,15 +100,6 @@ pub writes_go_on : (may : ℕ → ℕ → List ℕ → Type 0) (trees : Trees) (
     → AreInBlocks trees out new last before × LeadAlways trees out old new (only_last last before)
 writes_go_on may trees out old new last before it free makes =
     blocks_go_on trees out old new last before it (Makes-wider may (free_writes trees out old.starts last before) old new free makes)
-
-pub plans_go_on : PlansGoOn
-plans_go_on trees out old new last before u blocks it plan placed makes =
-    let after = writes_go_on (IsBlockWrite blocks) trees out old new last before it (planned_is_free trees out old last before u blocks plan placed) makes in
-    record {
-      still = after.0;
-      always = after.1;
-      tree = λ stand. plan.whole (content new) stand (λ which i off. off_content (IsBlockWrite blocks) old new which i makes (off_blocks blocks which i off));
-    }
 
 pub relabels_go_on : RelabelsGoOn
 relabels_go_on trees out old new last before it room off makes =

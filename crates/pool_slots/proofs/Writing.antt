@@ -1,5 +1,5 @@
 -- What writes and flushes leave.
-use Rattle.std.proofs.Common.{◌≡◌, ◌⊎◌, inl, inr, ◌<◌, ◌≤◌, ◌∙◌, ℕ, ◌+◌, ◌%◌, Bool, List, ◌∷◌, length, get_or, Option, Some, None, Result, Ok, Err, OnOk, false, refl, sym, ap, subst, arith}
+use Rattle.std.proofs.Common.{◌≡◌, ◌⊎◌, inl, inr, ◌<◌, ◌≤◌, ◌∙◌, ℕ, ◌+◌, ◌%◌, Bool, List, ◌∷◌, length, get_or, Option, None, Result, Ok, Err, OnOk, false, refl, sym, ap, subst, arith}
 use Rattle.uberblock_ring.specs.declared.uberblock.Uberblock.{Uberblock}
 use Rattle.uberblock_ring.specs.Uberblock.{Fits}
 use Rattle.uberblock_ring.specs.Slot.{slot_number}
@@ -12,7 +12,6 @@ use Rattle.model_disk.proofs.LawLemmas.{written_bytes_stand}
 use Rattle.model_disk.proofs.RunLemmas.{off_content, Makes-write, Makes-flush}
 use Rattle.pool_slots.specs.Slots.{InUse, HaveLabels, MakesOn, is_disk, spelled, slot_at, IsSlot}
 use Rattle.pool_slots.specs.Writes.{IsSlotWrite, InHalf, InTurn, first_half_of, in_use, in_half_of, on_disk, SlotStands, SlotsStand}
-use Rattle.pool_slots.specs.declared.blocks.BlockWrite.{BlockWrite}
 use Rattle.pool_slots.specs.declared.found.Found.{Found}
 use Rattle.pool_slots.proofs.Places.{slots_apart, apart_covers, length-spelled, same_or_not}
 use Rattle.pool_slots.proofs.Phases.{MakesOn-more, MakesOn-wider, settled_later}
@@ -260,9 +259,3 @@ turn_stands (Ok x) out all turn which half old new u same stand = λ d label bel
     let P : ℕ → Type 0 = λ w. InHalf ((first_half_of (get_or all w None) + turn) % 2) label in
     let Q : ℕ → Type 0 = λ h. InHalf h label in
     stand d label below is (picked.0, subst Q (sym same) (subst P picked.0 picked.1.half))
-
--- ---- blocks
-
-same_block : (a b : BlockWrite) → Some a ≡ Some b → a ≡ b
-same_block a b e = cc
-

@@ -1,14 +1,12 @@
 -- Commits: what they start from, and what they leave.
-use Rattle.std.specs.Prelude.{◌≡◌, ℕ, suc, Bool, List, [], ◌∷◌, length, Option, Some}
+use Rattle.std.specs.Prelude.{◌≡◌, ℕ, suc, Bool, List, [], ◌∷◌, length, Some}
 use Rattle.model_disk.specs.Joint.{Disks, bytes_of, content}
 use Rattle.model_disk.specs.Runs.{EachSince}
 use Rattle.block_pointer.specs.declared.block.Block.{Block}
 use Rattle.uberblock_ring.specs.declared.uberblock.Uberblock.{Uberblock}
 use Rattle.uberblock_ring.specs.Uberblock.{Fits}
 use Rattle.pool_slots.specs.Slots.{InUse, AreThere, AreSettled, IsOffLabels}
-use Rattle.pool_slots.specs.Possible.{Possible, IsInReach, Trees, TreeStands, Leads, LeavesLeading}
-use Rattle.pool_slots.specs.Writes.{IsOffBlocks, BlocksStand}
-use Rattle.pool_slots.specs.declared.blocks.BlockWrite.{BlockWrite}
+use Rattle.pool_slots.specs.Possible.{Possible, Trees, Leads, LeavesLeading}
 
 -- no tree has a byte of a label
 abbrev pub AreOffLabels : Trees → List Bool → List (List ℕ) → Type 0
@@ -34,22 +32,6 @@ pub record AreAt (trees : Trees) (out : List Bool) (disks : Disks) (u : Uberbloc
   pub settled : AreSettled out disks.calls
   pub leads : Leads trees out disks.starts (content disks) (only_last u before)
 
--- The next uberblock after the last one, with the blocks that its group writes: they are off the last tree and those of the two groups
--- before it, and once they stand and all else is as it was, the new tree stands.
-pub record IsPlan (trees : Trees) (out : List Bool) (disks : Disks) (last : Uberblock) (before : List Uberblock) (u : Uberblock) (blocks : List BlockWrite) : Type 0 where
-  pub off_labels : AreOffLabels trees out disks.starts
-  pub claim : u.claim ≡ last.claim
-  pub group : u.group ≡ suc last.group
-  pub free : (v : Uberblock) → IsInReach (only_last last before) v → (which i value : ℕ) → InUse out which → trees v.root which i ≡ Some value → IsOffBlocks blocks which i
-  pub whole : (held : ℕ → ℕ → Option ℕ) → BlocksStand held blocks (length blocks) → ((which i : ℕ) → IsOffBlocks blocks which i → held which i ≡ content disks which i)
-      → TreeStands trees out held u.root
-
--- the same, where the last one is committed
-pub record IsNext (trees : Trees) (out : List Bool) (disks : Disks) (last : Uberblock) (before : List Uberblock) (u : Uberblock) (blocks : List BlockWrite) : Type 0 where
-  pub at : AreAt trees out disks last before
-  pub plan : IsPlan trees out disks last before u blocks
-
 -- a stop at any moment since the old one leaves disks that lead to one of the possible uberblocks
 abbrev pub LeadAlways : Trees → List Bool → Disks → Disks → Possible → Type 0
 LeadAlways trees out old new p = EachSince (length old.calls) (LeavesLeading trees out old.starts p) new.calls
-

@@ -9,10 +9,9 @@ use Rattle.uberblock_ring.specs.Slot.{slot_number}
 use Rattle.uberblock_ring.specs.Uberblock.{Fits}
 use Rattle.pool_slots.specs.Slots.{InUse, HaveLabels, AreSettled, IsSlot, Shows, slot_at, spelled, StayOut}
 use Rattle.pool_slots.specs.Possible.{IsInReach, Trees, TreeStands}
-use Rattle.pool_slots.specs.Writes.{IsBlockWrite, ArePlaced, BlocksStand, SlotStands, SlotsStand, in_use}
-use Rattle.pool_slots.specs.Commits.{AreOffLabels, AreAt, IsPlan, LeadAlways, only_last, last_or, IsNextGroup}
+use Rattle.pool_slots.specs.Writes.{SlotStands, SlotsStand, in_use}
+use Rattle.pool_slots.specs.Commits.{AreOffLabels, AreAt, LeadAlways, only_last, last_or, IsNextGroup}
 use Rattle.pool_slots.specs.Phases.{if_used, IsFree, IsInSlot, IsRelabel, AreInBlocks, AreInSlots, CanWriteSlots, free_writes, slot_writes}
-use Rattle.pool_slots.specs.declared.blocks.BlockWrite.{BlockWrite}
 
 -- ---- the blocks phase
 
@@ -28,19 +27,6 @@ BlocksGoOn =
     (trees : Trees) (out : List Bool) (old new : Disks) (last : Uberblock) (before : List Uberblock) → AreInBlocks trees out old last before
     → Makes (free_writes trees out old.starts last before) old new
     → AreInBlocks trees out new last before × LeadAlways trees out old new (only_last last before)
-
--- what a planned group leads to
-pub record PlanGoesOn (trees : Trees) (out : List Bool) (old new : Disks) (last : Uberblock) (before : List Uberblock) (u : Uberblock) (blocks : List BlockWrite) : Type 0 where
-  pub still : AreInBlocks trees out new last before
-  pub always : LeadAlways trees out old new (only_last last before)
-  pub tree : BlocksStand (content new) blocks (length blocks) → TreeStands trees out (content new) u.root
-
--- The writes of a plan's blocks keep it, whatever plans were dropped before, and once all of them stand the plan's tree does.
-abbrev pub PlansGoOn : Type 0
-PlansGoOn =
-    (trees : Trees) (out : List Bool) (old new : Disks) (last : Uberblock) (before : List Uberblock) (u : Uberblock) (blocks : List BlockWrite)
-    → AreInBlocks trees out old last before → IsPlan trees out old last before u blocks → ArePlaced out old.starts blocks → Makes (IsBlockWrite blocks) old new
-    → PlanGoesOn trees out old new last before u blocks
 
 -- so do labels that are written anew, where no tree has a byte of a label
 abbrev pub RelabelsGoOn : Type 0

@@ -33,4 +33,3 @@ pub record FailsInClaim (out later : List Bool) (old new : Disks) (disk : ℕ) :
   pub u : Uberblock
   pub makes : MakesOn (InUse later) (IsClaimWrite read.starts later u) read new
   pub failed : HasFailedOn read new disk
-

@@ -1,12 +1,9 @@
 -- The writes that a commit and an open may make.
-use Rattle.std.specs.Prelude.{◌≡◌, ◌⊎◌, ◌≤◌, ◌<◌, ℕ, ◌+◌, ◌%◌, Bool, List, length, slice_get, get_or, Option, Some, None, false}
-use Rattle.model_disk.specs.Contents.{covers}
+use Rattle.std.specs.Prelude.{◌≡◌, ◌⊎◌, ◌<◌, ℕ, ◌+◌, ◌%◌, Bool, List, length, slice_get, get_or, Option, Some, None}
 use Rattle.model_disk.specs.Joint.{bytes_of}
 use Rattle.uberblock_ring.specs.declared.uberblock.Uberblock.{Uberblock}
 use Rattle.uberblock_ring.specs.Slot.{slot_number}
-use Rattle.vdev_label.specs.Place.{label_at}
 use Rattle.pool_slots.specs.Slots.{InUse, spelled, slot_at}
-use Rattle.pool_slots.specs.declared.blocks.BlockWrite.{BlockWrite}
 use Rattle.pool_slots.specs.declared.found.Found.{Found}
 
 -- ---- slots
@@ -52,48 +49,3 @@ SlotStands held starts u which label =
 -- it does in each label that is picked, on the disks below this number
 abbrev pub SlotsStand : (ℕ → ℕ → Option ℕ) → List (List ℕ) → Uberblock → (ℕ → ℕ → Type 0) → ℕ → Type 0
 SlotsStand held starts u picks count = (which label : ℕ) → which < count → label < 4 → picks which label → SlotStands held starts u which label
-
--- ---- blocks
-
--- one of these writes of blocks
-pub record IsBlockWrite (blocks : List BlockWrite) (which at : ℕ) (bytes : List ℕ) : Type 0 where
-  pub k : ℕ
-  pub block : BlockWrite
-  pub is : slice_get blocks k ≡ Some block
-  pub disk : which ≡ block.disk
-  pub place : at ≡ block.at
-  pub same : bytes ≡ block.bytes.items
-
--- each is within its disk
-pub record IsWithin (starts : List (List ℕ)) (block : BlockWrite) : Type 0 where
-  pub below : block.disk < length starts
-  pub room : block.at + length block.bytes.items ≤ length (bytes_of starts block.disk)
-
--- each is on a disk in use, within it, and shares no byte with a label
-pub record IsPlaced (out : List Bool) (starts : List (List ℕ)) (block : BlockWrite) : Type 0 where
-  pub used : InUse out block.disk
-  pub within : IsWithin starts block
-  pub off_labels : (label : ℕ) → label < 4
-      → (block.at + length block.bytes.items ≤ label_at (length (bytes_of starts block.disk)) label)
-      ⊎ (label_at (length (bytes_of starts block.disk)) label + 262144 ≤ block.at)
-
-abbrev pub ArePlaced : List Bool → List (List ℕ) → List BlockWrite → Type 0
-ArePlaced out starts blocks = (k : ℕ) (block : BlockWrite) → slice_get blocks k ≡ Some block → IsPlaced out starts block
-
--- no write of a block has that byte in its range
-abbrev pub IsOffBlocks : List BlockWrite → ℕ → ℕ → Type 0
-IsOffBlocks blocks which i =
-    (k : ℕ) (block : BlockWrite) → slice_get blocks k ≡ Some block → block.disk ≡ which → covers block.at (length block.bytes.items) i ≡ false
-
--- no two of them share a byte
-abbrev pub AreApart : List BlockWrite → Type 0
-AreApart blocks =
-    (k other : ℕ) (block later : BlockWrite) → slice_get blocks k ≡ Some block → slice_get blocks other ≡ Some later → k < other → block.disk ≡ later.disk
-    → (block.at + length block.bytes.items ≤ later.at) ⊎ (later.at + length later.bytes.items ≤ block.at)
-
--- the first of them stand
-abbrev pub BlocksStand : (ℕ → ℕ → Option ℕ) → List BlockWrite → ℕ → Type 0
-BlocksStand held blocks count =
-    (k : ℕ) (block : BlockWrite) → k < count → slice_get blocks k ≡ Some block
-    → (i : ℕ) → i < length block.bytes.items → held block.disk (block.at + i) ≡ slice_get block.bytes.items i
-

@@ -2,7 +2,6 @@
 #![tactic(auto)]
 
 mod areas;
-mod blocks;
 mod calls;
 mod claiming;
 mod found;
@@ -20,7 +19,6 @@ mod surveyed;
 mod surveying;
 mod writes;
 
-pub use blocks::BlockWrite;
 pub use opening::claim;
 pub use present::survey_present;
 pub use refusal::{DiskFailure, Refusal};

@@ -1,7 +1,7 @@
 //! Laws of commits that are made in steps.
 //!
-//! `commit` makes a whole commit in one call. Who makes a few device calls at a time, drops plans, or goes on without a disk that
-//! fails, keeps one of two relations between any two calls. Each is said of the disks in use alone.
+//! Who makes a few device calls at a time, drops plans, or goes on without a disk that fails, keeps one of two relations between any
+//! two calls. Each is said of the disks in use alone.
 //!
 //! - `AreInBlocks`, in the blocks phase and all the time between commits: since a moment at which the last uberblock was committed
 //!   with nothing unflushed, only free bytes were written. A byte is free where no slot has it, nor a tree that an open may come to:
@@ -16,8 +16,8 @@
 //! 2. A plan takes its places off the labels and off the trees in reach. The calls of a step that writes some of its blocks are a run of
 //!    free writes, `Makes (free_writes ..)`, put together call by call (lemmas `Makes-write`, `Makes-flush`, `Makes-more` of `model_disk`).
 //!    So the phase goes on, and a stop at any moment of the step, inside a call too, leaves disks that lead to the last uberblock
-//!    (`goes_on`). A plan that is a list of `BlockWrite` has this from `plans_go_on`, and that its tree stands once its blocks do. Where
-//!    another relation says which writes a core makes, lemma `writes_go_on` of proofs/PhaseSteps.antt takes it, if each is free.
+//!    (`goes_on`). Where another relation says which writes a core makes, lemma `writes_go_on` of proofs/PhaseSteps.antt takes it, if
+//!    each is free.
 //! 3. A disk fails a write or a flush. The failed call is one of the run's. The disk goes out: each relation holds of the disks that
 //!    are left (`disks_go_out`). The plan is dropped, and nothing more is to be shown, since what it left unflushed is free. The
 //!    next plan goes on from the same relation.
@@ -37,7 +37,7 @@
 ghost use Rattle.pool_slots.specs.PhaseLaws.{BlocksBegin, BlocksEnd, BlocksGoOn, LastTreeStands};
 ghost use Rattle.pool_slots.specs.PhaseLaws.{NextIsUnseen, UnflushedIsFree, UnflushedIsSlots};
 ghost use Rattle.pool_slots.specs.PhaseLaws.{SlotsBegin, SlotsEnd, SlotsGoOn, SlotsKeepTree};
-ghost use Rattle.pool_slots.specs.PhaseLaws.{DisksGoOut, PlansGoOn, ReadsAndFlushesKeep};
+ghost use Rattle.pool_slots.specs.PhaseLaws.{DisksGoOut, ReadsAndFlushesKeep};
 ghost use Rattle.pool_slots.specs.PhaseLaws.{FlushSettles, RelabelsGoOn, SlotsStandInTurn};
 ghost use Rattle.pool_slots.specs.PhaseLaws.{WrongWritesAreRefused};
 
@@ -49,11 +49,6 @@ pub fn blocks_phase()
     ensures unflushed { UnflushedIsFree }
     ensures unseen { NextIsUnseen }
     ensures tree { LastTreeStands }
-{}
-
-/// A plan in the blocks phase, whatever plans were dropped before it.
-pub fn plans_go_on()
-    ensures { PlansGoOn }
 {}
 
 /// Labels that are written anew in the blocks phase, where no tree has a byte of a label. What the labels show is no part of it.

@@ -6,9 +6,8 @@ ghost use Rattle.model_disk.specs.Runs.{IsSettled, no_write};
 ghost use Rattle.uberblock_ring.specs.Uberblock.{Fits};
 ghost use Rattle.pool_slots.specs.Failures.{IsFailure};
 ghost use Rattle.pool_slots.specs.Slots.{AreSettled, HaveLabels, InUse, MakesOn, is_disk};
-ghost use Rattle.pool_slots.specs.Writes.{AreApart, BlocksStand, InTurn, IsBlockWrite, IsSlotWrite, IsWithin, SlotsStand, first_half_of, in_half_of, in_use, on_disk};
+ghost use Rattle.pool_slots.specs.Writes.{InTurn, IsSlotWrite, SlotsStand, first_half_of, in_half_of, in_use, on_disk};
 
-use crate::blocks::BlockWrite;
 use crate::calls::{flush, write_at, write_slot};
 use crate::found::Found;
 use crate::refusal::DiskFailure;

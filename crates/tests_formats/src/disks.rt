@@ -1,7 +1,7 @@
 //! Calls on the labels and slots of three disks, one after the other.
 ghost use Rattle.std.specs.Prelude.{◌≡◌, ◌<◌, ◌≤◌, ◌+◌, Bool, List, length, IfOk, OnOk};
-ghost use Rattle.pool_slots.specs.Configures.{AreNewAreas, IsNewArea};
 ghost use Rattle.pool_slots.specs.Slots.{HaveLabels};
+ghost use Rattle.pool_slots.specs.Surveys.{IsWholeOf};
 ghost use Rattle.uberblock_ring.specs.Uberblock.{Fits};
 ghost use Rattle.vdev_label.specs.Area.{HasRoom};
 ghost use Rattle.vdev_label.specs.Pairs.{InRange, label_pairs};
@@ -10,21 +10,16 @@ ghost use Rattle.vdev_label.specs.Plain.{label_view};
 use crate::lists::label_text;
 use crate::slots::{named, uberblock_text};
 use crate::spelling::{Step, parse, spelled};
-use model_disk::{DiskArray, Fault, FaultDisk, MemDisk};
+use model_disk::{DiskArray, DiskError, Fault, FaultDisk, MemDisk};
 use pool_export::export_labels;
 use pool_format::{PoolIdentity, are_blank, write_labels};
 use pool_labels::{choose, scan};
-use pool_slots::{
-    Refusal, claim, commit, commit_config, open, open_present, survey, survey_present,
-};
+use pool_slots::{Refusal, Survey, claim, survey, survey_present};
 use std::alloc::Global;
 use std::fmt::Display;
 use std::test::Fail;
 use uberblock_ring::{Uberblock, highest, read_slots, rewound, write_slot};
-use vdev_label::{
-    AREA_LEN, Config, Label, State, config_of_label_fits, decode_area, encode_area, label_offset,
-    read_label, relabeled_has_room, write_label,
-};
+use vdev_label::{AREA_LEN, Config, Label, decode_area, label_offset, read_label, write_label};
 use words::seal;
 
 type Disks = DiskArray<FaultDisk<MemDisk>>;
@@ -37,8 +32,8 @@ const NEVER: Fault = Fault::At(u64::MAX);
 /// - `put 0 4: WORDS` writes the area of a label that the words spell to the labels from 0 up to 4, of all twelve.
 /// - `slot 0 3 NAME 1` writes the slot of that uberblock under claim 1 to label 3 of the first disk.
 /// - `write 0 3` writes a label there as `vdev_label` does; `format` labels all three as those of a new pool.
-/// - `commit OUT NAME 1` commits an uberblock, and `config OUT NAME 1` one with larger disks. OUT has an `x` for each
-///   disk that is out.
+/// - `commit OUT NAME 1` commits an uberblock: its slot in all labels of the disks in use. OUT has an `x` for each disk
+///   that is out.
 /// - `open OUT 1` and `present 1` open the disks, one group back: what is claimed is answered, and which disks are out.
 /// - `survey OUT 1` and `surveyed 1` answer the highest uberblock, the taken one and that under the next claim; `claim OUT 1`
 ///   then also what is claimed.
@@ -166,64 +161,6 @@ pub(crate) const CASES: &[(&str, &str)] = &[
     (
         "1 from 20; put 0 12: LABEL; put 11 12: LABEL 27:09; commit --- first 1; survey --- 0; surveyed 0",
         "done; done; done; disk 2 failed; first/1 first/1 first/2 out [false, false, true]; ",
-    ),
-    // Behind a commit of a new configuration each label has it.
-    (
-        "1 never 0; put 0 12: LABEL; commit --- first 1; config --- larger 1; label 0 0; label 0 3; \
-        label 1 1; label 2 2",
-        "done; done; done; pool true 1 101 1 100 5: 100 1 7169 12 1 [101, 102, 103]; \
-        pool true 1 101 1 100 5: 100 1 7169 12 1 [101, 102, 103]; \
-        pool true 1 102 1 100 5: 100 1 7169 12 1 [101, 102, 103]; \
-        pool true 1 103 1 100 5: 100 1 7169 12 1 [101, 102, 103]; ",
-    ),
-    // Wherever it stops there are labels with what is taken: as the blocks are flushed,
-    (
-        "1 flush 2; put 0 12: LABEL; commit --- first 1; config --- larger 1; survey --- 0",
-        "done; done; disk 2 failed; first/1 first/1 first/2 out [false, false, false]; ",
-    ),
-    // in labels 0 and 2 and their flush,
-    (
-        "1 write 8; put 0 12: LABEL; commit --- first 1; config --- larger 1; survey --- 0",
-        "done; done; disk 2 failed; first/1 first/1 first/2 out [false, false, false]; ",
-    ),
-    (
-        "1 write 9; put 0 12: LABEL; commit --- first 1; config --- larger 1; survey --- 0",
-        "done; done; disk 2 failed; first/1 first/1 first/2 out [false, false, false]; ",
-    ),
-    (
-        "1 flush 3; put 0 12: LABEL; commit --- first 1; config --- larger 1; survey --- 0",
-        "done; done; disk 2 failed; first/1 first/1 first/2 out [false, false, false]; ",
-    ),
-    // in the first and the last slot and their flush,
-    (
-        "1 write 10; put 0 12: LABEL; commit --- first 1; config --- larger 1; survey --- 0",
-        "done; done; disk 2 failed; larger/1 larger/1 larger/2 out [false, false, false]; ",
-    ),
-    (
-        "1 write 13; put 0 12: LABEL; commit --- first 1; config --- larger 1; survey --- 0",
-        "done; done; disk 2 failed; larger/1 larger/1 larger/2 out [false, false, false]; ",
-    ),
-    (
-        "1 flush 4; put 0 12: LABEL; commit --- first 1; config --- larger 1; survey --- 0",
-        "done; done; disk 2 failed; larger/1 larger/1 larger/2 out [false, false, false]; ",
-    ),
-    // in labels 1 and 3 and their flush;
-    (
-        "1 write 14; put 0 12: LABEL; commit --- first 1; config --- larger 1; survey --- 0",
-        "done; done; disk 2 failed; larger/1 larger/1 larger/2 out [false, false, false]; ",
-    ),
-    (
-        "1 write 15; put 0 12: LABEL; commit --- first 1; config --- larger 1; survey --- 0",
-        "done; done; disk 2 failed; larger/1 larger/1 larger/2 out [false, false, false]; ",
-    ),
-    (
-        "1 flush 5; put 0 12: LABEL; commit --- first 1; config --- larger 1; survey --- 0",
-        "done; done; disk 2 failed; larger/1 larger/1 larger/2 out [false, false, false]; ",
-    ),
-    // and where it does not.
-    (
-        "1 never 0; put 0 12: LABEL; commit --- first 1; config --- larger 1; survey --- 0",
-        "done; done; done; larger/1 larger/1 larger/2 out [false, false, false]; ",
     ),
     // Blank disks are labeled.
     (
@@ -415,26 +352,6 @@ fn put(alloc: Global, disks: &mut Disks, step: &Step<'_>, words: &str) -> Result
     Ok(String::from_str(alloc, "done")?)
 }
 
-/// The area of the label that words spell, with the uberblock's claim and group, if it has its configuration.
-fn new_area(alloc: Global, words: &str, uberblock: &Uberblock) -> Result<Vec<u8>, Fail>
-    requires fits { Fits uberblock.now }
-    ensures { IfOk result (λ area. IsNewArea uberblock.now area.items) }
-{
-    let label = label_of(alloc, words)?;
-    config_of_label_fits();
-    relabeled_has_room();
-    if label.config.digest(alloc)? == uberblock.config_digest {
-        let label = Label {
-            claim: uberblock.claim,
-            group: uberblock.group,
-            state: State::Active,
-            ..label
-        };
-        return Ok(encode_area(alloc, &label)?);
-    }
-    Err(Fail::from(Refusal::NoLabel))
-}
-
 /// The label that words spell.
 fn label_of(alloc: Global, words: &str) -> Result<Label, Fail>
     ensures room { IfOk result (λ label. HasRoom (label_pairs (label_view label))) }
@@ -446,22 +363,52 @@ fn label_of(alloc: Global, words: &str) -> Result<Label, Fail>
     Ok(decode_area(alloc, &area)?)
 }
 
-/// The areas of three disks.
-fn new_areas(alloc: Global, uberblock: &Uberblock) -> Result<Vec<Vec<u8>>, Fail>
+/// Writes the slot of an uberblock to all labels of the disks in use, and flushes them.
+fn commit(disks: &mut Disks, out: &[bool], uberblock: &Uberblock) -> Result<(), DiskError>
+    requires count { length disks.old.starts ≡ 3 }
+    requires labels { HaveLabels disks.old.starts }
     requires fits { Fits uberblock.now }
-    ensures count { IfOk result (λ areas. length areas.items ≡ 3) }
-    ensures new { IfOk result (λ areas. (out : List Bool)
-        → AreNewAreas out uberblock.now areas.items) }
+    ensures starts { disks.new.starts ≡ disks.old.starts }
 {
-    let mut areas = Vec::new(alloc);
-    areas.push(new_area(alloc, "LABEL 47:65 259:01", uberblock)?)?;
-    areas.push(new_area(alloc, "LABEL 47:66 259:01", uberblock)?)?;
-    areas.push(new_area(alloc, "LABEL 47:67 259:01", uberblock)?)?;
-    Ok(areas)
+    for place in 0..12u64 {
+        let which = (place / 4) as usize;
+        if out.get(which) != Some(&true) {
+            write_slot(disks, which, place % 4, uberblock)?;
+        }
+    }
+    for which in 0..disks.len() {
+        if out.get(which) != Some(&true) {
+            disks.flush(which)?;
+        }
+    }
+    Ok(())
 }
 
 /// What an open claims; or of a survey the highest uberblock, the one that is taken and that under the next claim, and what the
 /// claim of it answers. How many of these there are stands behind them.
+fn claims(
+    disks: &mut Disks,
+    out: &[bool],
+    survey: &Survey,
+    verb: &str,
+) -> Result<([Uberblock; 4], usize), Refusal>
+    requires out { length out.now ≡ length disks.old.starts }
+    requires labels { HaveLabels disks.old.starts }
+    requires whole { IsWholeOf out.now disks.old.starts survey.now }
+    ensures starts { disks.new.starts ≡ disks.old.starts }
+{
+    let claimed = survey.claimed();
+    if verb == "survey" || verb == "surveyed" {
+        return Ok(([survey.highest(), survey.taken(), claimed, claimed], 3));
+    }
+    let answer = claim(survey, disks, out)?;
+    if verb == "claim" {
+        return Ok(([survey.highest(), survey.taken(), claimed, answer], 4));
+    }
+    Ok(([answer; 4], 1))
+}
+
+/// Surveys the disks, without those that can't be read where the verb says so, and claims what is found where it says so.
 fn found(
     alloc: Global,
     disks: &mut Disks,
@@ -474,24 +421,12 @@ fn found(
     ensures starts { disks.new.starts ≡ disks.old.starts }
 {
     let rewind = step.numbers[0].min(2);
-    if step.verb == "open" {
-        return Ok(([open(alloc, disks, out, rewind)?; 4], 1));
-    }
-    if step.verb == "present" {
-        return Ok(([open_present(alloc, disks, out, rewind)?; 4], 1));
-    }
-    if step.verb == "surveyed" {
+    if step.verb == "present" || step.verb == "surveyed" {
         let survey = survey_present(alloc, disks, out, rewind)?;
-        let claimed = survey.claimed();
-        return Ok(([survey.highest(), survey.taken(), claimed, claimed], 3));
+        return claims(disks, out, &survey, step.verb);
     }
     let survey = survey(alloc, disks, out, rewind)?;
-    let claimed = survey.claimed();
-    if step.verb == "survey" {
-        return Ok(([survey.highest(), survey.taken(), claimed, claimed], 3));
-    }
-    let answer = claim(&survey, disks, out)?;
-    Ok(([survey.highest(), survey.taken(), claimed, answer], 4))
+    claims(disks, out, &survey, step.verb)
 }
 
 /// What an open or a survey answers, and which disks are out then.
@@ -590,12 +525,7 @@ fn written(alloc: Global, disks: &mut Disks, step: &Step<'_>) -> Result<String, 
     }
     let uberblock = named(step.name, first);
     match step.verb {
-        "commit" => done(alloc, commit(disks, &step.out, &[], &uberblock)),
-        "config" => {
-            let areas = new_areas(alloc, &uberblock)?;
-            let out = [false, false, false];
-            done(alloc, commit_config(disks, &out, &[], &uberblock, &areas))
-        }
+        "commit" => done(alloc, commit(disks, &step.out, &uberblock)),
         _ => done(alloc, export_labels(alloc, disks, &step.out, &uberblock)),
     }
 }
@@ -645,7 +575,7 @@ fn answer(alloc: Global, disks: &mut Disks, line: &str) -> Result<String, Fail>
     let step = parse(head);
     match step.verb {
         "put" => put(alloc, disks, &step, words),
-        "slot" | "commit" | "config" | "export" => written(alloc, disks, &step),
+        "slot" | "commit" | "export" => written(alloc, disks, &step),
         "write" | "format" => labeled(alloc, disks, &step),
         "open" | "present" | "survey" | "surveyed" | "claim" => told(alloc, disks, &step),
         "scan" => scanned(alloc, disks, step.numbers[0]),

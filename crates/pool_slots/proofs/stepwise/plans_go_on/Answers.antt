@@ -1,5 +1,0 @@
-use Rattle.pool_slots.proofs.PhaseSteps as steps
-use Rattle.pool_slots.proofs.stepwise.plans_go_on.Goals as goal
-
-pub returns : goal.returns
-returns c = steps.plans_go_on
