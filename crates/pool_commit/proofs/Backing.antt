@@ -7,7 +7,7 @@ use Rattle.raidz_io.specs.Reads.{IsRead, AreReads, OnlyReads}
 use Rattle.std.specs.Prelude.{cond}
 use Rattle.raidz_io.proofs.Calls.{content-OnlyReads}
 use Rattle.std.proofs.lemmas.Bool.{eq-eqb}
-use Rattle.raidz_io.specs.declared.writes.ColumnWrite.{ColumnWrite}
+use Rattle.raidz_io.specs.Writes.{ColumnWrite}
 use Rattle.block_pointer.specs.declared.block.Block.{Block}
 use Rattle.block_store.specs.Blocks.{Contents}
 use Rattle.block_store.specs.Places.{shapes_of}

@@ -7,7 +7,7 @@ use Rattle.std.proofs.lemmas.List.{append-nil, length-append}
 use Rattle.std.proofs.Common.{Result, Ok, Err, is_ok}
 use Rattle.model_disk.specs.Call.{Call, Flushed, is_failed, write_call, flush_call}
 use Rattle.raidz_io.proofs.Calls.{Contains-cases}
-use Rattle.raidz_io.specs.declared.writes.ColumnWrite.{ColumnWrite}
+use Rattle.raidz_io.specs.Writes.{ColumnWrite}
 use Rattle.model_disk.specs.Joint.{Disks, JointCall, on}
 use Rattle.block_store.specs.Plans.{KeepsPlans}
 use Rattle.block_store.specs.Store.{Store, IsOutToo}
@@ -169,15 +169,15 @@ one_failed_before old mid new left rest phase n next call so few one in_it faile
 
 pub write_made : {T E : Type 0} (result : Result T E) (mid new : Store) (write : ColumnWrite) (number : ℕ) → is_ok result ≡ true
     → new.disks.starts ≡ mid.disks.starts → new.spaces ≡ mid.spaces → KeepsPlans mid new
-    → new.disks.calls ≡ on write.disk (write_call result write.offset write.bytes.value.items) ∷ mid.disks.calls
-    → MadeOne mid new (due_write write.disk number) (write_call result write.offset write.bytes.value.items) × (is_failed (write_call result write.offset write.bytes.value.items) ≡ false)
+    → new.disks.calls ≡ on write.disk (write_call result write.offset write.bytes) ∷ mid.disks.calls
+    → MadeOne mid new (due_write write.disk number) (write_call result write.offset write.bytes) × (is_failed (write_call result write.offset write.bytes) ≡ false)
 write_made (Ok x) mid new write number ok starts spaces plans calls = (record { starts = starts; calls = calls; spaces = spaces; plans = plans; is_due = refl; fault = refl; no_read = refl }, refl)
 write_made (Err x) mid new write number ok starts spaces plans calls = absurd (cc)
 
 pub write_lost : {T E : Type 0} (result : Result T E) (mid new : Store) (write : ColumnWrite) (number : ℕ) → is_ok result ≡ false
     → new.disks.starts ≡ mid.disks.starts → new.spaces ≡ mid.spaces → KeepsPlans mid new
-    → new.disks.calls ≡ on write.disk (write_call result write.offset write.bytes.value.items) ∷ mid.disks.calls
-    → MadeOne mid new (due_write write.disk number) (write_call result write.offset write.bytes.value.items) × (is_failed (write_call result write.offset write.bytes.value.items) ≡ true)
+    → new.disks.calls ≡ on write.disk (write_call result write.offset write.bytes) ∷ mid.disks.calls
+    → MadeOne mid new (due_write write.disk number) (write_call result write.offset write.bytes) × (is_failed (write_call result write.offset write.bytes) ≡ true)
 write_lost (Err x) mid new write number ok starts spaces plans calls = (record { starts = starts; calls = calls; spaces = spaces; plans = plans; is_due = refl; fault = refl; no_read = refl }, refl)
 write_lost (Ok x) mid new write number ok starts spaces plans calls = absurd (cc)
 

@@ -2,7 +2,7 @@
 use Rattle.std.proofs.Common.{◌≡◌, ⊎_elim, inl, inr, ℕ, ◌<◌, List, [], ◌++◌, length, refl, sym, ap, ◌∙◌, subst, Contains, Global}
 use Rattle.std.specs.Prelude.{◌==◌, filter, not}
 use Rattle.std.specs.declared.collections.VecDeque.{VecDeque}
-use Rattle.raidz_io.specs.declared.writes.ColumnWrite.{ColumnWrite}
+use Rattle.raidz_io.specs.Writes.{ColumnWrite}
 use Rattle.block_store.specs.Store.{Store}
 use Rattle.pool_model.specs.declared.step.Phase.TheVariants.{BlocksFlush, Slots, SlotsFlush}
 use Rattle.pool_model.specs.View.{View, DueCall}

@@ -7,7 +7,7 @@ use Rattle.std.proofs.lemmas.List.Elements.{All-contains, Contains-append_left, 
 use Rattle.model_disk.specs.Joint.{Disks, calls_on}
 use Rattle.raidz_io.specs.declared.vdev.Vdev.{Vdev as VdevOnDisks}
 use Rattle.raidz_io.specs.Reads.{AreUntouched}
-use Rattle.raidz_io.specs.declared.writes.ColumnWrite.{ColumnWrite}
+use Rattle.raidz_io.specs.Writes.{ColumnWrite}
 use Rattle.raidz_io.proofs.Calls.{Contains-front, Contains-later, Contains-cases, Contains-none}
 use Rattle.raidz_io.proofs.Placed.{placed_at}
 use Rattle.block_store.specs.declared.shape.VdevShape.{VdevShape}

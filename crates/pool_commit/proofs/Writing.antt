@@ -6,7 +6,7 @@ use Rattle.model_disk.specs.Joint.{Disks, on}
 use Rattle.model_disk.specs.Runs.{Makes, no_write}
 use Rattle.model_disk.specs.Call.{flush_call, write_call}
 use Rattle.model_disk.proofs.RunLemmas.{Makes-flush, Makes-more, Makes-wider, Makes-write}
-use Rattle.raidz_io.specs.declared.writes.ColumnWrite.{ColumnWrite}
+use Rattle.raidz_io.specs.Writes.{ColumnWrite}
 use Rattle.block_store.specs.Places.{shapes_of, HaveMarks, IsNotFree}
 use Rattle.block_store.specs.Places.{filled as filled_marks}
 use Rattle.block_store.specs.Releases.{AreSettledInSome}
@@ -217,11 +217,11 @@ rest_has A all rest later it next so =
 -- ---- one call more
 
 pub write_next_makes : {T E : Type 0} (r : Result T E) (first old new : Store) (write : ColumnWrite) → old.due ≡ write ∷ new.due → new.disks.starts ≡ old.disks.starts
-    → new.disks.calls ≡ on write.disk (write_call r write.offset write.bytes.value.items) ∷ old.disks.calls → IsRestOf ColumnWrite first.due old.due
+    → new.disks.calls ≡ on write.disk (write_call r write.offset write.bytes) ∷ old.disks.calls → IsRestOf ColumnWrite first.due old.due
     → Makes (IsDueWrite first.due) first.disks old.disks → Makes (IsDueWrite first.due) first.disks new.disks
 write_next_makes r first old new write next starts calls rest makes =
     Makes-more (IsDueWrite first.due) first.disks old.disks new.disks makes
-    (Makes-write r (IsDueWrite first.due) old.disks new.disks write.disk write.offset write.bytes.value.items starts calls
+    (Makes-write r (IsDueWrite first.due) old.disks new.disks write.disk write.offset write.bytes starts calls
     (record { write = write; is_due = rest_has ColumnWrite first.due old.due new.due write next rest; disk = refl; place = refl; same = refl }))
 
 pub flush_makes : {T E : Type 0} (r : Result T E) (first old new : Disks) (which : ℕ) → new.starts ≡ old.starts → new.calls ≡ on which (flush_call r) ∷ old.calls

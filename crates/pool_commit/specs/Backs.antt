@@ -1,7 +1,7 @@
 -- When the committed half of a core backs a view: what the view says of disks, of kept groups and of the group that is synced.
 use Rattle.std.specs.Prelude.{ℕ, suc, ◌≡◌, ◌⊎◌, ◌<◌, ◌++◌, Contains, List, [], true, false, Option, Some, None, if◌then◌else◌}
 use Rattle.std.specs.List.{AllByRecursion}
-use Rattle.raidz_io.specs.declared.writes.ColumnWrite.{ColumnWrite}
+use Rattle.raidz_io.specs.Writes.{ColumnWrite}
 use Rattle.block_store.specs.Blocks.{Contents}
 use Rattle.block_store.specs.Places.{filled}
 use Rattle.block_store.specs.Places.{planned as planned_marks}

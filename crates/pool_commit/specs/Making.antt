@@ -1,7 +1,7 @@
 -- Device calls that a store makes for a plan.
 use Rattle.std.specs.Prelude.{ℕ, ◌≡◌, ◌≢◌, ◌⊎◌, ◌<◌, ◌≤◌, Contains, List, [], ◌∷◌, ◌++◌, length, map, true}
 use Rattle.std.specs.List.{AllByRecursion}
-use Rattle.raidz_io.specs.declared.writes.ColumnWrite.{ColumnWrite}
+use Rattle.raidz_io.specs.Writes.{ColumnWrite}
 use Rattle.block_store.specs.Plans.{KeepsPlans}
 use Rattle.block_store.specs.Store.{Store, IsOutToo}
 use Rattle.pool_model.specs.declared.step.Phase.{Phase}

@@ -7,7 +7,7 @@ use Rattle.block_store.specs.Places.{filled as filled_marks}
 use Rattle.block_store.specs.Store.{Store, is_out}
 use Rattle.pool_model.specs.View.{disks_of}
 use Rattle.pool_commit.specs.Config.{vdevs_of}
-use Rattle.raidz_io.specs.declared.writes.ColumnWrite.{ColumnWrite}
+use Rattle.raidz_io.specs.Writes.{ColumnWrite}
 use Rattle.uberblock_ring.specs.Slot.{slot_bytes}
 use Rattle.uberblock_ring.specs.Uberblock.{Fits}
 use Rattle.uberblock_ring.specs.declared.uberblock.Uberblock.{Uberblock}
@@ -29,7 +29,7 @@ pub record IsDueWrite (due : List ColumnWrite) (which at : ℕ) (bytes : List �
   pub is_due : Contains due write
   pub disk : which ≡ write.disk
   pub place : at ≡ write.offset
-  pub same : bytes ≡ write.bytes.value.items
+  pub same : bytes ≡ write.bytes
 
 -- the uberblock, to one of these of its slots
 pub record IsDueSlot (starts : List (List ℕ)) (u : Uberblock) (slots : List SlotWrite) (which at : ℕ) (bytes : List ℕ) : Type 0 where

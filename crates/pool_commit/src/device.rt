@@ -28,9 +28,12 @@ use block_store::BlockStore;
 use disk_set::{FailedDisk, SlotWrite};
 use model_disk::Disk;
 use pool_model::Phase;
+use std::alloc::{AllocError, Global};
 use std::collections::VecDeque;
+use std::thread::Threads;
 use uberblock_ring::{Uberblock, encode_slot, slot_offset};
 use vdev_label::label_offset;
+use worker_items::Gate;
 
 /// The most device calls that one step makes.
 const MOST_CALLS: usize = 4;
@@ -153,6 +156,29 @@ fn make_slots<D: Disk + Drop>(
 }
 
 impl<D: Disk + Drop> Commit<D> {
+    /// Makes the parity of the blocks that are due, where it is not made, by as many workers: worker k makes that of the extents i, in the
+    /// order in which they are due, with i modulo the number of workers k, and passes the gate before each. With no memory for it nothing
+    /// is made: each parity is then made as it is written.
+    pub fn make_due<R: Threads + Sync, G: Gate + Sync>(
+        &mut self,
+        rt: &R,
+        alloc: Global,
+        gate: &G,
+        workers: usize,
+    ) -> Result<(), AllocError>
+        requires { 0 < workers }
+        ensures { state_of self.new ≡ state_of self.old }
+    {
+        self.store.make_due(rt, alloc, gate, workers)
+    }
+
+    /// Makes the parity of the blocks that are due, where it is not made, on this thread. It takes no memory.
+    pub fn make_due_here(&mut self)
+        ensures { state_of self.new ≡ state_of self.old }
+    {
+        self.store.make_due_here();
+    }
+
     /// Makes the next device calls of the plan: up to four writes of blocks, or where none is left up to four flushes, then of slots, then
     /// flushes again. The first fault ends them. Where a disk fails before the slots, or too many disks are out, the plan is dropped; from
     /// the slots on the commit goes on without it. Where there is no plan the answer is `None`.

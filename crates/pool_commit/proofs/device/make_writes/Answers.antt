@@ -1,6 +1,6 @@
 use Rattle.std.proofs.Common.{◌≡◌, ℕ, List, min, refl, ap, sym, ◌∙◌, subst, arith, length, is_ok}
 use Rattle.model_disk.specs.Call.{write_call}
-use Rattle.raidz_io.specs.declared.writes.ColumnWrite.{ColumnWrite}
+use Rattle.raidz_io.specs.Writes.{ColumnWrite}
 use Rattle.disk_set.specs.declared.device.FailedDisk.{FailedDisk}
 use Rattle.block_store.specs.Store.{IsOutToo}
 use Rattle.pool_model.specs.declared.step.Phase.TheVariants as phases
@@ -38,7 +38,7 @@ returns-in-Err-clause-failed g c counts =
     let lost = write_lost c.write_next.result c.loop.store c.write_next.new.self call.0 number (ap is_ok c.in-Err.is) c.write_next.ensures.starts c.write_next.ensures.spaces
     c.write_next.ensures.plans call.2 in
     let failed = one_failed c.args.store.now c.loop.store c.write_next.new.self (writes_left counts c.args.store.now.due) (writes_left (counted_on so.0 call.0.disk) c.write_next.new.self.due) phases.Blocks c.loop.counter
-    (due_write call.0.disk number) (write_call c.write_next.result call.0.offset call.0.bytes.value.items)
+    (due_write call.0.disk number) (write_call c.write_next.result call.0.offset call.0.bytes)
     (subst (λ (writes : List ColumnWrite). MadeCalls c.args.store.now c.loop.store (writes_left counts c.args.store.now.due) (writes_left so.0 writes) phases.Blocks c.loop.counter) call.1 so.1)
     few.1 lost.0 refl lost.1 (err_is c.write_next.result c.in-Err.failed (λ f. IsOutToo c.loop.store.out call.0.disk c.write_next.new.self.out) c.in-Err.is call.4) in
     subst (λ disk. FailedCall c.args.store.now c.write_next.new.self (writes_left counts c.args.store.now.due) phases.Blocks disk)
@@ -54,7 +54,7 @@ loop-preserved g c =
           c.write_next.ensures.plans call.2 in (
             counted_on so.0 call.0.disk,
             one_made c.args.store.now c.loop.store c.write_next.new.self (writes_left counts c.args.store.now.due) (writes_left (counted_on so.0 call.0.disk) c.write_next.new.self.due) phases.Blocks c.loop.counter
-                (due_write call.0.disk number) (write_call c.write_next.result call.0.offset call.0.bytes.value.items)
+                (due_write call.0.disk number) (write_call c.write_next.result call.0.offset call.0.bytes)
                 (subst (λ (writes : List ColumnWrite). MadeCalls c.args.store.now c.loop.store (writes_left counts c.args.store.now.due) (writes_left so.0 writes) phases.Blocks c.loop.counter) call.1 so.1)
                 made.0 refl made.1 c.in_default.ensures.out,
           ),

@@ -1,5 +1,5 @@
 use Rattle.model_disk.specs.Runs.{Makes}
-use Rattle.raidz_io.specs.declared.writes.ColumnWrite.{ColumnWrite}
+use Rattle.raidz_io.specs.Writes.{ColumnWrite}
 use Rattle.pool_commit.specs.Making.{MadeWrites}
 use Rattle.pool_commit.specs.Writing.{IsDueWrite}
 use Rattle.pool_commit.proofs.Writing.{IsRestOf}
