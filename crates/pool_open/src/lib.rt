@@ -24,7 +24,9 @@ pub use laws::{
     exports_may_be_reopened, stopped_can_be_opened, unfailing_opens_claim_once,
 };
 pub use opening::{OpenedPool, core_over};
-pub use pool_core::{Core, NamedShape, Reply, Stamp, Step, VolumeShape, labels_of_opened_lie, run};
+pub use pool_core::{
+    Core, NamedShape, Reply, Stamp, Step, VolumeShape, labels_of_opened_lie, plan_with, run,
+};
 pub use pool_format::PoolIdentity;
 pub use refusal::Refusal;
 pub use roots::{ReadRoot, read_root};
