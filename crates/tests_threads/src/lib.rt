@@ -1,4 +1,4 @@
-//! Tests of pools that threads share, over the machine in memory, and of workers.
+//! Tests of pools that threads share, over the machine in memory, of workers, and of plans that they share.
 #![tactic(auto)]
 
 #[cfg(test)]
@@ -9,3 +9,5 @@ mod gates;
 mod in_threads;
 #[cfg(test)]
 mod made;
+#[cfg(test)]
+mod shared_plans;
