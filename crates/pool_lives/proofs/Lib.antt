@@ -6,4 +6,5 @@ mod Chains
 mod Stopping
 mod Refused
 mod Rising
+mod Handing
 mod Lives

@@ -1,9 +1,10 @@
 -- Lives of a pool, from place to place.
-use Rattle.std.proofs.Common.{◌≡◌, inr, ⊎_elim, ◌<◌, ◌≤◌, ℕ, suc, ◌*◌, Bool, true, false, List, [], ◌∷◌, ◌++◌, length, refl, sym, ap, subst, ◌∙◌, arith}
+use Rattle.std.proofs.Common.{◌≡◌, inr, ⊎_elim, ◌<◌, ◌≤◌, ℕ, suc, ◌*◌, Bool, true, false, List, [], ◌∷◌, ◌++◌, length, Some, None, refl, sym, ap, subst, ◌∙◌, arith}
 use Rattle.std.specs.Prelude.{All, ◌==◌, ◌^◌, if◌then◌else◌}
 use Rattle.std.proofs.lemmas.List.{append_cancel_left, length-append}
 use Rattle.std.proofs.lemmas.List.Elements.{All-head, All-tail}
 use Rattle.model_disk.specs.Joint.{Disks}
+use Rattle.model_disk.specs.RunLaws.{FailuresAreSeen}
 use Rattle.model_disk.specs.declared.disk.Disk as disk
 use Rattle.block_store.specs.Places.{shapes_of}
 use Rattle.block_store.specs.Store.{is_out}
@@ -13,6 +14,7 @@ use Rattle.vdev_label.specs.Limits.{IsAllowed, IsAllowedVdev}
 use Rattle.vdev_label.specs.Plain.{PlainVdev, config_view}
 use Rattle.vdev_label.specs.declared.label.Config.{Config}
 use Rattle.pool_create.specs.Backs.{pool_after}
+use Rattle.pool_create.specs.Calls.{GrewTo}
 use Rattle.pool_create.specs.CoreRuns.{Ran}
 use Rattle.pool_create.specs.CoreState.{CoreState, disks_of}
 use Rattle.pool_create.specs.OpenOpening.{IsKeptThrough}
@@ -25,25 +27,31 @@ use Rattle.pool_model.specs.Headline.{Headline}
 use Rattle.pool_model.specs.Machine.{Run}
 use Rattle.pool_model.specs.Sound.{IsSound}
 use Rattle.pool_model.specs.Pools.{PlainPool}
-use Rattle.pool_model.specs.View.{Given, Vdev, View, opened_as}
+use Rattle.pool_model.specs.View.{Given, Vdev, View, nothing_given, opened_as}
+use Rattle.pool_model.specs.declared.refusal.Refusal.TheVariants.{NoMemory}
 use Rattle.pool_model.specs.declared.step.Reply.{Reply}
+use Rattle.pool_model.specs.declared.step.Reply.TheVariants.{Refused}
 use Rattle.pool_model.specs.declared.step.Step.{Step}
+use Rattle.pool_model.specs.declared.step.Step.TheVariants.{Hold}
 use Rattle.pool_slots.specs.Commits.{only_last}
 use Rattle.pool_slots.specs.Opens.{IsKnown}
 use Rattle.pool_stops.specs.Found.{FoundDisksMayBeOpened}
 use Rattle.pool_stops.specs.OneConfig.{CreatedPoolsRunAs, IsRunningAs}
 use Rattle.pool_stops.specs.Own.{disk_guids}
-use Rattle.pool_stops.specs.OwnReopening.{IsOpenedTruly, LeadToOwnPools, OwnPoolsOpenAgain, StoppedExportsLeadToOwnPools, UnfoundDisksAreReturned}
+use Rattle.pool_stops.specs.Handed.{AreShown}
+use Rattle.pool_stops.specs.OwnReopening.{ArraysComeBack, IsOpenedTruly, LeadToOwnPools, OwnPoolsOpenAgain, ShownImagesAreLeft, StoppedExportsLeadToOwnPools, UnfoundDisksAreReturned}
 use Rattle.pool_stops.specs.OwnRunning.{CreatedPoolsAreOnTheirDisks, IsOnItsDisks}
 use Rattle.pool_stops.specs.Reopening.{AreByGroup}
 use Rattle.pool_stops.specs.Running.{pool_of}
 use Rattle.pool_stops.specs.Unhindered.{AnswerTruly}
 use Rattle.pool_lives.specs.Lasting.{Keeps, LivesGoOn, LivesLoseNothing, served_first}
-use Rattle.pool_lives.specs.Lives.{Down, Exports, FindsNone, Goes, Happening, IsAnswered, IsExported, IsLife, IsOpenStopped, IsRun, IsRunStopped, Opens, Place, Runs, StopsOpening, StopsRunning, Up}
+use Rattle.pool_lives.specs.Lives.{Down, Exports, FindsNone, Goes, HandsBack, Happening, IsAnswered, IsExported, IsHandedBack, IsLeft, IsLife, IsOpenStopped, IsRun, IsRunStopped, Opens, Place, Runs, StopsOpening, StopsRunning, Up}
 use Rattle.pool_lives.specs.Tales.{IsTale, Known, Resting, Serving, Tells}
 use Rattle.pool_lives.proofs.Chains.{chain_on, trusted}
+use Rattle.pool_lives.proofs.Handing.{at_hand, begun_grew, safe_exported, safe_unexported, safe_unopened}
 use Rattle.pool_lives.proofs.Known.{chain_known, known_unfailed}
 use Rattle.pool_lives.proofs.Refused.{none_went_out}
+use Rattle.pool_lives.proofs.Resting.{rests}
 use Rattle.pool_lives.proofs.Rising.{rise}
 use Rattle.pool_lives.proofs.Stopping.{StopLaws, Stopped, chain_stops}
 
@@ -78,6 +86,7 @@ pub record Laws {D : Type 0} (g : disk.Ghosts D) : Type 0 where
   pub refused_once : UnfailingOpensClaimOnce
   pub found : FoundDisksMayBeOpened g
   pub opens : OwnPoolsOpenAgain g
+  pub shown : ShownImagesAreLeft
 
 -- what is known next, and that it holds there
 abbrev pub GoesOn : PoolIdentity → List PlainVdev → List ℕ → Known → Happening → Place → Type 0
@@ -184,6 +193,21 @@ module _ {D : Type 0} (g : disk.Ghosts D) (laws : Laws g) (pool : PoolIdentity) 
     },
   )
 
+  -- a core at rest may be said to be stopped, with nothing lost
+  hands_back_on : (core : CoreState) (images : List (List ℕ)) (v : View) (last : Uberblock) (before : List Uberblock) → IsUp pool vdevs digest core v last before
+      → IsHandedBack core images → GoesOn pool vdevs digest (Serving v last before) HandsBack (Down images)
+  hands_back_on core images v last before is (none, shown) =
+      let disks : Disks = disks_of core in
+      let left = laws.shown core.commit.store.out disks disks images (record { starts = refl; newer = []; calls = refl }) shown in
+      let it = laws.stops.lead pool vdevs digest core core v v (Hold 0) nothing_given (Refused NoMemory) last before images is.so is.on
+      (rests core v is.so.runs.represents) refl is.so.runs.whole.none left.0 in
+      let only : it.0 ≡ only_last last before =
+      ⊎_elim (λ same. same) (λ (plan, planned, begun, both). let some : Some plan ≡ None = sym planned ∙ none in absurd (cc some)) it.1 in (
+        Resting it.0 (pool_of v),
+        (only, refl),
+        record { shapes = shapes_of core.commit.store.spaces; out = core.commit.store.out; led = it.2; by_group = by_group v },
+      )
+
   -- ---- opens
 
   opens_on : (images : List (List ℕ)) (core : CoreState) (p : _) (pools : Uberblock → _) (rewind : ℕ) (claimed : Uberblock)
@@ -242,6 +266,7 @@ module _ {D : Type 0} (g : disk.Ghosts D) (laws : Laws g) (pool : PoolIdentity) 
       → IsUp pool vdevs digest core v last before → Goes g (Up core) it next → GoesOn pool vdevs digest (Serving v last before) it next
   up_goes core v last before (Runs steps replies) (Up later) is goes = runs_on core later v last before steps replies is goes
   up_goes core v last before (StopsRunning steps at) (Down images) is goes = stops_on core images v last before steps at is goes
+  up_goes core v last before HandsBack (Down images) is goes = hands_back_on core images v last before is goes
   up_goes core v last before Exports (Down images) is goes = exports_on core images v last before is goes
   up_goes core v last before _ _ is goes = absurd goes
 
@@ -272,7 +297,7 @@ module _ {D : Type 0} (g : disk.Ghosts D) (laws : Laws g) (pool : PoolIdentity) 
 module _ {D : Type 0} where
   keeps : (g : disk.Ghosts D) → OwnPoolsOpenAgain g → (pool : PoolIdentity) (config : Config) (digest : List ℕ) (to : Place) (known : Known)
       → Holds pool (config_view config) digest to known → Keeps g pool config digest to known
-  keeps g law pool config digest (Up core) (Serving v last before) is = is.so.runs.represents
+  keeps g law pool config digest (Up core) (Serving v last before) is = (is.so.runs.represents, at_hand core v last before is.so.runs is.known)
   keeps g law pool config digest (Down images) (Resting p pools) is =
       (is.shapes, is.out, is.led, law pool (config_view config) digest images is.shapes is.out p pools is.led)
   keeps g law pool config digest _ _ is = absurd is
@@ -298,8 +323,8 @@ module _ {D : Type 0} where
   go_on g from to next [] it same goes = (next, subst (λ (place : Place). Goes g place it next) (sym same) goes, refl)
   go_on g from to next (first ∷ its) it (place, began, life) goes = (place, began, go_on g place to next its it life goes)
 
-  pub lives_go_on : (g : disk.Ghosts D) → UnfoundDisksAreReturned g → LivesGoOn g
-  lives_go_on g law = record {
+  pub lives_go_on : (g : disk.Ghosts D) → UnfoundDisksAreReturned g → ShownImagesAreLeft → ArraysComeBack g → FailuresAreSeen → LivesGoOn g
+  lives_go_on g law shown_left arrays seen = record {
     on = λ from to next its it life goes. go_on g from to next its it life goes;
     runs = λ old new steps before after ran honest all. record {
       before = before;
@@ -320,4 +345,37 @@ module _ {D : Type 0} where
     };
     unfound = λ images disks back order rewind cause returned refuses.
         (((disks, order, returned, back, cause, refuses), refl), law images disks back order rewind cause returned refuses);
+    hands_back = λ core hand none. (record { known = hand.known; settled = hand.settled none }, λ images shown. (none, shown));
+    hands_exported = λ core u new hand done truly. (
+      safe_exported core u new hand done truly,
+      λ images shown. (
+        u,
+        new,
+        done.begun,
+        truly.honest,
+        shown_left core.commit.store.out (disks_of core) new images (begun_grew core u new done.begun) shown,
+      ),
+    );
+    hands_unexported = λ core u new refusal hand stopped truly. (
+      safe_unexported seen core u new refusal hand stopped truly,
+      λ images shown. (
+        u,
+        new,
+        stopped.begun,
+        truly.honest,
+        shown_left core.commit.store.out (disks_of core) new images (begun_grew core u new stopped.begun) shown,
+      ),
+    );
+    hands_unopened = λ pool vdevs digest images shapes out p pools disks order rewind refusal back again few returned is found truly.
+        let it = again.unopened disks back order rewind refusal returned is found truly in (
+          safe_unopened g disks back rewind refusal is truly it.0 it.1,
+          λ left shown. record {
+            disks = disks;
+            order = order;
+            returned = returned;
+            few = few;
+            how = inr (back, refusal, is, found, truly, shown_left is.out is.array is.new left it.0.grew shown);
+          },
+        );
+    arrays = arrays;
   }

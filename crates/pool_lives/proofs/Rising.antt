@@ -4,7 +4,7 @@ use Rattle.uberblock_ring.specs.declared.uberblock.Uberblock.{Uberblock}
 use Rattle.pool_slots.specs.Possible.{Possible}
 use Rattle.pool_stops.specs.Reopening.{IsPossibleBehind}
 use Rattle.pool_lives.specs.Lasting.{ClaimsRise}
-use Rattle.pool_lives.specs.Lives.{Exports, FindsNone, Happening, Opens, Runs, StopsOpening, StopsRunning}
+use Rattle.pool_lives.specs.Lives.{Exports, FindsNone, HandsBack, Happening, Opens, Runs, StopsOpening, StopsRunning}
 use Rattle.pool_lives.specs.Tales.{AreCommitted, IsTale, Known, Resting, Serving, Tells}
 
 -- the claim of the uberblock that was last committed or opened
@@ -25,6 +25,7 @@ abbrev Raises : ℕ → Happening → ℕ → Type 0
 Raises claim (Opens rewind u) next = (claim < u.claim) × (next ≡ u.claim)
 Raises claim (Runs steps replies) next = next ≡ claim
 Raises claim (StopsRunning steps at) next = next ≡ claim
+Raises claim HandsBack next = next ≡ claim
 Raises claim Exports next = next ≡ claim
 Raises claim (StopsOpening rewind) next = next ≡ claim
 Raises claim (FindsNone rewind) next = next ≡ claim
@@ -34,6 +35,7 @@ raises (Serving v last before) (Runs steps replies) (Serving w later earlier) te
 raises (Serving v last before) (StopsRunning steps at) (Resting p pools) tells =
     ⊎_elim (λ only. ap (λ (q : Possible). q.last.claim) only) (λ either. ap (λ (q : Possible). q.last.claim) either.3) tells.which
     ∙ same_claim last before tells.takes.commits tells.later tells.earlier tells.takes.committed
+raises (Serving v last before) HandsBack (Resting p pools) tells = ap (λ (q : Possible). q.last.claim) tells.0
 raises (Serving v last before) Exports (Resting p pools) tells = ap (λ (q : Possible). q.last.claim) tells.1
 raises (Resting p pools) (Opens rewind u) (Serving v last before) tells = (tells.0.claim.above, ap (λ (x : Uberblock). x.claim) tells.1)
 raises (Resting p pools) (StopsOpening rewind) (Resting later others) tells = behind_claim p later rewind tells.0
@@ -48,6 +50,7 @@ rise known (Opens rewind u ∷ its) to (next, tells, tale) =
 rise known (Runs steps replies ∷ its) to (next, tells, tale) = subst (λ (n : ℕ). ClaimsRise n its) (raises known (Runs steps replies) next tells) (rise next its to tale)
 rise known (StopsRunning steps at ∷ its) to (next, tells, tale) =
     subst (λ (n : ℕ). ClaimsRise n its) (raises known (StopsRunning steps at) next tells) (rise next its to tale)
+rise known (HandsBack ∷ its) to (next, tells, tale) = subst (λ (n : ℕ). ClaimsRise n its) (raises known HandsBack next tells) (rise next its to tale)
 rise known (Exports ∷ its) to (next, tells, tale) = subst (λ (n : ℕ). ClaimsRise n its) (raises known Exports next tells) (rise next its to tale)
 rise known (StopsOpening rewind ∷ its) to (next, tells, tale) =
     subst (λ (n : ℕ). ClaimsRise n its) (raises known (StopsOpening rewind) next tells) (rise next its to tale)

@@ -1,15 +1,17 @@
 -- What holds of every life of a pool.
-use Rattle.std.specs.Prelude.{ℕ, ◌<◌, Bool, List, [], ◌∷◌, ◌++◌}
+use Rattle.std.specs.Prelude.{ℕ, ◌≡◌, ◌<◌, Bool, None, List, [], ◌∷◌, ◌++◌, length}
+use Rattle.model_disk.specs.Joint.{Disks}
+use Rattle.model_disk.specs.Runs.{AreSettled}
 use Rattle.model_disk.specs.declared.disk.Disk as disk
 use Rattle.block_store.specs.Store.{is_out}
 use Rattle.block_store.specs.declared.shape.VdevShape.{VdevShape}
 use Rattle.uberblock_ring.specs.declared.uberblock.Uberblock.{Uberblock}
-use Rattle.vdev_label.specs.Plain.{config_view}
+use Rattle.vdev_label.specs.Plain.{PlainVdev, config_view}
 use Rattle.vdev_label.specs.declared.label.Config.{Config}
 use Rattle.pool_create.specs.CommitState.{NoneIsOut}
 use Rattle.pool_create.specs.CoreRuns.{Ran}
 use Rattle.pool_create.specs.CoreState.{CoreState, disks_of}
-use Rattle.pool_create.specs.OpenExporting.{IsGivenBack, IsPutAway, outs_of}
+use Rattle.pool_create.specs.OpenExporting.{IsExportDone, IsExportStopped, IsGivenBack, IsPutAway, outs_of}
 use Rattle.pool_create.specs.OpenFinding.{FindRefuses}
 use Rattle.pool_create.specs.OpenRefusal.{Refusal}
 use Rattle.pool_create.specs.Opens.{IsOpened, IsUnopened}
@@ -18,16 +20,20 @@ use Rattle.pool_create.specs.Represents.{Represents}
 use Rattle.pool_create.specs.Words.{vdevs_in}
 use Rattle.pool_format.specs.declared.labeling.PoolIdentity.{PoolIdentity}
 use Rattle.pool_labels.specs.declared.refusal.Refusal.{Refusal as LabelsRefusal}
-use Rattle.pool_model.specs.Pools.{no_volumes}
+use Rattle.pool_model.specs.Pools.{PlainPool, no_volumes}
 use Rattle.pool_model.specs.View.{View, opened_as}
 use Rattle.pool_model.specs.declared.refusal.Refusal.{Refusal as ExportRefusal}
 use Rattle.pool_model.specs.declared.step.Reply.{Reply}
 use Rattle.pool_model.specs.declared.step.Step.{Step}
 use Rattle.raidz_io.specs.Reads.{IsHonestSince}
+use Rattle.pool_core.specs.Exporting.{IsExportable}
 use Rattle.pool_slots.specs.Failures.{HasFailedOn}
-use Rattle.pool_stops.specs.OwnReopening.{AreReturned, IsOpenedTruly, LeadToOwnPools, OpenAgain}
+use Rattle.pool_slots.specs.Opens.{IsKnown}
+use Rattle.pool_slots.specs.Possible.{Possible}
+use Rattle.pool_stops.specs.Handed.{AreShown}
+use Rattle.pool_stops.specs.OwnReopening.{AreReturned, AreSafe, ArraysComeBack, IsOpenedTruly, LeadToOwnPools, OpenAgain}
 use Rattle.pool_stops.specs.Unhindered.{AnswerTruly}
-use Rattle.pool_lives.specs.Lives.{Down, Exports, FindsNone, Goes, Happening, IsLeft, IsLife, IsMade, Opens, Place, Runs, StopsOpening, StopsRunning, Up}
+use Rattle.pool_lives.specs.Lives.{Down, Exports, FindsNone, Goes, HandsBack, Happening, IsLeft, IsLife, IsMade, Opens, Place, Runs, StopsOpening, StopsRunning, Up}
 use Rattle.pool_lives.specs.Tales.{IsTale, Known, Resting, Serving}
 
 -- each open's claim is above this one and all that were opened before it
@@ -36,18 +42,27 @@ ClaimsRise claim [] = Unit {0}
 ClaimsRise claim (Opens rewind u ∷ its) = (claim < u.claim) × ClaimsRise u.claim its
 ClaimsRise claim (Runs steps replies ∷ its) = ClaimsRise claim its
 ClaimsRise claim (StopsRunning steps at ∷ its) = ClaimsRise claim its
+ClaimsRise claim (HandsBack ∷ its) = ClaimsRise claim its
 ClaimsRise claim (Exports ∷ its) = ClaimsRise claim its
 ClaimsRise claim (StopsOpening rewind ∷ its) = ClaimsRise claim its
 ClaimsRise claim (FindsNone rewind ∷ its) = ClaimsRise claim its
+
+-- No disk of the core is out, and each byte of theirs is known. Where the pool may be exported nothing is planned, and while nothing is nothing is unflushed.
+pub record IsAtHand (core : CoreState) : Type 0 where
+  pub none : NoneIsOut core.commit
+  pub count : length core.commit.store.out ≡ length (disks_of core).starts
+  pub known : (which : ℕ) → IsKnown (disks_of core) which
+  pub unplanned : IsExportable core → core.commit.planned ≡ None
+  pub settled : core.commit.planned ≡ None → AreSettled (disks_of core)
 
 module _ {D : Type 0} where
   -- what is served before anything was run
   abbrev pub served_first : {g : disk.Ghosts D} {pool : PoolIdentity} {config : Config} {u : Uberblock} {core : CoreState} → IsMade g pool config u core → View
   served_first made = opened_as (vdevs_in made.created.created.shapes) (is_out (nobody made.created.array.starts)) 3 no_volumes
 
-  -- The core represents the view that is served; or the disks are the pool's own, lead to the possible uberblocks with their pools, and open again.
+  -- The core represents the view that is served, and its disks are at hand; or the disks are the pool's own, lead to the possible uberblocks with their pools, and open again.
   abbrev pub Keeps : disk.Ghosts D → PoolIdentity → Config → List ℕ → Place → Known → Type 0
-  Keeps g pool config digest (Up core) (Serving v last before) = Represents core v
+  Keeps g pool config digest (Up core) (Serving v last before) = Represents core v × IsAtHand core
   Keeps g pool config digest (Down images) (Resting p pools) =
       (shapes : List VdevShape) × (out : List Bool) × LeadToOwnPools pool (config_view config) digest images shapes out p pools
       × OpenAgain g pool (config_view config) digest images shapes out p pools
@@ -59,6 +74,10 @@ module _ {D : Type 0} where
       (pool : PoolIdentity) (config : Config) (u : Uberblock) (core : CoreState) (made : IsMade g pool config u core) (its : List Happening) (to : Place)
       → IsLife g (Up core) its to
       → (known : Known) × IsTale (Serving (served_first made) u []) its known × Keeps g pool config u.config_digest to known × ClaimsRise u.claim its
+
+  -- Each byte of the disks is known then, with nothing unflushed; and whatever bytes they show it goes on with these, with no stop between.
+  abbrev pub HandsOn : disk.Ghosts D → Place → Happening → Disks → Type 0
+  HandsOn g from it disks = AreSafe disks × ((images : List (List ℕ)) → AreShown images disks → Goes g from it (Down images))
 
   -- A life goes on with what happens next; and each public call is something that happens, by what it ensures.
   pub record LivesGoOn (g : disk.Ghosts D) : Type 0 where
@@ -77,3 +96,15 @@ module _ {D : Type 0} where
         → AnswerTruly is.array is.new → IsLeft is.out is.array is.new left → Goes g (Down images) (StopsOpening rewind) (Down left)
     pub unfound : (images : List (List ℕ)) (disks back : List D) (order : List ℕ) (rewind : ℕ) (cause : LabelsRefusal) → AreReturned g images disks order
         → FindRefuses g disks rewind back cause → Goes g (Down images) (FindsNone rewind) (Down images) × AreReturned g images back order
+    -- with no stop between
+    pub hands_back : (core : CoreState) → IsAtHand core → core.commit.planned ≡ None → HandsOn g (Up core) HandsBack (disks_of core)
+    pub hands_exported : (core : CoreState) (u : Uberblock) (new : Disks) → IsAtHand core → IsExportDone core u new → AnswerTruly (disks_of core) new
+        → HandsOn g (Up core) Exports new
+    pub hands_unexported : (core : CoreState) (u : Uberblock) (new : Disks) (refusal : ExportRefusal) → IsAtHand core
+        → IsExportStopped core u new refusal → AnswerTruly (disks_of core) new → HandsOn g (Up core) Exports new
+    pub hands_unopened : (pool : PoolIdentity) (vdevs : List PlainVdev) (digest : List ℕ) (images : List (List ℕ)) (shapes : List VdevShape) (out : List Bool)
+        (p : Possible) (pools : Uberblock → PlainPool) (disks : List D) (order : List ℕ) (rewind : ℕ) (refusal : Refusal) (back : List D)
+        → OpenAgain g pool vdevs digest images shapes out p pools → rewind < 3 → AreReturned g images disks order → (is : IsUnopened g disks rewind back refusal)
+        → AnswerTruly is.ordered.found.old is.ordered.found.new → AnswerTruly is.array is.new → HandsOn g (Down images) (StopsOpening rewind) is.new
+    -- and so the disks of a core, or an array, may be handed in again, as they stand in it
+    pub arrays : ArraysComeBack g

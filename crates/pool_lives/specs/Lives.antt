@@ -1,5 +1,5 @@
 -- Lives of a pool: what its public calls did, one after another, and the stops in them. All disks are there, and answer truly.
-use Rattle.std.specs.Prelude.{ℕ, ◌≡◌, ◌⊎◌, ◌<◌, Bool, List, [], ◌∷◌, ◌++◌}
+use Rattle.std.specs.Prelude.{ℕ, ◌≡◌, ◌⊎◌, ◌<◌, Bool, None, List, [], ◌∷◌, ◌++◌}
 use Rattle.model_disk.specs.Joint.{Disks}
 use Rattle.model_disk.specs.declared.disk.Disk as disk
 use Rattle.raidz_io.specs.Reads.{IsHonestSince}
@@ -20,6 +20,7 @@ use Rattle.pool_model.specs.declared.step.Step.{Step}
 use Rattle.pool_slots.specs.Failures.{HasFailedOn}
 use Rattle.pool_slots.specs.Opens.{IsKnown}
 use Rattle.pool_stops.specs.Begun.{at_stop}
+use Rattle.pool_stops.specs.Handed.{AreShown}
 use Rattle.pool_stops.specs.OwnReopening.{AreReturned, IsOpenedTruly}
 use Rattle.pool_stops.specs.Reopening.{LeavesImages}
 use Rattle.pool_stops.specs.Stopping.{AreLabelsUntorn}
@@ -30,11 +31,13 @@ pub data Place : Type 0 where
   Up : CoreState → Place
   Down : List (List ℕ) → Place
 
--- A run takes steps and gives these replies; or it is stopped in them, when the disks are these. The pool is exported, stopped in that or not. Disks
--- are opened, going back so many groups, as this uberblock; or an open of them is stopped; or it is refused, as no pool is found on them.
+-- A run takes steps and gives these replies; or it is stopped in them, when the disks are these. The core gives its disks back. The pool is exported,
+-- stopped in that or not. Disks are opened, going back so many groups, as this uberblock; or an open of them is refused, or stopped; or it is refused, as no
+-- pool is found on them.
 pub data Happening : Type 0 where
   Runs : List Step → List Reply → Happening
   StopsRunning : List Step → Disks → Happening
+  HandsBack : Happening
   Exports : Happening
   Opens : ℕ → Uberblock → Happening
   StopsOpening : ℕ → Happening
@@ -51,6 +54,10 @@ pub record IsRun (old : CoreState) (steps : List Step) (replies : List Reply) (n
 abbrev pub IsRunStopped : CoreState → List Step → Disks → List (List ℕ) → Type 0
 IsRunStopped old steps at images =
     (new : CoreState) × (replies : List Reply) × IsRun old steps replies new × (leaves : LeavesImages old.commit.store.out (disks_of old) (disks_of new) images) × (at ≡ at_stop leaves)
+
+-- the disks of a core that plans nothing show these bytes
+abbrev pub IsHandedBack : CoreState → List (List ℕ) → Type 0
+IsHandedBack core images = (core.commit.planned ≡ None) × AreShown images (disks_of core)
 
 -- a stop at some moment since the old one left these bytes, where nothing that was torn in a label reads as one by chance
 abbrev pub IsLeft : List Bool → Disks → Disks → List (List ℕ) → Type 0
@@ -97,6 +104,7 @@ module _ {D : Type 0} where
   abbrev pub Goes : disk.Ghosts D → Place → Happening → Place → Type 0
   Goes g (Up core) (Runs steps replies) (Up later) = IsRun core steps replies later
   Goes g (Up core) (StopsRunning steps at) (Down images) = IsRunStopped core steps at images
+  Goes g (Up core) HandsBack (Down images) = IsHandedBack core images
   Goes g (Up core) Exports (Down images) = IsExported core images
   Goes g (Down images) (Opens rewind claimed) (Up core) = IsAnswered g images rewind claimed core
   Goes g (Down images) (StopsOpening rewind) (Down left) = IsOpenStopped g images rewind left

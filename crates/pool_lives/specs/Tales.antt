@@ -15,7 +15,7 @@ use Rattle.pool_slots.specs.Possible.{Possible}
 use Rattle.pool_stops.specs.Begun.{IsBegun}
 use Rattle.pool_stops.specs.Reopening.{IsPossibleBehind}
 use Rattle.pool_stops.specs.Running.{pool_of}
-use Rattle.pool_lives.specs.Lives.{Exports, FindsNone, Happening, Opens, Runs, StopsOpening, StopsRunning}
+use Rattle.pool_lives.specs.Lives.{Exports, FindsNone, HandsBack, Happening, Opens, Runs, StopsOpening, StopsRunning}
 
 -- A view is served, with the committed group's uberblock behind those; or disks are down that lead to one of the possible uberblocks, of
 -- which each has its pool.
@@ -62,6 +62,7 @@ pub record OpensPossible (p : Possible) (pools : Uberblock → PlainPool) (rewin
 abbrev pub Tells : Known → Happening → Known → Type 0
 Tells (Serving v last before) (Runs steps replies) (Serving w later earlier) = TakesSteps v last before steps replies w later earlier
 Tells (Serving v last before) (StopsRunning steps at) (Resting p pools) = StopsInSteps v last before steps at p pools
+Tells (Serving v last before) HandsBack (Resting p pools) = (p ≡ only_last last before) × (pools ≡ pool_of v)
 Tells (Serving v last before) Exports (Resting p pools) = MayBeExported v × (p ≡ only_last last before) × (pools ≡ pool_of v)
 Tells (Resting p pools) (Opens rewind claimed) (Serving v last before) = OpensPossible p pools rewind claimed v × (last ≡ claimed) × (before ≡ [])
 Tells (Resting p pools) (StopsOpening rewind) (Resting later others) = IsPossibleBehind p rewind later × (others ≡ pools)

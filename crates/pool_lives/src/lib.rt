@@ -4,12 +4,13 @@
 ghost use Rattle.pool_lives.specs.Lasting.{LivesGoOn, LivesLoseNothing};
 
 use model_disk::Disk;
+use model_disk::laws::failures_are_seen;
 use pool_create::unfailing_opens_claim_once;
 use pool_model::headline_of_runs;
 use pool_stops::{
     created_pools_are_on_their_disks, created_pools_run_as, disks_may_be_handed_in,
-    found_disks_may_be_opened, none_was_out, own_pools_open_again, steps_stay_on_their_disks,
-    stopped_exports_lead_to_own_pools, stopped_steps_lead_to_own_pools,
+    disks_may_be_handed_on, found_disks_may_be_opened, none_was_out, own_pools_open_again,
+    steps_stay_on_their_disks, stopped_exports_lead_to_own_pools, stopped_steps_lead_to_own_pools,
 };
 
 /// **No life of a pool loses anything that was committed.** A pool is made by `create`. Then `run` takes steps, `export` puts it away and `open` opens
@@ -31,6 +32,7 @@ pub fn lives_lose_nothing<D: Disk + Drop>()
     unfailing_opens_claim_once();
     found_disks_may_be_opened::<D>();
     own_pools_open_again::<D>();
+    disks_may_be_handed_on::<D>();
 }
 
 /// With whatever happens next it is a life still; and each public call, answered or refused, is something that happens, by what it ensures.
@@ -38,4 +40,6 @@ pub fn lives_go_on<D: Disk + Drop>()
     ensures { LivesGoOn D.Disk }
 {
     disks_may_be_handed_in::<D>();
+    disks_may_be_handed_on::<D>();
+    failures_are_seen();
 }

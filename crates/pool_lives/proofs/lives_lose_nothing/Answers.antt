@@ -14,4 +14,5 @@ returns g c = law c.created_pools_run_as.ensures c.created_pools_are_on_their_di
   refused_once = c.unfailing_opens_claim_once.ensures.refused;
   found = c.found_disks_may_be_opened.ensures;
   opens = c.own_pools_open_again.ensures;
+  shown = c.disks_may_be_handed_on.ensures.shown;
 })
