@@ -1,25 +1,35 @@
 -- By what the calls ensured the pool has lived.
-use Rattle.std.proofs.Common.{List, [], ◌∷◌, refl}
+use Rattle.std.proofs.Common.{ℕ, ◌≡◌, List, [], ◌∷◌, ◌++◌, map, refl, sym, ap, subst, ◌∙◌}
+use Rattle.model_disk.specs.Call.{Call}
+use Rattle.model_disk.specs.Joint.{Disks, calls_on, log_of}
+use Rattle.model_disk.specs.Member.{calls_of, start_of}
 use Rattle.model_disk.specs.declared.disk.Disk as disk
+use Rattle.model_disk.specs.declared.member.Member.{Member}
+use Rattle.model_disk.specs.declared.member.Member.TheVariants.{Present}
 use Rattle.uberblock_ring.specs.declared.uberblock.Uberblock.{Uberblock}
 use Rattle.vdev_label.specs.declared.label.Config.{Config}
 use Rattle.pool_create.specs.CoreRuns.{Ran}
-use Rattle.pool_create.specs.CoreState.{CoreState}
+use Rattle.pool_create.specs.CoreState.{CoreState, disks_of}
+use Rattle.pool_core.specs.Exporting.{IsExportable}
 use Rattle.pool_create.specs.Creates.{IsCreatedOn}
+use Rattle.pool_create.specs.OpenExporting.{IsExportDone}
+use Rattle.pool_create.specs.OpenFinding.{FindRefuses, IsArrayOf}
+use Rattle.pool_create.specs.Opens.{IsOpened}
 use Rattle.pool_create.specs.Represents.{Represents}
 use Rattle.pool_format.specs.declared.labeling.PoolIdentity.{PoolIdentity}
-use Rattle.pool_lives.specs.Lasting.{Keeps, LivesGoOn, LivesLoseNothing}
-use Rattle.pool_lives.specs.Lives.{IsLife, IsMade, Runs, Up}
+use Rattle.pool_labels.specs.declared.refusal.Refusal.{Refusal as LabelsRefusal}
+use Rattle.pool_lives.specs.Lasting.{IsAtHand, Keeps, LivesGoOn, LivesLoseNothing}
+use Rattle.pool_lives.specs.Lives.{Down, Exports, FindsNone, HandsBack, Happening, IsLife, IsMade, Opens, Place, Runs, Up}
 use Rattle.pool_lives.specs.Tales.{Known, Resting, Serving}
 use Rattle.pool_model.specs.View.{View}
 use Rattle.pool_model.specs.declared.step.Reply.{Reply}
 use Rattle.pool_model.specs.declared.step.Step.{Step}
-use Rattle.tests_lives.specs.Lived.{AllWell, HasLived}
+use Rattle.tests_lives.specs.Lived.{AllWell, ExportsAndOpens, GivesBackAndOpens, HasLived, HasLivedOn}
 
 module _ {D : Type 0} where
-  serves : (g : disk.Ghosts D) (pool : PoolIdentity) (config : Config) (digest : List _) (core : CoreState) (known : Known)
+  serves : (g : disk.Ghosts D) (pool : PoolIdentity) (config : Config) (digest : List ℕ) (core : CoreState) (known : Known)
       → Keeps g pool config digest (Up core) known → (v : View) × Represents core v
-  serves g pool config digest core (Serving v last before) kept = (v, kept)
+  serves g pool config digest core (Serving v last before) kept = (v, kept.0)
   serves g pool config digest core (Resting p pools) kept = absurd kept
 
   pub has_lived : (g : disk.Ghosts D) → LivesGoOn g → LivesLoseNothing g → (disks : List D) (pool : PoolIdentity) (config : Config) (steps : List Step)
@@ -41,3 +51,101 @@ module _ {D : Type 0} where
             let it = law pool config u first (made well) (Runs steps ran.0 ∷ []) (Up core) (life well) in
             serves g pool config u.config_digest core it.0 it.2;
       }
+
+  -- ---- with no stop between
+
+  -- members that are all there stand in an array as their disks do
+  starts_of : (g : disk.Ghosts D) (disks : List D) → map (start_of g) (map Present disks) ≡ map g.start disks
+  starts_of g [] = refl
+  starts_of g (d ∷ disks) = ap (λ (starts : List (List ℕ)). g.start d ∷ starts) (starts_of g disks)
+
+  logs_of : (g : disk.Ghosts D) (disks : List D) → map (calls_of g) (map Present disks) ≡ map g.calls disks
+  logs_of g [] = refl
+  logs_of g (d ∷ disks) = ap (λ (logs : List (List Call)). g.calls d ∷ logs) (logs_of g disks)
+
+  pub array_of : (g : disk.Ghosts D) (members : List (Member D)) (disks : List D) (array : Disks) → members ≡ map Present disks
+      → array.starts ≡ map (start_of g) members → ((which : ℕ) → calls_on which array.calls ≡ log_of (map (calls_of g) members) which)
+      → IsArrayOf g disks array
+  array_of g members disks array same starts calls = (
+    starts ∙ ap (map (start_of g)) same ∙ starts_of g disks,
+    λ which. calls which ∙ ap (λ (logs : List (List Call)). log_of logs which) (ap (map (calls_of g)) same ∙ logs_of g disks),
+  )
+
+  pub exports_and_opens : (g : disk.Ghosts D) → LivesGoOn g → (old : CoreState) (exported : Uberblock) (left : Disks) (disks : List D) (u : Uberblock)
+      (new : CoreState) → IsExportDone old exported left → IsArrayOf g disks left → IsOpened g disks 0 u new → ExportsAndOpens g old u new
+  exports_and_opens g on old exported left disks u new done array opened = record {
+    exported = exported;
+    left = left;
+    done = done;
+    disks = disks;
+    opened = opened;
+    life = λ hand truly well.
+        let goes = on.hands_exported old exported left hand done truly in
+        let back = on.arrays left disks array goes.0 in
+        let images = back.1.images in (
+          Down images,
+          goes.1 images back.1.shown,
+          (Up new, on.opens images disks back.0 0 u new back.1.returned opened well.truly well.none_failed, refl),
+        );
+  }
+
+  pub gives_back_and_opens : (g : disk.Ghosts D) → LivesGoOn g → (old : CoreState) (disks back : List D) (cause : LabelsRefusal) (u : Uberblock)
+      (new : CoreState) → IsExportable old → IsArrayOf g disks (disks_of old) → FindRefuses g disks 2 back cause → IsOpened g back 0 u new
+      → GivesBackAndOpens g old u new
+  gives_back_and_opens g on old disks back cause u new exportable array unfound opened = record {
+    disks = disks;
+    array = array;
+    back = back;
+    cause = cause;
+    unfound = unfound;
+    opened = opened;
+    life = λ hand well.
+        let goes = on.hands_back old hand (hand.unplanned exportable) in
+        let given = on.arrays (disks_of old) disks array goes.0 in
+        let images = given.1.images in
+        let none = on.unfound images disks back given.0 2 cause given.1.returned unfound in (
+          Down images,
+          goes.1 images given.1.shown,
+          (
+            Down images,
+            none.0,
+            (Up new, on.opens images back given.0 0 u new none.1 opened well.truly well.none_failed, refl),
+          ),
+        );
+  }
+
+  join : (g : disk.Ghosts D) (from mid to : Place) (its more : List Happening) → IsLife g from its mid → IsLife g mid more to → IsLife g from (its ++ more) to
+  join g from mid to [] more same rest = subst (λ (place : Place). IsLife g place more to) (sym same) rest
+  join g from mid to (it ∷ its) more (next, goes, life) rest = (next, goes, join g next mid to its more life rest)
+
+  -- the disks of a core that is up are at hand
+  at_hand : (g : disk.Ghosts D) (pool : PoolIdentity) (config : Config) (digest : List ℕ) (core : CoreState) (known : Known)
+      → Keeps g pool config digest (Up core) known → IsAtHand core
+  at_hand g pool config digest core (Serving v last before) kept = kept.1
+  at_hand g pool config digest core (Resting p pools) kept = absurd kept
+
+  pub has_lived_on : (g : disk.Ghosts D) → LivesLoseNothing g → (disks : List D) (pool : PoolIdentity) (config : Config) (steps : List Step)
+      (first second u : Uberblock) (run again core : CoreState) → HasLived g disks pool config steps first run → ExportsAndOpens g run second again
+      → GivesBackAndOpens g again u core → HasLivedOn g disks pool config steps u core
+  has_lived_on g law disks pool config steps first second u run again core lived exports gives = record {
+    first = first;
+    run = run;
+    lived = lived;
+    second = second;
+    again = again;
+    exports = exports;
+    gives = gives;
+    life = λ well truly opened last.
+        let start = lived.life well in
+        let ran : Happening = Runs steps lived.ran.0 in
+        let keeps = λ (its : List Happening) (to : CoreState) (life : IsLife g (Up lived.first) its (Up to)). law pool config first lived.first start.0 its (Up to) life in
+        let one = keeps (ran ∷ []) run start.1 in
+        let hand = at_hand g pool config first.config_digest run one.0 one.2 in
+        let shipped = join g (Up lived.first) (Up run) (Up again) (ran ∷ []) (Exports ∷ Opens 0 second ∷ []) start.1 (exports.life hand truly opened) in
+        let two = keeps (ran ∷ Exports ∷ Opens 0 second ∷ []) again shipped in
+        let mine = at_hand g pool config first.config_digest again two.0 two.2 in
+        let all = join g (Up lived.first) (Up again) (Up core) (ran ∷ Exports ∷ Opens 0 second ∷ []) (HandsBack ∷ FindsNone 2 ∷ Opens 0 u ∷ []) shipped
+        (gives.life mine last) in
+        let end = keeps (ran ∷ Exports ∷ Opens 0 second ∷ HandsBack ∷ FindsNone 2 ∷ Opens 0 u ∷ []) core all in
+        (all, serves g pool config first.config_digest core end.0 end.2);
+  }

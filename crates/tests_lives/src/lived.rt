@@ -1,10 +1,11 @@
-//! A pool that is made and run.
-ghost use Rattle.std.specs.Prelude.{IfOk};
+//! A pool that is made and run, exported, and opened on the very disks that come back.
+ghost use Rattle.std.specs.Prelude.{◌≡◌, map, IfOk};
+ghost use Rattle.model_disk.specs.declared.member.Member.TheVariants.{Present};
 ghost use Rattle.pool_create.specs.CoreStateOf.{state_of};
-ghost use Rattle.tests_lives.specs.Lived.{HasLived};
+ghost use Rattle.tests_lives.specs.Lived.{ExportsAndOpens, GivesBackAndOpens, HasLived, HasLivedOn};
 
 use model_disk::{Disk, MemDisk, Member};
-use pool_create::{OpenedPool, create};
+use pool_create::{NotOpened, OpenedPool, create, export, open};
 use pool_format::PoolIdentity;
 use pool_lives::{lives_go_on, lives_lose_nothing};
 use pool_model::Step;
@@ -38,6 +39,82 @@ fn lived<D: Disk + Drop>(
     Ok(OpenedPool { core, uberblock })
 }
 
+/// The disks of members that are all there.
+fn present<D: Disk + Drop>(alloc: Global, members: Vec<Member<D>>) -> Result<Vec<D>, ()>
+    ensures { IfOk result (λ disks. members.items ≡ map Present disks.items) }
+{
+    let mut disks = Vec::new(alloc);
+    'present: for member in members {
+        let Member::Present(disk) = member else {
+            return Err(());
+        };
+        if disks.push(disk).is_err() {
+            return Err(());
+        }
+    }
+    Ok(disks)
+}
+
+/// Exports a pool, and opens its very disks.
+fn exported<D: Disk + Drop>(
+    alloc: Global,
+    pool: OpenedPool<Member<D>>,
+) -> Result<OpenedPool<Member<D>>, ()>
+    ensures { IfOk result (λ opened. ExportsAndOpens D.Disk (state_of pool.core)
+        opened.uberblock (state_of opened.core)) }
+{
+    lives_go_on::<D>();
+    let Ok(members) = export(alloc, pool) else {
+        return Err(());
+    };
+    let disks = present(alloc, members)?;
+    let Ok((opened, _)) = open(alloc, disks, 0) else {
+        return Err(());
+    };
+    Ok(opened)
+}
+
+/// Takes the disks back from a core, is refused to go back two groups on them, and opens them.
+fn taken_back<D: Disk + Drop>(
+    alloc: Global,
+    pool: OpenedPool<Member<D>>,
+) -> Result<OpenedPool<Member<D>>, ()>
+    ensures { IfOk result (λ opened. GivesBackAndOpens D.Disk (state_of pool.core)
+        opened.uberblock (state_of opened.core)) }
+{
+    lives_go_on::<D>();
+    let OpenedPool { core, .. } = pool;
+    let None = core.export_refusal() else {
+        return Err(());
+    };
+    let disks = present(alloc, core.into_disks())?;
+    let disks = match open(alloc, disks, 2) {
+        Err(NotOpened::NotFound { disks, .. }) => disks,
+        _ => return Err(()),
+    };
+    let Ok((opened, _)) = open(alloc, disks, 0) else {
+        return Err(());
+    };
+    Ok(opened)
+}
+
+/// Makes a pool and takes these steps, exports it and opens it, takes its disks back and opens them.
+fn lived_on<D: Disk + Drop>(
+    alloc: Global,
+    disks: Vec<D>,
+    pool: PoolIdentity,
+    config: Config,
+    steps: Vec<Step>,
+) -> Result<OpenedPool<Member<D>>, ()>
+    ensures { IfOk result (λ opened. HasLivedOn D.Disk disks.items pool config steps.items
+        opened.uberblock (state_of opened.core)) }
+{
+    lives_lose_nothing::<D>();
+    let first = lived(alloc, disks, pool, config, steps)?;
+    let second = exported(alloc, first)?;
+    taken_back(alloc, second)
+}
+
 fn config(alloc: Global) -> Result<Config, AllocError> {
     let vdev = Vdev {
         guid: 100,
@@ -52,24 +129,27 @@ fn config(alloc: Global) -> Result<Config, AllocError> {
     })
 }
 
-/// The group and the claim of a pool that was made, and then took two steps.
+/// What commits a group: more steps of its device calls than it has calls.
+fn one_group(alloc: Global) -> Result<Vec<Step>, AllocError> {
+    let mut steps = vec![in alloc; Step::Close, Step::Quiesce, Step::Plan { timestamp: 0 }]?;
+    for _ in 0..200 {
+        steps.push(Step::Device)?;
+    }
+    Ok(steps)
+}
+
+/// The group and the claim of a pool that was made, committed a group, was exported and opened, and whose disks were taken back and opened.
 fn shown(alloc: Global) -> Result<[u64; 2], AllocError> {
     let disks = MemDisk::several(alloc, 3, 0x80_0000)?;
     let name = String::from_str(alloc, "pool")?;
-    let steps = vec![in alloc; Step::Close, Step::Quiesce]?;
-    match lived(
-        alloc,
-        disks,
-        PoolIdentity { name, guid: 1 },
-        config(alloc)?,
-        steps,
-    ) {
+    let identity = PoolIdentity { name, guid: 1 };
+    match lived_on(alloc, disks, identity, config(alloc)?, one_group(alloc)?) {
         Ok(pool) => Ok([pool.uberblock.group, pool.uberblock.claim]),
         Err(()) => Ok([0, 0]),
     }
 }
 
 #[test]
-fn a_new_pool_lives(rt: HostRuntime) {
-    assert!(rt; shown(rt.alloc()) == Ok([3, 1]));
+fn a_pool_lives_on(rt: HostRuntime) {
+    assert!(rt; shown(rt.alloc()) == Ok([4, 3]));
 }

@@ -1,0 +1,16 @@
+use Rattle.std.proofs.lemmas.Result.{IfOk-weaker}
+use Rattle.pool_create.specs.CoreStateOf.{state_of}
+use Rattle.tests_lives.specs.Lived.{GivesBackAndOpens, HasLivedOn}
+use Rattle.tests_lives.proofs.Living.{has_lived_on}
+use Rattle.tests_lives.proofs.lived.lived_on.Goals as goal
+
+pub returns : goal.returns
+returns g c =
+    let first = c.in_ok-first.first in
+    let second = c.in_ok-second.second in
+    let a = c.args in
+    IfOk-weaker c.taken_back.result (λ last. GivesBackAndOpens g.D.Disk (state_of second.core) last.uberblock (state_of last.core))
+    (λ last. HasLivedOn g.D.Disk a.disks.items a.pool a.config a.steps.items last.uberblock (state_of last.core))
+    (λ last gives. has_lived_on g.D.Disk c.lives_lose_nothing.ensures a.disks.items a.pool a.config a.steps.items first.uberblock second.uberblock last.uberblock
+    (state_of first.core) (state_of second.core) (state_of last.core) c.in_ok-first.ensures c.in_ok-second.ensures gives)
+    c.taken_back.ensures
