@@ -13,8 +13,8 @@ use pool_stops::{
     steps_stay_on_their_disks, stopped_exports_lead_to_own_pools, stopped_steps_lead_to_own_pools,
 };
 
-/// **No life of a pool loses anything that was committed.** A pool is made by `create`. Then `run` takes steps, `export` puts it away and `open` opens
-/// its disks, in any order and going back or not, answered or refused; and each of them may be stopped at any moment, inside a device call too. What is
+/// **No life of a pool loses anything that was committed.** A pool is made by `create`. Then `run` takes steps, `export` puts it away or its disks are taken back,
+/// and `open` opens them, in any order and going back or not, answered or refused; and each may be stopped at any moment, inside a device call too. What is
 /// opened is the pool of the group that was committed or opened last, or of one of which a slot was begun to be written since; where the open goes back,
 /// of so many groups less. What is run from there on is a run of the machine, with the headline. And the claim of an open is above those of all before it.
 ///
@@ -35,7 +35,8 @@ pub fn lives_lose_nothing<D: Disk + Drop>()
     disks_may_be_handed_on::<D>();
 }
 
-/// With whatever happens next it is a life still; and each public call, answered or refused, is something that happens, by what it ensures.
+/// With whatever happens next it is a life still; and each public call, answered or refused, is something that happens, by what it ensures. It goes on with
+/// the disks that a call gives back, with no stop between.
 pub fn lives_go_on<D: Disk + Drop>()
     ensures { LivesGoOn D.Disk }
 {
