@@ -1,5 +1,5 @@
 //! Stores of blocks by pointer.
-use crate::block_cases::{MAPS, OPENED, RELEASED, STORED};
+use crate::block_cases::{MADE, MAPS, OPENED, RELEASED, STORED};
 use crate::extents::{EXTENTS, Extents};
 use crate::lines::{Bench, Call, wrong_lines};
 use crate::pattern::Pattern;
@@ -12,7 +12,9 @@ use raidz_io::Vdev;
 use raidz_map::Geometry;
 use space_map::append_update;
 use std::alloc::Global;
+use std::sync::atomic::{AtomicU64, Ordering};
 use std::test::Fail;
+use worker_items::Gate;
 
 type TestDisk = FaultDisk<MemDisk>;
 
@@ -29,9 +31,23 @@ struct Known {
     sectors: u32,
 }
 
+/// How often workers passed it.
+#[derive(Drop)]
+struct Passed {
+    times: AtomicU64,
+}
+
+impl Gate for Passed {
+    fn pass(&self, _worker: usize, _item: usize) {
+        let _ = self.times.fetch_add(1, Ordering::SeqCst);
+    }
+}
+
 /// A store with the blocks that were planned, and another one.
 #[derive(Drop)]
-struct Blocks {
+struct Blocks<'a> {
+    rt: &'a HostRuntime,
+    gate: Passed,
     store: Option<TestStore>,
     other: Option<TestStore>,
     known: Vec<Known>,
@@ -84,8 +100,13 @@ fn opened(alloc: Global, store: TestStore, geometry: Geometry, call: &Call) -> R
 
 /// The store that a call makes, by that which was there.
 fn made(alloc: Global, call: &Call, before: Option<TestStore>) -> Result<Made, Fail> {
+    let (children, parity) = if call.name == "double" {
+        (4, 2)
+    } else {
+        (3, 1)
+    };
     let small = VdevConfig {
-        geometry: Geometry::new(3, 1, 9)?,
+        geometry: Geometry::new(children, parity, 9)?,
         metaslab_shift: 12,
         meta_slabs: 1,
     };
@@ -95,8 +116,9 @@ fn made(alloc: Global, call: &Call, before: Option<TestStore>) -> Result<Made, F
         meta_slabs: 1,
     };
     let is_small = call.name != "vdevs";
+    let small_disks = [SMALL_DISK; 4];
     let sizes = if is_small {
-        &[SMALL_DISK; 3]
+        small_disks.get(..children as usize).unwrap_or(&[])
     } else {
         call.numbers.get(2..).unwrap_or(&[])
     };
@@ -105,7 +127,11 @@ fn made(alloc: Global, call: &Call, before: Option<TestStore>) -> Result<Made, F
         _ => Fault::At(u64::MAX),
     };
     let store = match (call.name, before) {
-        ("small" | "beside", _) => BlockStore::new(alloc, disks(alloc, sizes, fault)?, &[small]),
+        ("small" | "beside" | "double", _) => BlockStore::new(
+            alloc,
+            disks(alloc, sizes, fault)?,
+            &[small],
+        ),
         ("vdevs", _) => {
             let vdevs = vec![in alloc; pair; call.number(0)]?;
             BlockStore::new(alloc, disks(alloc, sizes, fault)?, &vdevs)
@@ -377,15 +403,26 @@ fn called(
     Ok(format!(in alloc; "{refusal:?}")?)
 }
 
-impl Bench for Blocks {
+impl<'a> Bench for Blocks<'a> {
     fn answer(&mut self, alloc: Global, call: &Call) -> Result<String, Fail> {
-        if matches!(call.name, "small" | "vdevs" | "beside") {
+        if call.name == "alike"
+            && let (Some(one), Some(other)) = (self.store.take(), self.other.take())
+        {
+            let mut differ = 0usize;
+            for (one, other) in one.into_disks().into_iter().zip(other.into_disks()) {
+                if one.into_inner().bytes() != other.into_inner().bytes() {
+                    differ = differ.saturating_add(1);
+                }
+            }
+            return Ok(format!(in alloc; "{differ} differ")?);
+        }
+        if matches!(call.name, "small" | "vdevs" | "beside" | "double") {
             self.other = self.store.take();
             self.known.clear();
         }
         if matches!(
             call.name,
-            "small" | "vdevs" | "beside" | "over" | "opened" | "disks"
+            "small" | "vdevs" | "beside" | "double" | "over" | "opened" | "disks"
         ) {
             let (store, text) = made(alloc, call, self.store.take())?;
             self.store = store;
@@ -399,6 +436,15 @@ impl Bench for Blocks {
                 let (differ, refused) = load(store, other)?;
                 Ok(format!(in alloc; "{differ} differ {refused} refused")?)
             }
+            ("make", _) if call.number(0) > 0 => {
+                store.make_due(self.rt, alloc, &self.gate, call.number(0))?;
+                let passed = self.gate.times.swap(0, Ordering::SeqCst);
+                Ok(format!(in alloc; "{passed} extents")?)
+            }
+            ("make", _) => {
+                store.make_due_here();
+                Ok(format!(in alloc; "here")?)
+            }
             _ => called(store, &mut self.known, alloc, call),
         }
     }
@@ -408,11 +454,15 @@ impl Bench for Blocks {
 fn extents_and_blocks(rt: HostRuntime) -> Result<(), Fail> {
     let mut wrong = wrong_lines(&rt, rt.alloc(), &mut Extents, EXTENTS)?;
     let mut blocks = Blocks {
+        rt: &rt,
+        gate: Passed {
+            times: AtomicU64::new(0),
+        },
         store: None,
         other: None,
         known: Vec::new(rt.alloc()),
     };
-    for cases in &[STORED, OPENED, RELEASED, MAPS] {
+    for cases in &[STORED, MADE, OPENED, RELEASED, MAPS] {
         wrong.push_str(wrong_lines(&rt, rt.alloc(), &mut blocks, cases)?.as_str())?;
     }
     assert!(rt; wrong.is_empty(), "{wrong}");

@@ -6,10 +6,11 @@ ghost use Rattle.raidz_io.specs.Places.{CanHold, IsOnDisks};
 use crate::lines::{Bench, Call};
 use crate::pattern::Pattern;
 use model_disk::{DiskArray, Fault, FaultDisk, MemDisk};
-use raidz_io::{DATA_START, Extent, Refusal, Vdev, WritesAt, extent_fits};
+use raidz_io::{DATA_START, Extent, Refusal, Vdev, extent_fits};
 use raidz_map::Geometry;
 use sha2::{Digest, Sha256};
-use std::alloc::{AllocError, Global};
+use std::alloc::Global;
+use std::sync::Arc;
 use std::test::Fail;
 
 /// Blocks of five sectors with one parity on the disks 1 to 4, or with two on the disks 1 to 5: a column
@@ -61,15 +62,16 @@ pub(crate) const EXTENTS: &[(&str, &str)] = &[
     // Disk 3 fails and disk 5 is missing, where the block has no digest.
     ("read 2 8 32", "same"),
     // Vdev sectors 3 to 9 of four disks: the parity is at 3 and 7, then the data at 4 and 8, 5 and 9, and
-    // 6. Behind its disk and its offset there stand the bytes of the block that a write has.
+    // 6. Behind its disk and its offset there stand the bytes of the block that a write has, as they are on
+    // the disk once the block is written.
     (
         "writes",
-        "4@0x400000 parity; 1@0x400200 0+1024; 2@0x400200 1024+1024; 3@0x400200 2048+512",
+        "4@0x400000 parity true; 1@0x400200 0+1024; 2@0x400200 1024+1024; 3@0x400200 2048+512",
     ),
-    // The same of writes that share the bytes of others.
+    // The same of the writes of a second copy, which share the block with others.
     (
         "shared_writes",
-        "4@0x400000 parity; 1@0x400200 0+1024; 2@0x400200 1024+1024; 3@0x400200 2048+512",
+        "4@0x400000 parity true; 1@0x400200 0+1024; 2@0x400200 1024+1024; 3@0x400200 2048+512",
     ),
 ];
 
@@ -78,24 +80,8 @@ type Disks = DiskArray<FaultDisk<MemDisk>>;
 /// How many bytes each disk has: the space before its sectors, and eight sectors.
 const SIZE: usize = 0x401000;
 
-/// So many disks, of which these do one call and no more.
-fn several(alloc: Global, count: usize, failing: u32) -> Result<Disks, AllocError>
-    ensures count { IfOk result (λ disks. length disks.starts ≡ count) }
-    ensures sizes { IfOk result (λ disks. HaveSize count 0x401000 disks.starts) }
-{
-    let mut disks = DiskArray::new(Vec::new(alloc));
-    for which in 0..count {
-        let fault = if which < 32 && failing >> which & 1 == 1 {
-            Fault::From(1)
-        } else {
-            Fault::At(u64::MAX)
-        };
-        disks.push(FaultDisk::new(MemDisk::new(alloc, SIZE)?, fault))?;
-    }
-    Ok(disks)
-}
-
-/// A block of five sectors with so many parities, on a vdev that begins at disk 1.
+/// A block of five sectors with so many parities, on a vdev that begins at disk 1, and disks, of which these do one
+/// call and no more.
 fn fresh(alloc: Global, parity: u32, failing: u32) -> Result<(Extent, Disks), Fail>
     ensures fits { IfOk result (λ it. CanHold it.0) }
     ensures on_disks { IfOk result (λ it. IsOnDisks it.0 it.1.starts) }
@@ -112,7 +98,15 @@ fn fresh(alloc: Global, parity: u32, failing: u32) -> Result<(Extent, Disks), Fa
         start: 3,
         sectors: 5,
     };
-    let disks = several(alloc, children as usize + 1, failing)?;
+    let mut disks = DiskArray::new(Vec::new(alloc));
+    for which in 0..children as usize + 1 {
+        let fault = if which < 32 && failing >> which & 1 == 1 {
+            Fault::From(1)
+        } else {
+            Fault::At(u64::MAX)
+        };
+        disks.push(FaultDisk::new(MemDisk::new(alloc, SIZE)?, fault))?;
+    }
     Ok((extent, disks))
 }
 
@@ -197,26 +191,34 @@ fn tally(
     Ok(format!(in alloc; "{count} {came}")?)
 }
 
-/// The writes of the columns of a block with one parity, which share the bytes of others or have their own.
-fn writes(alloc: Global, are_shared: bool) -> Result<String, Fail> {
-    let (extent, _disks) = fresh(alloc, 1, 0)?;
-    let block = Pattern::BLOCK.bytes(alloc, 2560)?;
-    let mut writes = extent.column_writes(alloc, &block)?;
-    if are_shared {
-        let others = WritesAt { extent, writes };
-        writes = extent.writes_like(alloc, &block, &others)?;
-    }
+/// The writes of the columns of a block with one parity, or those of another copy that shares its bytes, and
+/// what stands at their places once the block is written.
+fn writes(alloc: Global, is_copy: bool) -> Result<String, Fail> {
+    let (extent, mut disks) = fresh(alloc, 1, 0)?;
+    let bytes = Pattern::BLOCK.bytes(alloc, 2560)?;
+    extent.write(&mut disks, alloc, &bytes)?;
+    let block = Arc::new(alloc, bytes.clone()?)?;
+    let first = extent.column_writes(alloc, &block)?;
+    let writes = if is_copy {
+        extent.column_writes(alloc, &block)?
+    } else {
+        first
+    };
     let mut text = String::new(alloc);
     let mut at = 0usize;
     for write in &writes {
-        let (len, place) = (
-            write.bytes().len(),
-            format!(in alloc; "{}@{:#x}", write.disk, write.offset)?,
-        );
+        let (disk, offset) = (write.disk(), write.offset());
+        let len = if at < 2048 { 1024 } else { 512 };
+        let mut there = vec![in alloc; 0; len]?;
+        if disk < disks.len() && disks.size(disk) == SIZE as u64 && offset <= 0x400200 {
+            disks.read(disk, offset, there.as_mut_slice())?;
+        }
         let end = at.saturating_add(len);
-        if text.is_empty() {
-            text.push_str(format!(in alloc; "{place} parity")?.as_str())?;
-        } else if block.get(at..end) == Some(write.bytes()) {
+        let place = format!(in alloc; "{disk}@{offset:#x}")?;
+        if let Some(row) = write.parity(alloc)? {
+            let is_there = row == there;
+            text.push_str(format!(in alloc; "{place} parity {is_there}")?.as_str())?;
+        } else if bytes.get(at..end) == Some(there.as_slice()) {
             text.push_str(format!(in alloc; "; {place} {at}+{len}")?.as_str())?;
             at = end;
         } else {
