@@ -1,16 +1,57 @@
-//! `poolrun` runs a schedule from standard input and prints a reply a line. It takes no words but `--help` and
-//! `--version`. Its status is 0 where the whole schedule was run, and else 2.
+//! `poolrun` runs a schedule from standard input and prints a reply a line. Its words say how many workers make the parity of plans, and how
+//! many threads send the lines behind `threads`. Its status is 0 where the whole schedule was run, and else 2.
 #![tactic(auto)]
 
-use clap::Command;
-use programs::{PoolOnDisks, schedule};
-use std::alloc::Global;
+use clap::{Arg, ArgMatches, Command, value_parser};
+use programs::{Alone, ExitStatus, Planner, PoolOnDisks, Workers, schedule};
+use std::alloc::{AllocError, Global};
 use std::io::{BufReader, BufWriter, ErrorKind};
 use std::process::ExitCode;
 use std::{env, io};
+use thread_schedules::schedule_in_threads;
 
 const ABOUT: &str =
     "Runs a schedule from standard input against a storage pool, and prints a reply a line";
+
+const WORKERS: &str = "This many workers make the parity of plans, each in a thread of its own";
+
+const THREADS: &str =
+    "This many threads send the lines behind `threads`, and the record of all steps is printed";
+
+/// What the words ask for.
+struct Options {
+    workers: Option<usize>,
+    threads: Option<usize>,
+}
+
+/// What comes of the words.
+enum Asked {
+    Run(Options),
+    /// No run: something was told, and this is the status.
+    Told(u8),
+}
+
+/// A number from 1 to 64 that may be left out.
+fn number<'a>(alloc: Global, name: &'a str, letter: char, help: &'a str) -> Arg<'a> {
+    Arg::new(alloc, name)
+        .short(letter)
+        .value_name("N")
+        .value_parser(value_parser!(usize).range(1..=64))
+        .help(help)
+}
+
+fn parser<'a>(alloc: Global) -> Result<Command<'a>, AllocError> {
+    let command = Command::new(alloc, "poolrun").version("1.0").about(ABOUT);
+    let command = command.arg(number(alloc, "workers", 'w', WORKERS))?;
+    command.arg(number(alloc, "threads", 't', THREADS))
+}
+
+fn options_of(matches: &ArgMatches) -> Options {
+    Options {
+        workers: matches.get_one("workers"),
+        threads: matches.get_one("threads"),
+    }
+}
 
 /// Prints what the words ask for in place of a run, and gives the status then.
 fn print_told(rt: &HostRuntime, error: &clap::Error) -> io::Result<u8> {
@@ -18,28 +59,53 @@ fn print_told(rt: &HostRuntime, error: &clap::Error) -> io::Result<u8> {
     Ok(if error.use_stderr() { 2 } else { 0 })
 }
 
-/// The status where the words are others than none, and so nothing is run.
-fn status_by_words(rt: &HostRuntime, alloc: Global) -> io::Result<Option<u8>> {
+fn asked(rt: &HostRuntime, alloc: Global) -> io::Result<Asked> {
     let words: Vec<String> = env::args(rt)?.collect(alloc)?;
-    let command = Command::new(alloc, "poolrun").version("1.0").about(ABOUT);
-    match command.try_get_matches_from(words.as_slice()) {
-        Ok(_) => Ok(None),
-        Err(error) => Ok(Some(print_told(rt, &error)?)),
+    match parser(alloc)?.try_get_matches_from(words.as_slice()) {
+        Ok(matches) => Ok(Asked::Run(options_of(&matches))),
+        Err(error) => Ok(Asked::Told(print_told(rt, &error)?)),
     }
 }
 
-/// Runs the schedule, and gives its status.
-fn run_schedule(rt: &HostRuntime, alloc: Global) -> io::Result<u8> {
+/// Runs the schedule with plans that this planner makes, and gives its status.
+fn run_planned<X: Planner + Sync>(
+    rt: &HostRuntime,
+    planner: &X,
+    alloc: Global,
+    threads: Option<usize>,
+) -> io::Result<u8>
+    requires { X.ready }
+{
     let input = BufReader::new(alloc, rt.reader())?;
     let mut output = BufWriter::new(alloc, io::writer(rt))?;
-    let status = schedule::<PoolOnDisks, _, _, _>(alloc, input, &mut output, &mut rt.stderr());
+    let errors = &mut rt.stderr();
+    let status: ExitStatus = match threads {
+        None => schedule::<PoolOnDisks, _, _, _, _>(planner, alloc, input, &mut output, errors),
+        Some(threads) => schedule_in_threads::<PoolOnDisks, _, _, _, _, _>(
+            rt,
+            planner,
+            alloc,
+            threads.clamp(1, 64),
+            input,
+            &mut output,
+            errors,
+        ),
+    };
     Ok(status.number())
 }
 
 fn run(rt: &HostRuntime) -> io::Result<u8> {
-    match status_by_words(rt, rt.alloc())? {
-        Some(status) => Ok(status),
-        None => run_schedule(rt, rt.alloc()),
+    let alloc = rt.alloc();
+    let options = match asked(rt, alloc)? {
+        Asked::Run(options) => options,
+        Asked::Told(status) => return Ok(status),
+    };
+    match options.workers {
+        None => run_planned(rt, &Alone, alloc, options.threads),
+        Some(workers) => {
+            let workers = Workers::new(rt, workers.max(1));
+            run_planned(rt, &workers, alloc, options.threads)
+        }
     }
 }
 

@@ -13,6 +13,7 @@ ghost use Rattle.schedule_lines.specs.declared.command.Command.{Command};
 use crate::machine::StepMachine;
 use block_store::{MAX_METASLAB_SHIFT, MIN_METASLAB_SHIFT, VdevConfig, sectors_for_blocks};
 use model_disk::MemDisk;
+use planners::{Planner, step_of};
 use pool_create::Core;
 use pool_model::{Refusal, Reply, Step};
 use raidz_map::{Geometry, SECTOR_SHIFT};
@@ -80,8 +81,8 @@ impl StepMachine for Core<MemDisk> {
         Core::create(alloc, disks, &[vdev])
     }
 
-    fn step(&mut self, step: Step) -> Reply {
-        let reply = Core::step(self, step);
+    fn step<X: Planner>(&mut self, planner: &X, step: Step) -> Reply {
+        let reply = step_of(planner, self, step);
         self.answers_are_true();
         reply
     }

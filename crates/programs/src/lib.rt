@@ -18,11 +18,13 @@ mod status;
 mod stopping;
 
 pub use command_steps::written_len;
-pub use commands::{answer, first_step, next_step};
+pub use commands::answer;
 pub use disk_pool::schedules_are_runs;
+pub use line_steps::{first_step, next_step};
 pub use lines::Lines;
 pub use machine::StepMachine;
 pub use outcome::{Outcome, outcome_text};
+pub use planners::{Alone, Planner, Workers};
 pub use pool_create::Core;
 pub use pool_on_disks::{PoolOnDisks, commands_are_runs, stopped_commits_are_runs};
 pub use refusal::Refusal;

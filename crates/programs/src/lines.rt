@@ -58,6 +58,13 @@ impl<R: BufRead + Drop> Lines<R> {
         Refusal::Line(self.count)
     }
 
+    /// The refusal of the line behind that one.
+    pub fn fault_behind(&self) -> Refusal
+        ensures { result ≡ Refusal.Line (counted (self.now.count + 1)) }
+    {
+        Refusal::Line(self.count.saturating_add(1))
+    }
+
     /// The next command, or none at the end of the input.
     pub fn next_command(&mut self, alloc: Global) -> Result<Option<Command>, Refusal>
         ensures found { IfOk result (λ found. MatchOption found

@@ -2,6 +2,7 @@
 ghost use Rattle.std.specs.Prelude.{IfOk, IfErr};
 
 use plain_machine::Machine;
+use planners::Planner;
 use pool_model::{Refusal, Reply, Step};
 use schedule_lines::PoolLine;
 use std::alloc::Global;
@@ -27,8 +28,9 @@ pub trait StepMachine: Drop {
         ensures made { IfOk result (λ pool. creates line.now pool) }
         ensures refused { IfErr result (λ cause. refuses line.now cause) };
 
-    /// One step, taken whole.
-    fn step(&mut self, step: Step) -> Reply
+    /// One step, taken whole. A core over disks has its plans made by that planner.
+    fn step<X: Planner>(&mut self, planner: &X, step: Step) -> Reply
+        requires { X.ready }
         ensures { steps self.old step result self.new };
 }
 
@@ -48,7 +50,7 @@ impl StepMachine for Machine {
         Ok(Machine::create(alloc))
     }
 
-    fn step(&mut self, step: Step) -> Reply {
+    fn step<X: Planner>(&mut self, _planner: &X, step: Step) -> Reply {
         Machine::step(self, step)
     }
 }

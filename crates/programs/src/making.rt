@@ -9,6 +9,7 @@ use crate::disk_pool::vdev_of;
 use crate::machine::StepMachine;
 use block_store::sectors_for_blocks;
 use model_disk::{MemDisk, Member};
+use planners::{Planner, step_of};
 use pool_create::{Core, create};
 use pool_format::PoolIdentity;
 use pool_model::{Refusal, Reply, Step};
@@ -121,8 +122,8 @@ impl StepMachine for Core<Member<MemDisk>> {
         made(alloc, line, sectors)
     }
 
-    fn step(&mut self, step: Step) -> Reply {
-        let reply = Core::step(self, step);
+    fn step<X: Planner>(&mut self, planner: &X, step: Step) -> Reply {
+        let reply = step_of(planner, self, step);
         self.answers_are_true();
         reply
     }

@@ -1,5 +1,5 @@
 //! Pools on disks that outlive them: they can be stopped, and their disks opened again.
-ghost use Rattle.std.specs.Prelude.{◌≡◌, ◌<◌, ◌⊎◌, ℕ, List, None, Some, IfOk, MatchOption};
+ghost use Rattle.std.specs.Prelude.{◌≡◌, ◌<◌, ◌⊎◌, ℕ, List, None, Some, IfOk, MatchOption, option_map};
 ghost use Rattle.std.specs.List.{AllByRecursion};
 ghost use Rattle.pool_create.specs.Represents.{Represents};
 ghost use Rattle.pool_create.specs.CoreState.{CoreState};
@@ -14,13 +14,15 @@ ghost use Rattle.programs.specs.Runs.{IsOneRun, IsStoppedRun};
 ghost use Rattle.programs.specs.declared.outcome.Outcome.{Outcome as Printed};
 
 use crate::claim_stops::{all_kept, all_told, failed_claim};
-use crate::commands::{answer, first_step, runs_on};
+use crate::commands::{answer, runs_on};
 use crate::disks_kept::{copies, put_back};
 use crate::machine::StepMachine;
 use crate::outcome::Outcome;
 use crate::schedule_pool::SchedulePool;
 use crate::stopping::{Point, commit_point, run_to};
+use line_steps::first_step;
 use model_disk::{MemDisk, Member};
+use planners::Planner;
 use pool_create::{Core, OpenedPool, open};
 use pool_model::Refusal;
 use schedule_lines::{Command, PoolLine, ReopenLine, StopPoint};
@@ -74,6 +76,13 @@ impl PoolOnDisks {
         }
     }
 
+    /// The core, where the pool runs. The disks that it doesn't have are dropped.
+    pub fn into_core(self) -> Option<Core<Member<MemDisk>>>
+        ensures { option_map core_state result ≡ (state_of self).core }
+    {
+        self.core
+    }
+
     /// Drops the core, where one runs, and keeps its disks.
     fn close(&mut self)
         ensures core { (state_of self.new).core ≡ None }
@@ -88,7 +97,13 @@ impl PoolOnDisks {
     }
 
     /// Runs a command for which no stop is set.
-    fn run_whole(&mut self, alloc: Global, command: Command) -> Result<Option<Outcome>, AllocError>
+    fn run_whole<X: Planner>(
+        &mut self,
+        planner: &X,
+        alloc: Global,
+        command: Command,
+    ) -> Result<Option<Outcome>, AllocError>
+        requires ready { X.ready }
         requires step { IsNoStep command → ⊥ }
         requires unset { point_of (state_of self.old) command ≡ None }
         ensures { IfOk result (λ found. MatchOption found ((state_of self.old).core ≡ None)
@@ -96,7 +111,7 @@ impl PoolOnDisks {
     {
         match &mut self.core {
             None => Ok(None),
-            Some(core) => match answer(alloc, core, command)? {
+            Some(core) => match answer(planner, alloc, core, command)? {
                 None => Ok(None),
                 Some(reply) => Ok(Some(Outcome::Replied(reply))),
             },
@@ -104,12 +119,14 @@ impl PoolOnDisks {
     }
 
     /// Runs a commit to the point at which it stops.
-    fn run_to_point(
+    fn run_to_point<X: Planner>(
         &mut self,
+        planner: &X,
         alloc: Global,
         command: Command,
         point: Point,
     ) -> Result<Option<Outcome>, AllocError>
+        requires ready { X.ready }
         requires step { IsNoStep command → ⊥ }
         requires set { point_of (state_of self.old) command ≡ Some point }
         ensures { IfOk result (λ found. MatchOption found ((state_of self.old).core ≡ None)
@@ -122,7 +139,7 @@ impl PoolOnDisks {
         let Some(core) = &mut self.core else {
             return Ok(None);
         };
-        let Some(reply) = run_to(core, step, point) else {
+        let Some(reply) = run_to(planner, core, step, point) else {
             self.close();
             self.stop = None;
             return Ok(Some(Outcome::Stopped));
@@ -131,14 +148,20 @@ impl PoolOnDisks {
     }
 
     /// Runs a command that is a step of the pool: none where no pool runs.
-    fn run_steps(&mut self, alloc: Global, command: Command) -> Result<Option<Outcome>, AllocError>
+    fn run_steps<X: Planner>(
+        &mut self,
+        planner: &X,
+        alloc: Global,
+        command: Command,
+    ) -> Result<Option<Outcome>, AllocError>
+        requires ready { X.ready }
         requires step { IsNoStep command → ⊥ }
         ensures { IfOk result (λ found. MatchOption found ((state_of self.old).core ≡ None)
             (λ outcome. TakesSteps (state_of self.old) command outcome (state_of self.new))) }
     {
         match self.point_of(&command) {
-            None => self.run_whole(alloc, command),
-            Some(point) => self.run_to_point(alloc, command, point),
+            None => self.run_whole(planner, alloc, command),
+            Some(point) => self.run_to_point(planner, alloc, command, point),
         }
     }
 
@@ -227,8 +250,9 @@ impl SchedulePool for PoolOnDisks {
         })
     }
 
-    fn run_command(
+    fn run_command<X: Planner>(
         &mut self,
+        planner: &X,
         alloc: Global,
         command: Command,
     ) -> Result<Option<Outcome>, AllocError> {
@@ -244,7 +268,7 @@ impl SchedulePool for PoolOnDisks {
                 }
                 Ok(Some(self.reopen(alloc, line)?))
             }
-            other => self.run_steps(alloc, other),
+            other => self.run_steps(planner, alloc, other),
         }
     }
 }

@@ -10,6 +10,7 @@ use crate::outcome::{Outcome, outcome_text};
 use crate::refusal::Refusal;
 use crate::schedule_pool::SchedulePool;
 use crate::status::ExitStatus;
+use planners::Planner;
 use pool_model::Reply;
 use schedule_lines::Command;
 use std::alloc::Global;
@@ -37,12 +38,14 @@ fn print_reply<W: Write>(alloc: Global, output: &mut W, reply: &Outcome) -> Resu
 }
 
 /// Runs the lines behind the first against a pool.
-fn run_lines<P: SchedulePool, R: BufRead + Drop, W: Write>(
+fn run_lines<P: SchedulePool, X: Planner, R: BufRead + Drop, W: Write>(
+    planner: &X,
     alloc: Global,
     mut pool: P,
     lines: &mut Lines<R>,
     output: &mut W,
 ) -> Result<(), Refusal>
+    requires { X.ready }
     ensures ok { OnOk result (AnswersAll P.outcomes pool (R.remaining lines.old.input)
         (W.contents output.old) (W.contents output.new)) }
     ensures fault { IfErr result (IsPoolFault P.outcomes P.faults pool
@@ -53,7 +56,7 @@ fn run_lines<P: SchedulePool, R: BufRead + Drop, W: Write>(
         let Some(command) = lines.next_command(alloc)? else {
             return Ok(());
         };
-        let Some(reply) = pool.run_command(alloc, command)? else {
+        let Some(reply) = pool.run_command(planner, alloc, command)? else {
             return Err(lines.fault());
         };
         print_reply(alloc, output, &reply)?;
@@ -61,11 +64,13 @@ fn run_lines<P: SchedulePool, R: BufRead + Drop, W: Write>(
     Err(Refusal::Input)
 }
 
-fn run_schedule<P: SchedulePool, R: BufRead + Drop, W: Write>(
+fn run_schedule<P: SchedulePool, X: Planner, R: BufRead + Drop, W: Write>(
+    planner: &X,
     alloc: Global,
     input: R,
     output: &mut W,
 ) -> Result<(), Refusal>
+    requires { X.ready }
     ensures ok { OnOk result (RunsSchedule P.creates P.refuses P.outcomes
         (R.remaining input) (W.contents output.old) (W.contents output.new)) }
     ensures fault { IfErr result (IsFaultOf P.creates P.refuses P.outcomes P.faults
@@ -81,7 +86,7 @@ fn run_schedule<P: SchedulePool, R: BufRead + Drop, W: Write>(
     match P::create(alloc, &line) {
         Ok(pool) => {
             print(output, "pool 3 claim 1")?;
-            run_lines(alloc, pool, &mut lines, output)
+            run_lines(planner, alloc, pool, &mut lines, output)
         }
         Err(refusal) => {
             let refused = Outcome::Replied(Reply::Refused(refusal));
@@ -99,19 +104,22 @@ fn run_schedule<P: SchedulePool, R: BufRead + Drop, W: Write>(
 ///
 /// It ends at the first fault, which is told on `errors` as `poolrun: line N`, where lines are counted from 1, or as
 /// `poolrun: input`, `poolrun: output` or `poolrun: out of memory`; what stands on the output by then stays. Where the pool
-/// can't be made, its refusal is printed, and each later line that isn't skipped is a fault.
-pub fn schedule<P: SchedulePool, R: BufRead + Drop, W: Write, E: Write>(
+/// can't be made, its refusal is printed, and each later line that isn't skipped is a fault. Plans are made by the planner,
+/// whose workers make what one thread makes.
+pub fn schedule<P: SchedulePool, X: Planner, R: BufRead + Drop, W: Write, E: Write>(
+    planner: &X,
     alloc: Global,
     input: R,
     output: &mut W,
     errors: &mut E,
 ) -> ExitStatus
+    requires { X.ready }
     // The lines were read to their end, and what was printed is what comes of them.
     // Or there is a cause why not: a line that can't be run, behind lines that were.
     ensures { EndsAs P.creates P.refuses P.outcomes P.faults
         (R.remaining input) (W.contents output.old) (W.contents output.new) result }
 {
-    match run_schedule::<P, R, W>(alloc, input, output) {
+    match run_schedule::<P, X, R, W>(planner, alloc, input, output) {
         Ok(()) => ExitStatus::Done,
         Err(refusal) => {
             // Where this can't be told either, the status still says it.

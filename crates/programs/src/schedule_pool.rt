@@ -4,6 +4,7 @@ ghost use Rattle.std.specs.Prelude.{IfErr, IfOk, MatchOption};
 use crate::commands::answer;
 use crate::machine::StepMachine;
 use crate::outcome::Outcome;
+use planners::Planner;
 use pool_model::Refusal;
 use schedule_lines::{Command, PoolLine};
 use std::alloc::{AllocError, Global};
@@ -33,11 +34,13 @@ pub trait SchedulePool: Drop {
         ensures refused { IfErr result (λ cause. refuses line.now cause) };
 
     /// Runs a command: none where it can't stand here. After an error the pool is of no more use.
-    fn run_command(
+    fn run_command<X: Planner>(
         &mut self,
+        planner: &X,
         alloc: Global,
         command: Command,
     ) -> Result<Option<Outcome>, AllocError>
+        requires { X.ready }
         ensures { IfOk result (λ found. MatchOption found (faults self.old command)
             (λ outcome. outcomes self.old command outcome self.new)) };
 }
@@ -59,12 +62,13 @@ impl<P: StepMachine> SchedulePool for P {
         <P as StepMachine>::create(alloc, line)
     }
 
-    fn run_command(
+    fn run_command<X: Planner>(
         &mut self,
+        planner: &X,
         alloc: Global,
         command: Command,
     ) -> Result<Option<Outcome>, AllocError> {
-        match answer(alloc, self, command)? {
+        match answer(planner, alloc, self, command)? {
             None => Ok(None),
             Some(reply) => Ok(Some(Outcome::Replied(reply))),
         }

@@ -3,8 +3,9 @@ ghost use Rattle.std.specs.Prelude.{◌≡◌, ◌<◌, ◌≤◌, MatchOption};
 ghost use Rattle.programs.specs.Stops.{FallsShort, StopsAt, after_blocks, after_slots, commit_point, in_use_below, is_left_out};
 ghost use Rattle.programs.specs.Stops.{is_moved as moved, is_same as same};
 
-use crate::commands::next_step;
 use crate::machine::StepMachine;
+use line_steps::next_step;
+use planners::Planner;
 use pool_model::{Phase, Reply, Step};
 use schedule_lines::StopPoint;
 
@@ -38,12 +39,18 @@ fn is_moved(phase: Phase, reply: &Reply) -> bool
 }
 
 /// Takes a step, and each step that brings its group on, until the point is reached: none then, and else the last reply.
-pub(crate) fn run_to<P: StepMachine>(pool: &mut P, step: Step, point: Point) -> Option<Reply>
+pub(crate) fn run_to<P: StepMachine, X: Planner>(
+    planner: &X,
+    pool: &mut P,
+    step: Step,
+    point: Point,
+) -> Option<Reply>
+    requires { X.ready }
     ensures { MatchOption result (StopsAt P.steps point pool.old step pool.new)
         (λ last. FallsShort P.steps point pool.old step last pool.new) }
 {
     let mut left = point.before;
-    let mut reply = pool.step(step);
+    let mut reply = pool.step(planner, step);
     for _ in 0..u64::MAX {
         if is_moved(point.phase, &reply) {
             if left == 0 {
@@ -54,7 +61,7 @@ pub(crate) fn run_to<P: StepMachine>(pool: &mut P, step: Step, point: Point) -> 
         let Some(step) = next_step(&reply) else {
             return Some(reply);
         };
-        reply = pool.step(step);
+        reply = pool.step(planner, step);
     }
     Some(reply)
 }

@@ -18,12 +18,14 @@ history core origin start entries sealed total begun calls =
 
 -- an empty record
 pub record_new : {C : Type 0} (g : Ghosts C) (core origin start : C) (entries : List Entry) (total begun calls : ℕ)
-    → origin ≡ core → start ≡ core → entries ≡ [] → total ≡ 0 → begun ≡ calls → g.came_from core core → (v : View) × g.represents core v
-    → IsRecord g (history core origin start entries 0 total begun calls)
+    → origin ≡ core → start ≡ core → entries ≡ [] → total ≡ 0 → begun ≡ calls → g.came_from core core
+    → (g.answers_truly core core → (v : View) × g.represents core v) → IsRecord g (history core origin start entries 0 total begun calls)
 record_new {C} g core origin start entries total begun calls from_core at_core none uncounted began same sound = record {
   sealed_before = subst (λ (p : C × C). g.came_from p.0 p.1) (λ i. (sym from_core i, sym at_core i)) same;
   since = subst (λ (s : C). g.came_from s core) (sym at_core) same;
-  replays = λ truly. subst (λ (p : C × List Entry). Replays g p.0 p.1 core) (λ i. (sym at_core i, sym none i)) (replays_none g core sound.0 sound.1);
+  replays = λ truly.
+      let v = sound (subst (λ (o : C). g.answers_truly o core) from_core truly) in
+      subst (λ (p : C × List Entry). Replays g p.0 p.1 core) (λ i. (sym at_core i, sym none i)) (replays_none g core v.0 v.1);
   counts = omega (arith, ap writers_steps none, uncounted);
   called = omega (arith, ap (λ (es : List Entry). length es) none, began);
 }

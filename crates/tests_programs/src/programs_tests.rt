@@ -5,7 +5,7 @@ ghost use Rattle.pool_model.specs.declared.refusal.Refusal.TheVariants.{BadConfi
 use crate::telling::{expect_none, told_of, told_otherwise};
 use plain_machine::Machine;
 use pool_model::{Phase, Refusal, Reply, Step};
-use programs::{ExitStatus, Refusal as Cause, StepMachine, schedule, written_len};
+use programs::{Alone, ExitStatus, Planner, Refusal as Cause, StepMachine, schedule, written_len};
 use schedule_lines::PoolLine;
 use std::alloc::Global;
 use std::io;
@@ -84,7 +84,7 @@ impl StepMachine for Scripted {
         Ok(Scripted { devices: 0 })
     }
 
-    fn step(&mut self, step: Step) -> Reply {
+    fn step<X: Planner>(&mut self, _planner: &X, step: Step) -> Reply {
         match step {
             Step::Close => Reply::Closed(4),
             Step::Quiesce => Reply::Quiesced(4),
@@ -189,7 +189,7 @@ fn status_with(alloc: Global, (room, flushes): (usize, bool), told: usize) -> Ex
         flushes: false,
     };
     let text = "pool 1 3 8388608 12 2\nhold 1\n";
-    schedule::<Machine, _, _, _>(alloc, text.as_bytes(), &mut output, &mut errors)
+    schedule::<Machine, _, _, _, _>(&Alone, alloc, text.as_bytes(), &mut output, &mut errors)
 }
 
 #[test]
@@ -204,7 +204,13 @@ fn errors_with(alloc: Global, (room, flushes): (usize, bool)) -> Result<String, 
     let mut output = Narrow { room, flushes };
     let mut errors = Vec::new(alloc);
     let text = "pool 1 3 8388608 12 2\nhold 1\n";
-    let _ = schedule::<Machine, _, _, _>(alloc, text.as_bytes(), &mut output, &mut errors);
+    let _ = schedule::<Machine, _, _, _, _>(
+        &Alone,
+        alloc,
+        text.as_bytes(),
+        &mut output,
+        &mut errors,
+    );
     Ok(String::from_utf8(errors)?)
 }
 

@@ -1,6 +1,6 @@
 //! Pools on disks that are stopped and opened again.
-use crate::telling::{all_ran_otherwise, expect_none, told_otherwise};
-use programs::PoolOnDisks;
+use crate::telling::{all_ran_otherwise, expect_none, planned_otherwise, told_otherwise};
+use programs::{PoolOnDisks, Workers};
 use std::test::*;
 
 /// A pool at group 8.
@@ -200,6 +200,18 @@ fn claims_are_stopped_and_groups_gone_back(rt: HostRuntime) -> Result<(), Fail> 
         &rt,
         all_ran_otherwise::<PoolOnDisks>(rt.alloc(), &STOPPED_CLAIMS),
     )
+}
+
+#[test]
+fn workers_plan_what_one_thread_plans(rt: HostRuntime) -> Result<(), Fail> {
+    for workers in [1, 2, 4] {
+        let planner = Workers::new(&rt, workers);
+        for schedules in [&STOPPED_COMMITS, &STOPPED_CLAIMS] {
+            let others = planned_otherwise::<PoolOnDisks, _>(&planner, rt.alloc(), schedules);
+            expect_none(&rt, others)?;
+        }
+    }
+    Ok(())
 }
 
 /// What can't stand behind a stop, or at all: a disk that isn't there can't be left out.

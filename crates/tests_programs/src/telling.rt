@@ -1,6 +1,6 @@
 //! What running a schedule tells.
 use pool_model::{Refusal, Reply};
-use programs::{SchedulePool, StepMachine, answer, schedule};
+use programs::{Alone, Planner, SchedulePool, StepMachine, answer, schedule};
 use schedule_lines::{Line, parse};
 use std::alloc::Global;
 use std::io::BufRead;
@@ -44,9 +44,20 @@ pub fn told_of<P: SchedulePool, R: BufRead + Drop>(
     alloc: Global,
     input: R,
 ) -> Result<String, Fail> {
+    told_by::<P, _, R>(&Alone, alloc, input)
+}
+
+/// The same where that planner makes the plans.
+fn told_by<P: SchedulePool, X: Planner, R: BufRead + Drop>(
+    planner: &X,
+    alloc: Global,
+    input: R,
+) -> Result<String, Fail>
+    requires { X.ready }
+{
     let mut output = Vec::new(alloc);
     let mut errors = Vec::new(alloc);
-    let status = schedule::<P, _, _, _>(alloc, input, &mut output, &mut errors);
+    let status = schedule::<P, _, _, _, _>(planner, alloc, input, &mut output, &mut errors);
     let output = String::from_utf8(output)?;
     let errors = String::from_utf8(errors)?;
     Ok(format!(in alloc; "{output}{errors}{}", status.number())?)
@@ -84,6 +95,25 @@ pub fn ran_otherwise<P: SchedulePool>(alloc: Global, parts: &[&str]) -> Result<S
     })
 }
 
+/// What rows tell where that planner makes the plans, and they don't say that, one behind another.
+pub fn planned_otherwise<P: SchedulePool, X: Planner>(
+    planner: &X,
+    alloc: Global,
+    schedules: &[&[&str]],
+) -> Result<String, Fail>
+    requires { X.ready }
+{
+    let mut others = String::new(alloc);
+    for parts in schedules {
+        let input = fronts(alloc, parts)?;
+        let told = told_by::<P, X, _>(planner, alloc, input.as_bytes())?;
+        if told != backs(alloc, parts)? {
+            others.push_str(told.as_str())?;
+        }
+    }
+    Ok(others)
+}
+
 /// The same of several schedules, one behind another.
 pub fn all_ran_otherwise<P: SchedulePool>(
     alloc: Global,
@@ -108,7 +138,7 @@ pub fn reply_to<P: StepMachine>(alloc: Global, pool: &mut P, line: &str) -> Resu
     let Line::Command(command) = parse(alloc, line.as_bytes())? else {
         return Err(Fail::from(Refusal::BadConfig));
     };
-    match answer(alloc, pool, command)? {
+    match answer(&Alone, alloc, pool, command)? {
         Some(reply) => Ok(reply),
         None => Err(Fail::from(Refusal::NotNow)),
     }

@@ -1,4 +1,5 @@
-//! Tests of pools that threads share, over the machine in memory, of workers, and of plans that they share.
+//! Tests of pools that threads share, over the machine in memory, of schedules of which threads run a part, of workers, and of plans
+//! that they share.
 #![tactic(auto)]
 
 #[cfg(test)]
@@ -9,5 +10,7 @@ mod gates;
 mod in_threads;
 #[cfg(test)]
 mod made;
+#[cfg(test)]
+mod schedules;
 #[cfg(test)]
 mod shared_plans;

@@ -1,5 +1,5 @@
 -- The steps that writers ask for.
-use Rattle.std.specs.Prelude.{ℕ}
+use Rattle.std.specs.Prelude.{ℕ, List, [], ◌∷◌, nat_eq, Bool, true, false, if◌then◌else◌}
 use Rattle.pool_model.specs.declared.step.Step.{Step}
 use Rattle.pool_model.specs.declared.step.Step.TheVariants as step
 use Rattle.thread_runs.specs.declared.writer_line.Ask.{Ask}
@@ -15,3 +15,26 @@ asked writer (Act number change) = step.Act (record { writer = writer; number = 
 
 abbrev pub step_of : WriterLine → Step
 step_of line = asked line.writer line.ask
+
+-- ---- what a step is to threads
+
+-- a writer asks for it
+abbrev pub is_asked : Step → Bool
+is_asked (step.Hold writer) = true
+is_asked (step.Release writer) = true
+is_asked (step.Write write) = true
+is_asked (step.Act action) = true
+is_asked _ = false
+
+-- it reads what all accepted groups make
+abbrev pub is_read : Step → Bool
+is_read (step.Read name offset len) = true
+is_read _ = false
+
+-- it may stand behind lines of which so many read: a writer's where none does, and one that reads
+abbrev pub may_follow : ℕ → Step → Bool
+may_follow reads s = if is_asked s then nat_eq reads 0 else is_read s
+
+-- the step, where it is so
+abbrev pub only_if : Bool → Step → List Step
+only_if is s = if is then s ∷ [] else []

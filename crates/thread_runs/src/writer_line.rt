@@ -1,6 +1,6 @@
 //! What writers ask for.
-ghost use Rattle.std.specs.Prelude.{◌≡◌, MatchResult};
-ghost use Rattle.thread_runs.specs.Asking.{step_of};
+ghost use Rattle.std.specs.Prelude.{◌≡◌, MatchResult, false};
+ghost use Rattle.thread_runs.specs.Asking.{is_asked, step_of};
 
 use pool_model::{Action, Bytes, Change, Name, Step, Write};
 
@@ -30,7 +30,8 @@ pub enum Ask {
 
 /// The step as a writer's line, where it is one; else the step itself.
 pub(crate) fn line_of(step: Step) -> Result<WriterLine, Step>
-    ensures { MatchResult result (λ line. step_of line ≡ step) (λ other. other ≡ step) }
+    ensures { MatchResult result (λ line. step_of line ≡ step)
+        (λ other. (other ≡ step) × (is_asked step ≡ false)) }
 {
     match step {
         Step::Hold(writer) => Ok(WriterLine {

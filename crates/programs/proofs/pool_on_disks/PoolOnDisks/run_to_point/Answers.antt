@@ -7,7 +7,7 @@ use Rattle.programs.proofs.StatesOf.{Shown, same_state, short_shown, stops_shown
 use Rattle.programs.proofs.pool_on_disks.PoolOnDisks.run_to_point.Goals as goal
 
 pub returns-in_default-run_to : goal.returns-in_default-run_to
-returns-in_default-run_to c =
+returns-in_default-run_to g c =
     let begins : Begins c.args.command c.in-Some.step = rw c.in-Some.is at c.in_ok-step.ensures in
     let stops : StopsAt (Shown core_state StepsTruly) c.args.point c.in-Some-core.core c.in-Some.step c.run_to.new.pool = rw c.in_default-run_to.is at c.run_to.ensures in
     inr (record {
@@ -27,7 +27,7 @@ returns-in_default-run_to c =
     })
 
 pub returns : goal.returns
-returns c =
+returns g c =
     let begins : Begins c.args.command c.in-Some.step = rw c.in-Some.is at c.in_ok-step.ensures in
     let short : FallsShort (Shown core_state StepsTruly) c.args.point c.in-Some-core.core c.in-Some.step c.in-Some-run_to.reply c.run_to.new.pool = rw c.in-Some-run_to.is at c.run_to.ensures in
     inl (record {

@@ -6,7 +6,7 @@ use Rattle.programs.proofs.StatesOf.{Shown, answers_shown}
 use Rattle.programs.proofs.pool_on_disks.PoolOnDisks.run_whole.Goals as goal
 
 pub returns-in-Some-2 : goal.returns-in-Some-2
-returns-in-Some-2 c =
+returns-in-Some-2 g c =
     let answered : Answers (Shown core_state StepsTruly) c.in-Some.core c.args.command c.in-Some-2.reply c.answer.new.pool = rw c.in-Some-2.is at c.in_ok-answer-in-Some.ensures.ok in
     record {
       core = core_state c.in-Some.core;

@@ -1,0 +1,244 @@
+//! Schedules of which threads run a part: what they print, and that it is a schedule which gives the replies that it says.
+ghost use Rattle.std.specs.Prelude.{◌<◌, ◌≤◌};
+
+use programs::{Alone, PoolOnDisks, Workers, schedule};
+use std::alloc::{AllocError, Global};
+use std::process::Abort;
+use std::sync::Wait;
+use std::test::*;
+use std::thread::Threads;
+use thread_schedules::schedule_in_threads;
+
+/// What was printed and told, and the number at the end.
+struct Told {
+    output: String,
+    errors: String,
+    number: u8,
+}
+
+fn told_in_threads<R: Threads + Wait + Sync>(
+    rt: &R,
+    alloc: Global,
+    threads: usize,
+    input: &str,
+) -> Result<Told, Fail>
+    requires { (0 < threads) × (threads ≤ 64) }
+{
+    let mut output = Vec::new(alloc);
+    let mut errors = Vec::new(alloc);
+    let status = schedule_in_threads::<PoolOnDisks, _, _, _, _, _>(
+        rt,
+        &Workers::new(rt, threads),
+        alloc,
+        threads,
+        input.as_bytes(),
+        &mut output,
+        &mut errors,
+    );
+    Ok(Told {
+        output: String::from_utf8(output)?,
+        errors: String::from_utf8(errors)?,
+        number: status.number(),
+    })
+}
+
+/// What one thread replies to a schedule, and the number at the end.
+fn replied(alloc: Global, input: &str) -> Result<String, Fail> {
+    let mut output = Vec::new(alloc);
+    let mut errors = Vec::new(alloc);
+    let status = schedule::<PoolOnDisks, _, _, _, _>(
+        &Alone,
+        alloc,
+        input.as_bytes(),
+        &mut output,
+        &mut errors,
+    );
+    let output = String::from_utf8(output)?;
+    let errors = String::from_utf8(errors)?;
+    Ok(format!(in alloc; "{output}{errors}{}", status.number())?)
+}
+
+/// The replies that stand in a schedule as comments, and the number of one that is run to its end.
+fn said(alloc: Global, recounted: &str) -> Result<String, AllocError> {
+    let mut text = String::new(alloc);
+    for line in recounted.lines() {
+        if let Some(reply) = line.strip_prefix("# ") {
+            text.push_str(reply)?;
+            text.push_str("\n")?;
+        }
+    }
+    text.push_str("0")?;
+    Ok(text)
+}
+
+/// A schedule is run to its end by so many threads, the last thing that it prints is this, and what it prints replays.
+fn expect_replay<R: Threads + Wait + Abort + Sync>(
+    rt: &R,
+    alloc: Global,
+    threads: usize,
+    input: &str,
+    last: &str,
+) -> Result<(), Fail>
+    requires { (0 < threads) × (threads ≤ 64) }
+{
+    let told = told_in_threads(rt, alloc, threads, input)?;
+    assert_eq!(rt; (told.errors.as_str(), told.number), ("", 0));
+    assert!(rt; told.output.as_str().ends_with(last), "{}", told.output);
+    let replies = replied(alloc, told.output.as_str())?;
+    assert!(rt;
+        replies == said(alloc, told.output.as_str())?,
+        "{}",
+        told.output
+    );
+    Ok(())
+}
+
+/// Four writers, each of whom writes its block.
+const FOUR: &str = "hold 1
+write 1 2 v 0 512 01
+release 1
+hold 2
+write 2 1 v 512 512 02
+release 2
+hold 3
+write 3 1 v 1024 512 03
+release 3
+hold 4
+write 4 1 v 1536 512 04
+release 4
+read v 0 2048
+";
+
+/// A pool with a volume, of which threads run what comes next.
+const MADE: &str = "pool 1 3 8388608 12 2
+hold 1
+create 1 1 v 2048 512
+release 1
+sync
+threads
+";
+
+/// The same, opened again without a disk; and a stop is set, which no commit of the threads looks at.
+const OPENED: &str = "# a pool
+pool 1 3 8388608 12 2
+hold 1
+create 1 1 v 2048 512
+release 1
+
+sync
+stop blocks
+sync
+reopen 0 1
+stop slots 1
+threads
+";
+
+const READ: &str = "\nread v 0 2048\n# 01x512 02x512 03x512 04x512\n";
+
+#[test]
+fn four_writers_of_a_schedule(rt: HostRuntime) -> Result<(), Fail> {
+    let alloc = rt.alloc();
+    for front in [MADE, OPENED] {
+        let input = format!(in alloc; "{front}{FOUR}")?;
+        for threads in 1..5 {
+            expect_replay(&rt, alloc, threads, input.as_str(), READ)?;
+        }
+    }
+    Ok(())
+}
+
+/// The lines of one writer's turn: a write, or a snapshot.
+fn turn(alloc: Global, text: &mut String, writer: u64, round: u64) -> Result<(), AllocError> {
+    let line = if writer == 16 {
+        format!(in alloc; "hold 16\nsnapshot 16 {round} v s{round}\nrelease 16\n")?
+    } else {
+        let number = if writer == 1 { round + 1 } else { round };
+        let offset = writer * 512;
+        let byte = round % 90 + 10;
+        format!(in alloc;
+            "hold {writer}\nwrite {writer} {number} v {offset} 512 {byte}\nrelease {writer}\n"
+        )?
+    };
+    text.push_str(line.as_str())
+}
+
+/// So many rounds of writers 1 to 15, and of each hundredth one also a snapshot by writer 16.
+fn rounds(alloc: Global, rounds: u64) -> Result<String, Fail>
+    requires { rounds < 100000 }
+{
+    let mut text = String::new(alloc);
+    text.push_str(
+        "pool 1 3 8388608 12 2\nhold 1\ncreate 1 1 v 8192 512\nrelease 1\nsync\nthreads\n",
+    )?;
+    for round in 1..rounds + 1 {
+        for writer in 1..16 {
+            turn(alloc, &mut text, writer, round)?;
+        }
+        if round % 100 == 0 {
+            turn(alloc, &mut text, 16, round / 100)?;
+        }
+    }
+    text.push_str("read v 512 512\nread v@s1 0 0\n")?;
+    Ok(text)
+}
+
+const MANY: &str = "\nread v@s1 0 0\n# empty\n";
+
+#[test]
+fn sixteen_writers_and_twenty_thousand_lines(rt: HostRuntime) -> Result<(), Fail> {
+    let input = rounds(rt.alloc(), 444)?;
+    expect_replay(&rt, rt.alloc(), 4, input.as_str(), MANY)
+}
+
+/// Schedules, and what is told: the output, the fault, and the number at the end.
+const FAULTS: [(&str, &str); 11] = [
+    ("", "poolrun: line 1\n2"),
+    (
+        "pool 1 3 8388608 12 2\n#\n",
+        "pool 1 3 8388608 12 2\n# pool 3 claim 1\npoolrun: line 3\n2",
+    ),
+    (
+        "pool 1 3 8388608 12 2\nthreads\n\nthreads\n",
+        "pool 1 3 8388608 12 2\n# pool 3 claim 1\npoolrun: line 4\n2",
+    ),
+    (
+        "pool 1 3 8388608 12 2\nthreads\nhold 1\nsync\n",
+        "pool 1 3 8388608 12 2\n# pool 3 claim 1\npoolrun: line 4\n2",
+    ),
+    (
+        "pool 1 3 8388608 12 2\nsync\nthreads\nread v 0 0\nwrite 1 1 v 0 0 00\n",
+        "pool 1 3 8388608 12 2\n# pool 3 claim 1\nsync\n# committed 4\npoolrun: line 5\n2",
+    ),
+    (
+        "pool 1 3 8388608 12 2\nthreads\nunder 3 v 0 0\n",
+        "pool 1 3 8388608 12 2\n# pool 3 claim 1\npoolrun: line 3\n2",
+    ),
+    (
+        "pool 1 3 8388608 12 2\nthreads\nhold  1\n",
+        "pool 1 3 8388608 12 2\n# pool 3 claim 1\npoolrun: line 3\n2",
+    ),
+    ("hold 1\nthreads\n", "poolrun: line 1\n2"),
+    ("threads\n", "0"),
+    (
+        "pool 1 3 0 12 2\nthreads\nhold 1\n",
+        "pool 1 3 0 12 2\n# refused 24 BadConfig\npoolrun: line 3\n2",
+    ),
+    (
+        "pool 1 3 8388608 12 2\nstop blocks\nsync\nthreads\nhold 1\n",
+        "pool 1 3 8388608 12 2\n# pool 3 claim 1\nstop blocks\n# stop\nsync\n# stopped\npoolrun: line 5\n2",
+    ),
+];
+
+#[test]
+fn faults_of_lines_are_told(rt: HostRuntime) -> Result<(), Fail> {
+    for (input, wanted) in FAULTS {
+        let Told {
+            output,
+            errors,
+            number,
+        } = told_in_threads(&rt, rt.alloc(), 2, input)?;
+        let told = format!(in rt.alloc(); "{output}{errors}{number}")?;
+        assert_eq!(&rt; told.as_str(), wanted);
+    }
+    Ok(())
+}

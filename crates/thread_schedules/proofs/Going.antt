@@ -1,0 +1,57 @@
+-- What may go to another thread: a core over disks in memory.
+use mir.Syntax.{Dict}
+use denote.RattleType.{RattleType}
+use denote.Param.Send.{IsSend, sendable, struct_send, recorded_send as row_send}
+use denote.Struct.Declared.{shape}
+use Rattle.std.proofs.Crossing.{Arc-send, Deque-send, Vec-send}
+use Rattle.model_disk.specs.declared.disk.Disk.{Ghosts}
+use Rattle.model_disk.specs.contracts.array.DiskArray.TheInside as array
+use Rattle.model_disk.specs.contracts.array.DiskArray.{the_row as array_row}
+use Rattle.model_disk.specs.contracts.member.Member.{the_row as member_row}
+use Rattle.model_disk.specs.contracts.memory.MemDisk.{the_row as memory_row}
+use Rattle.model_disk.specs.contracts.memory.MemDiskDisk.TheImpl.{ghosts as memory_ghosts}
+use Rattle.model_disk.specs.contracts.member.MemberDisk.TheImpl.{ghosts as member_ghosts}
+use Rattle.disk_set.specs.contracts.set.DiskSet.TheInside as set
+use Rattle.disk_set.specs.contracts.set.DiskSet.{the_row as set_row}
+use Rattle.block_store.specs.contracts.store.BlockStore.TheInside as store
+use Rattle.block_store.specs.contracts.store.BlockStore.{the_row as store_row}
+use Rattle.block_store.proofs.space.VdevMetaslabs.TheSendSync as metaslabs
+use Rattle.raidz_io.proofs.writes.ColumnWrite.TheSendSync as writes
+use Rattle.pool_commit.specs.contracts.commit.Commit.{the_row as commit_row}
+use Rattle.pool_commit.proofs.kept.Kept.TheSendSync as kept
+use Rattle.pool_commit.proofs.kept.Planned.TheSendSync as planned
+use Rattle.pool_intake.proofs.intake.Intake.TheSendSync as intake
+use Rattle.pool_core.specs.contracts.pool.Core.{the_row as core_row}
+
+-- ---- disks, and what stands over them, whatever they are
+
+inside_array : (D : RattleType) (g : Ghosts D.Denot) → IsSend D → IsSend (array.the_row D g)
+inside_array D g d = row_send (array.the_field D g).row _ _ (array.the_type D g).to_one (struct_send (shape (array.the_type D g)) (search (sendable, Vec-send) depth 16, (search sendable depth 16, tt)))
+
+array_goes : (D : RattleType) (g : Ghosts D.Denot) → IsSend D → IsSend (array_row D g)
+array_goes D g d = search (sendable, inside_array)
+
+inside_set : (D : RattleType) (g : Ghosts D.Denot) → IsSend D → IsSend (set.the_row D g)
+inside_set D g d =
+
+    row_send (set.the_field D g).row _ _ (set.the_type D g).to_one
+    (struct_send (shape (set.the_type D g)) (array_goes D g d, (search (sendable, Vec-send) depth 16, (search (sendable, Vec-send) depth 16, (search sendable, (search (sendable, writes.the_send, Deque-send, Vec-send) depth 20, tt))))))
+
+set_goes : (D : RattleType) (g : Ghosts D.Denot) → IsSend D → IsSend (set_row D g)
+set_goes D g d = search (sendable, inside_set)
+
+inside_store : (D : RattleType) (g : Ghosts D.Denot) → IsSend D → IsSend (store.the_row D g)
+inside_store D g d =
+    row_send (store.the_field D g).row _ _ (store.the_type D g).to_one
+    (struct_send (shape (store.the_type D g)) (set_goes D g d, (search (sendable, metaslabs.the_send, Vec-send) depth 16, (search sendable, (search (sendable, Vec-send) depth 16, tt)))))
+
+store_goes : (D : RattleType) (g : Ghosts D.Denot) → IsSend D → IsSend (store_row D g)
+store_goes D g d = search (sendable, inside_store)
+
+-- ---- over disks in memory
+
+member_goes : IsSend (member_row memory_row)
+member_goes = search (sendable, Vec-send) depth 30
+
+over_members : (a b : Dict) → IsSend (store_row (member_row memory_row) (member_ghosts memory_row memory_ghosts a b))
+over_members a b = store_goes _ _ member_goes

@@ -1,0 +1,5 @@
+pub mod Stages
+pub mod Kinds
+pub mod Inputs
+pub mod Runs
+pub mod Ends
