@@ -3,6 +3,7 @@ use mir.Syntax.{Dict}
 use denote.RattleType.{RattleType}
 use denote.Param.Send.{IsSend, sendable, struct_send, recorded_send as row_send}
 use denote.Struct.Declared.{shape}
+use Rattle.std.proofs.alloc.Global.TheSendSync as heap
 use Rattle.std.proofs.Crossing.{Arc-send, Deque-send, Vec-send}
 use Rattle.model_disk.specs.declared.disk.Disk.{Ghosts}
 use Rattle.model_disk.specs.contracts.array.DiskArray.TheInside as array
@@ -17,11 +18,11 @@ use Rattle.block_store.specs.contracts.store.BlockStore.TheInside as store
 use Rattle.block_store.specs.contracts.store.BlockStore.{the_row as store_row}
 use Rattle.block_store.proofs.space.VdevMetaslabs.TheSendSync as metaslabs
 use Rattle.raidz_io.proofs.writes.ColumnWrite.TheSendSync as writes
-use Rattle.pool_commit.specs.contracts.commit.Commit.{the_row as commit_row}
+use Rattle.pool_commit.specs.contracts.commit.Commit.{the_field as commit_field, the_type as commit_type}
 use Rattle.pool_commit.proofs.kept.Kept.TheSendSync as kept
 use Rattle.pool_commit.proofs.kept.Planned.TheSendSync as planned
 use Rattle.pool_intake.proofs.intake.Intake.TheSendSync as intake
-use Rattle.pool_core.specs.contracts.pool.Core.{the_row as core_row}
+use Rattle.pool_core.specs.contracts.pool.Core.{the_row as core_row, the_field as core_field, the_type as core_type}
 
 -- ---- disks, and what stands over them, whatever they are
 
@@ -33,7 +34,6 @@ array_goes D g d = search (sendable, inside_array)
 
 inside_set : (D : RattleType) (g : Ghosts D.Denot) → IsSend D → IsSend (set.the_row D g)
 inside_set D g d =
-
     row_send (set.the_field D g).row _ _ (set.the_type D g).to_one
     (struct_send (shape (set.the_type D g)) (array_goes D g d, (search (sendable, Vec-send) depth 16, (search (sendable, Vec-send) depth 16, (search sendable, (search (sendable, writes.the_send, Deque-send, Vec-send) depth 20, tt))))))
 
@@ -55,3 +55,15 @@ member_goes = search (sendable, Vec-send) depth 30
 
 over_members : (a b : Dict) → IsSend (store_row (member_row memory_row) (member_ghosts memory_row memory_ghosts a b))
 over_members a b = store_goes _ _ member_goes
+
+commit_goes : (a b : Dict) → IsSend (commit_field (member_row memory_row) (member_ghosts memory_row memory_ghosts a b)).row
+commit_goes a b =
+    struct_send (shape (commit_type (member_row memory_row) (member_ghosts memory_row memory_ghosts a b)))
+    (over_members a b, (kept.the_field_send, (search (sendable, planned.the_send, planned.the_field_send) depth 12, (search sendable, (search sendable depth 12, tt)))))
+
+pub core_field_goes : (a b : Dict) → IsSend (core_field (member_row memory_row) (member_ghosts memory_row memory_ghosts a b)).row
+core_field_goes a b =
+    struct_send (shape (core_type (member_row memory_row) (member_ghosts memory_row memory_ghosts a b))) (heap.the_field_send, (intake.the_field_send, (commit_goes a b, tt)))
+
+pub core_goes : (a b : Dict) → IsSend (core_row (member_row memory_row) (member_ghosts memory_row memory_ghosts a b))
+core_goes a b = search (sendable, core_field_goes) depth 12

@@ -1,7 +1,8 @@
 mod Backing
+mod Ending
 mod Fronting
 mod Going
 mod Lacking
 mod Reading
-mod Running
+mod Recorded
 mod Sorting

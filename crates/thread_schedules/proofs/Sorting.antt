@@ -112,13 +112,20 @@ pub record Sorted (commands : List Command) (count : ℕ) : Type 0 where
 pub sorted_none : Sorted [] 0
 sorted_none = record { lines = record { writers = []; reads = []; parts = refl; written = tt; read = tt }; reads = refl }
 
+some_differ : (n : ℕ) → false ≡ nat_eq (suc n) 0
+some_differ n = grind arith
+
+nat_eq_zero : (n : ℕ) → nat_eq n 0 ≡ true → n ≡ 0
+nat_eq_zero zero same = refl
+nat_eq_zero (suc n) same = absurd (no_true (some_differ n ∙ same))
+
 any_written : (writers rest : List Command) → AllByRecursion (λ command. is_writers command ≡ true) writers → list_any is_read (writers ++ rest) ≡ list_any is_read rest
 any_written [] rest all = refl
 any_written (c ∷ writers) rest all = ap (λ (b : Bool). b || list_any is_read (writers ++ rest)) (writers_read_not c all.0) ∙ any_written writers rest all.1
 
 any_read : (others : List Command) → AllByRecursion (λ command. is_read command ≡ true) others → not (list_any is_read others) ≡ nat_eq (length others) 0
 any_read [] all = refl
-any_read (c ∷ others) all = ap (λ (b : Bool). not (b || list_any is_read others)) all.0
+any_read (c ∷ others) all = ap (λ (b : Bool). not (b || list_any is_read others)) all.0 ∙ some_differ (length others)
 
 -- none of them reads where so many are none
 pub none_reads : (commands : List Command) (count : ℕ) → Sorted commands count → nat_eq count 0 ≡ not (list_any is_read commands)
@@ -126,13 +133,6 @@ none_reads commands count sorted =
     let lines = sorted.lines in
     let any : list_any is_read commands ≡ list_any is_read lines.reads = ap (list_any is_read) lines.parts ∙ any_written lines.writers lines.reads lines.written in
     ap (λ (n : ℕ). nat_eq n 0) sorted.reads ∙ (sym (any_read lines.reads lines.read) ∙ ap not (sym any))
-
-nat_eq_zero : (n : ℕ) → nat_eq n 0 ≡ true → n ≡ 0
-nat_eq_zero zero same = refl
-nat_eq_zero (suc n) same = absurd (no_true same)
-
-one_if : Bool → ℕ
-one_if is = if is then 1 else 0
 
 -- a writer's line more
 writer_more : (commands : List Command) (command : Command) (writers others : List Command) → commands ≡ writers ++ others
@@ -147,7 +147,7 @@ writer_more commands command writers [] parts written is none = record {
   };
   reads = refl;
 }
-writer_more commands command writers (c ∷ others) parts written is none = absurd (no_true none)
+writer_more commands command writers (c ∷ others) parts written is none = absurd (no_true (some_differ (length others) ∙ none))
 
 reader_more : (commands : List Command) (command : Command) (count : ℕ) → Sorted commands count → is_read command ≡ true → Sorted (commands ++ command ∷ []) (count + 1)
 reader_more commands command count sorted is =
@@ -170,13 +170,13 @@ sorted_more commands command count after sorted may more = elim (is_writers comm
   | true ↦ λ is.
       let free : not (list_any is_read commands) ≡ true = sym (ap (λ (w : Bool). if w then not (list_any is_read commands) else is_read command) is) ∙ may in
       let none : nat_eq count 0 ≡ true = none_reads commands count sorted ∙ free in
-      let same : after ≡ count = more ∙ (ap (λ (b : Bool). count + one_if b) (writers_read_not command is) ∙ omega arith) in
+      let same : after ≡ count = more ∙ (ap (λ (b : Bool). count + (if b then 1 else 0)) (writers_read_not command is) ∙ omega arith) in
       let zero_now : after ≡ 0 = same ∙ nat_eq_zero count none in
       subst (λ (n : ℕ). Sorted (commands ++ command ∷ []) n) (sym zero_now)
       (writer_more commands command sorted.lines.writers sorted.lines.reads sorted.lines.parts sorted.lines.written is (ap (λ (n : ℕ). nat_eq n 0) (sym sorted.reads) ∙ none))
   | false ↦ λ is.
       let read : is_read command ≡ true = sym (ap (λ (w : Bool). if w then not (list_any is_read commands) else is_read command) is) ∙ may in
-      subst (λ (n : ℕ). Sorted (commands ++ command ∷ []) n) (sym (more ∙ ap (λ (b : Bool). count + one_if b) read)) (reader_more commands command count sorted read)
+      subst (λ (n : ℕ). Sorted (commands ++ command ∷ []) n) (sym (more ∙ ap (λ (b : Bool). count + (if b then 1 else 0)) read)) (reader_more commands command count sorted read)
 ] refl
 
 -- how many steps are added

@@ -3,3 +3,4 @@ pub mod Kinds
 pub mod Inputs
 pub mod Runs
 pub mod Ends
+pub mod Once

@@ -1,5 +1,5 @@
 //! The lines behind `threads`.
-ghost use Rattle.std.specs.Prelude.{◌≡◌, ◌+◌, [], ℕ, List, Option, Some, None, length, nat_eq, not, IfOk, IfErr, IsTrue, OnOk, if◌then◌else◌};
+ghost use Rattle.std.specs.Prelude.{◌≡◌, ◌+◌, [], ℕ, List, Option, Some, None, length, nat_eq, not, IfOk, IfErr, true, OnOk, if◌then◌else◌};
 ghost use Rattle.std.specs.List.{list_any};
 ghost use Rattle.std.specs.Io.KnownBytes.{IsAtEnd};
 ghost use Rattle.pool_create.specs.CoreState.{CoreState};
@@ -18,22 +18,22 @@ use thread_runs::ThreadLines;
 /// Reads what is left where no pool runs: a command is a fault.
 pub(crate) fn read_nothing<I: BufRead + Drop>(
     alloc: Global,
-    lines: &mut Lines<I>,
+    rest: &mut Lines<I>,
 ) -> Result<(), Refusal>
     ensures ok { OnOk result ((end : Option (List ℕ))
-        × (back : IsBack (I.remaining lines.old.input) end) × IsAtEnd end
+        × (back : IsBack (I.remaining rest.old.input) end) × IsAtEnd end
         × (commands_of back.lines ≡ [])) }
     ensures fault { IfErr result
-        (IsBackFault (CannotFollow None) (I.remaining lines.old.input) lines.old.count) }
+        (IsBackFault (CannotFollow None) (I.remaining rest.old.input) rest.old.count) }
 {
     for _ in 0..u64::MAX {
-        let Some(line) = lines.next_line(alloc)? else {
+        let Some(line) = rest.next_line(alloc)? else {
             return Ok(());
         };
         match line {
             Line::Skipped => {}
-            Line::Threads => return Err(lines.fault()),
-            Line::Command(_) => return Err(lines.fault()),
+            Line::Threads => return Err(rest.fault()),
+            Line::Command(_) => return Err(rest.fault()),
         }
     }
     Err(Refusal::Input)
@@ -45,7 +45,7 @@ fn add(alloc: Global, behind: &mut ThreadLines, command: Command) -> Result<bool
     ensures taken { (commands : List Command)
         → nat_eq (length behind.old.reads.items) 0 ≡ not (list_any is_read commands)
         → IfOk result (λ is_taken. is_taken ≡ may_follow commands command) }
-    ensures reads { IfOk result (λ is_taken. IsTrue is_taken → length behind.new.reads.items
+    ensures reads { IfOk result (λ is_taken. is_taken ≡ true → length behind.new.reads.items
         ≡ length behind.old.reads.items + (if is_read command then 1 else 0)) }
 {
     match first_step(alloc, command)? {

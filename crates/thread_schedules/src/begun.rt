@@ -8,8 +8,28 @@ ghost use Rattle.pool_create.specs.Represents.{Represents};
 use model_disk::{MemDisk, Member};
 use pool_model::{Reply, Step};
 use pool_steps::{PoolSteps, most_bytes, within};
-use programs::{Core, Planner, StepMachine};
+use programs::{Alone, Core, Planner, StepMachine, Workers};
 use std::marker::{Brand, PhantomData};
+use std::thread::Threads;
+
+/// A planner that threads may share: what it stands on is a fact.
+pub trait SharedPlanner: Planner {
+    ghost use Rattle.std.specs.Prelude.{◌≡◌};
+
+    ghost ready_once: { (one other : Self.Planner.ready) → one ≡ other };
+}
+
+impl SharedPlanner for Alone {
+    ghost use Rattle.thread_schedules.specs.Once.{unit_once};
+
+    ghost ready_once = { unit_once };
+}
+
+impl<'a, R: Threads + Sync> SharedPlanner for Workers<'a, R> {
+    ghost use Rattle.thread_schedules.specs.Once.{sync_once};
+
+    ghost ready_once = { sync_once R.row };
+}
 
 /// What the core represents that threads begin with.
 pub(crate) trait Beginning {
@@ -24,14 +44,14 @@ impl Beginning for Brand {
 
 /// A core that threads share.
 #[derive(Drop)]
-pub(crate) struct Begun<'a, X: Planner, J: Beginning> {
+pub(crate) struct Begun<'a, X: SharedPlanner, J: Beginning> {
     pub(crate) core: Core<Member<MemDisk>>,
     pub(crate) planner: &'a X,
     pub(crate) beginning: PhantomData<J>,
-    ghost ready: { X.ready },
+    ghost ready: { ∥ X.ready ∥₁ },
 }
 
-impl<'a, X: Planner, J: Beginning> PoolSteps for Begun<'a, X, J> {
+impl<'a, X: SharedPlanner, J: Beginning> PoolSteps for Begun<'a, X, J> {
     ghost use Rattle.std.specs.Prelude.{◌≡◌};
     ghost use Rattle.pool_model.specs.View.{View};
 
@@ -56,6 +76,6 @@ impl<'a, X: Planner, J: Beginning> PoolSteps for Begun<'a, X, J> {
 
     fn take_step(&mut self, step: Step) -> Reply {
         let most = most_bytes(&step);
-        within(most, self.core.step(self.planner, step))
+        within(most, StepMachine::step(&mut self.core, self.planner, step))
     }
 }

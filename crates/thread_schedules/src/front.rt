@@ -28,8 +28,9 @@ pub(crate) fn run_front<P: SchedulePool, X: Planner, I: BufRead + Drop, W: Write
 {
     let mut stage: Stage<P> = Stage::Unmade;
     for _ in 0..u64::MAX {
+        let wanting = lines.fault_behind();
         let Some(line) = lines.next_line(alloc)? else {
-            return Err(lines.fault_behind());
+            return Err(wanting);
         };
         match line {
             Line::Skipped => {}

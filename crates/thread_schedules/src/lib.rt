@@ -8,6 +8,7 @@ mod front;
 mod running;
 mod stage;
 
+pub use begun::SharedPlanner;
 pub use core_pool::CorePool;
 pub use running::schedule_in_threads;
 pub use stage::Stage;

@@ -8,12 +8,12 @@ ghost use Rattle.thread_schedules.specs.Ends.{EndsInThreads, IsThreadsFault, Run
 ghost use Rattle.thread_schedules.specs.Runs.{PrintsRuns};
 
 use crate::back::{read_back, read_nothing};
-use crate::begun::{Beginning, Begun};
+use crate::begun::{Beginning, Begun, SharedPlanner};
 use crate::core_pool::CorePool;
 use crate::front::run_front;
 use crate::stage::core_at;
 use model_disk::{MemDisk, Member};
-use programs::{Core, ExitStatus, Lines, Planner, Refusal, SchedulePool};
+use programs::{Core, ExitStatus, Lines, Refusal, SchedulePool};
 use shared_pool::{Books, Recorded};
 use std::alloc::Global;
 use std::io::{BufRead, Write};
@@ -34,7 +34,7 @@ fn refused(refusal: thread_runs::Refusal) -> Refusal
 
 /// Runs lines by threads over a core, in ledgers of its own.
 fn run_begun<
-    X: Planner + Sync,
+    X: SharedPlanner + Sync,
     J: Beginning + Send + Sync,
     L: Ledger + Send + Sync,
     M: Ledger + Send + Sync,
@@ -42,24 +42,24 @@ fn run_begun<
     W: Write,
 >(
     rt: &R,
+    planner: &X,
     alloc: Global,
-    begun: (&X, Core<Member<MemDisk>>),
+    core: Core<Member<MemDisk>>,
     lines: ThreadLines,
     output: &mut W,
     steps: Blank,
     calls: Blank,
 ) -> Result<(), Refusal>
     requires ready { X.ready }
-    requires begins { (v : View) → J.represents v ↔ Represents (state_of begun.1) v }
+    requires begins { (v : View) → J.represents v ↔ Represents (state_of core) v }
     requires steps { (steps.name ≡ L.name) × (steps.parts ≡ L.parts) }
     requires calls { (calls.name ≡ M.name) × (calls.parts ≡ M.parts) }
     requires parts { (steps.parts ≡ lines.threads + 3) × (calls.parts ≡ lines.threads + 3) }
     requires threads { 0 < lines.threads }
     ensures ok { OnOk result
-        (PrintsRuns (state_of begun.1) (W.contents output.old) (W.contents output.new)) }
+        (PrintsRuns (state_of core) (W.contents output.old) (W.contents output.new)) }
     ensures fault { IfErr result IsNoLine }
 {
-    let (planner, core) = begun;
     let (books, all) = Books::<L, M>::open(steps, calls);
     let begun = Begun::<X, J> {
         core,
@@ -69,11 +69,14 @@ fn run_begun<
     let Ok(recorded) = Recorded::new(alloc, begun, books) else {
         return Err(Refusal::Memory);
     };
-    run_in_threads(rt, alloc, recorded, all, lines, output).map_err(refused)
+    match run_in_threads(rt, alloc, recorded, all, lines, output) {
+        Ok(()) => Ok(()),
+        Err(refusal) => Err(refused(refusal)),
+    }
 }
 
 /// Runs lines by threads over a core.
-fn run_behind<X: Planner + Sync, R: Threads + Wait + Sync, W: Write>(
+fn run_behind<X: SharedPlanner + Sync, R: Threads + Wait + Sync, W: Write>(
     rt: &R,
     planner: &X,
     alloc: Global,
@@ -90,8 +93,9 @@ fn run_behind<X: Planner + Sync, R: Threads + Wait + Sync, W: Write>(
     let parts = lines.threads as u64 + 3;
     run_begun::<X, Brand, Brand, Brand, R, W>(
         rt,
+        planner,
         alloc,
-        (planner, core),
+        core,
         lines,
         output,
         Blank::new(parts),
@@ -101,7 +105,7 @@ fn run_behind<X: Planner + Sync, R: Threads + Wait + Sync, W: Write>(
 
 fn run_all<
     P: SchedulePool + CorePool,
-    X: Planner + Sync,
+    X: SharedPlanner + Sync,
     I: BufRead + Drop,
     W: Write,
     R: Threads + Wait + Sync,
@@ -138,7 +142,7 @@ fn run_all<
 /// line `threads` it is the line behind the last one. What stands on the output by then stays.
 pub fn schedule_in_threads<
     P: SchedulePool + CorePool,
-    X: Planner + Sync,
+    X: SharedPlanner + Sync,
     I: BufRead + Drop,
     W: Write,
     E: Write,

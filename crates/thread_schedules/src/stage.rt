@@ -35,7 +35,7 @@ fn first_said<P: SchedulePool>(
     command: Command,
 ) -> Result<Option<Said<P>>, AllocError>
     ensures { IfOk result (λ found. MatchOption found
-        (Misplaced P.faults (Stage.Unmade {P = P}) command)
+        (Misplaced P.faults Stage.Unmade command)
         (λ it. Comes P.creates P.refuses P.outcomes Stage.Unmade command
         (string_bytes it.text) it.stage)) }
 {

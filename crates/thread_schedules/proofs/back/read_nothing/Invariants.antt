@@ -3,4 +3,4 @@ use Rattle.thread_schedules.proofs.Backing.{BackSoFar}
 use Rattle.thread_schedules.proofs.back.read_nothing.Given as goal
 
 abbrev pub invariant-loop : goal.invariant-loop
-invariant-loop g l = BackSoFar (g.I.Read.remaining l.fn.lines.input) l.fn.lines.count (g.I.Read.remaining l.lines.input) l.lines.count []
+invariant-loop g l = BackSoFar (g.I.Read.remaining l.fn.rest.input) l.fn.rest.count (g.I.Read.remaining l.rest.input) l.rest.count []
