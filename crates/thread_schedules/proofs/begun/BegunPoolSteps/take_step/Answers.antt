@@ -1,3 +1,4 @@
+use mathlib.Core.Logic.{∥∥₁_elim}
 use Rattle.pool_create.specs.CoreStateOf.{state_of}
 use Rattle.thread_schedules.proofs.Lacking.{within}
 use Rattle.thread_schedules.proofs.begun.BegunPoolSteps.take_step.Goals as goal
@@ -15,3 +16,6 @@ returns-clause-goes g c = λ v represents truly.
       represents_after = one.link.represents;
       link = (c.step.ensures.0, one.link, c.step.ensures.1);
     }
+
+pub step-requires : goal.step-requires
+step-requires g c = ∥∥₁_elim c.args.self.now.ready g.met.X.SharedPlanner.ready_once (λ ready. ready)
