@@ -1,16 +1,15 @@
 -- Disks that are handed on with no stop between: each byte is known, and nothing is unflushed.
-use Rattle.std.proofs.Common.{◌≡◌, ⊎_elim, ◌<◌, ◌≤◌, ℕ, zero, suc, Bool, true, false, List, [], ◌∷◌, ◌++◌, length, All, Option, Some, None, refl, sym, ap, subst, ◌∙◌, arith, true≢false}
+use Rattle.std.proofs.Common.{◌≡◌, ⊎_elim, ◌<◌, ℕ, zero, suc, Bool, true, false, List, [], ◌∷◌, ◌++◌, length, All, Option, Some, None, refl, sym, ap, subst, ◌∙◌, arith, true≢false}
 use Rattle.std.specs.Prelude.{◌==◌, if◌then◌else◌}
 use Rattle.std.proofs.lemmas.List.Elements.{All-head, All-tail}
 use Rattle.model_disk.specs.Call.{Call, FailedFlush, FailedRead, FailedWrite, Flushed, Read, Wrote}
 use Rattle.model_disk.specs.Contents.{is_dirty}
 use Rattle.model_disk.specs.Joint.{Disks, JointCall, calls_on}
 use Rattle.model_disk.specs.RunLaws.{FailuresAreSeen}
-use Rattle.model_disk.specs.Runs.{AreSettled, HasFailed, IsSettled}
+use Rattle.model_disk.specs.Runs.{AreSettled}
 use Rattle.model_disk.specs.declared.disk.Disk as disk
 use Rattle.block_store.specs.Store.{is_out}
 use Rattle.uberblock_ring.specs.declared.uberblock.Uberblock.{Uberblock}
-use Rattle.pool_core.specs.Exporting.{IsExportable}
 use Rattle.pool_create.specs.Backs.{Backs, HasPlan, IsPlanOf}
 use Rattle.pool_create.specs.Calls.{GrewTo}
 use Rattle.pool_create.specs.CommitPlanned.{Planned}
@@ -19,13 +18,11 @@ use Rattle.pool_create.specs.CoreState.{CoreState, disks_of}
 use Rattle.pool_create.specs.OpenExporting.{IsExportBegun, IsExportDone, IsExportStopped}
 use Rattle.pool_create.specs.OpenRefusal.{Refusal}
 use Rattle.pool_create.specs.Opens.{IsUnopened}
-use Rattle.pool_create.specs.Represents.{Represents}
 use Rattle.pool_export.specs.Refusals.{ExportRefuses}
 use Rattle.pool_export.specs.declared.refusal.Refusal.{Refusal as LabelsRefusal}
 use Rattle.pool_export.specs.declared.refusal.Refusal.TheVariants.{DiskFault, NoLabel, NoMemory}
 use Rattle.pool_model.specs.View.{View, is_syncing}
 use Rattle.pool_model.specs.declared.refusal.Refusal.{Refusal as ExportRefusal}
-use Rattle.pool_slots.specs.Failures.{HasFailedOn}
 use Rattle.pool_slots.specs.Opens.{IsKnown}
 use Rattle.pool_slots.specs.Reads.{IsReadCall, IsReadOf, OnlyReads, nowhere}
 use Rattle.pool_slots.specs.Slots.{InUse}

@@ -14,7 +14,6 @@ use Rattle.vdev_label.specs.Limits.{IsAllowed, IsAllowedVdev}
 use Rattle.vdev_label.specs.Plain.{PlainVdev, config_view}
 use Rattle.vdev_label.specs.declared.label.Config.{Config}
 use Rattle.pool_create.specs.Backs.{pool_after}
-use Rattle.pool_create.specs.Calls.{GrewTo}
 use Rattle.pool_create.specs.CoreRuns.{Ran}
 use Rattle.pool_create.specs.CoreState.{CoreState, disks_of}
 use Rattle.pool_create.specs.OpenOpening.{IsKeptThrough}
@@ -38,14 +37,13 @@ use Rattle.pool_slots.specs.Opens.{IsKnown}
 use Rattle.pool_stops.specs.Found.{FoundDisksMayBeOpened}
 use Rattle.pool_stops.specs.OneConfig.{CreatedPoolsRunAs, IsRunningAs}
 use Rattle.pool_stops.specs.Own.{disk_guids}
-use Rattle.pool_stops.specs.Handed.{AreShown}
 use Rattle.pool_stops.specs.OwnReopening.{ArraysComeBack, IsOpenedTruly, LeadToOwnPools, OwnPoolsOpenAgain, ShownImagesAreLeft, StoppedExportsLeadToOwnPools, UnfoundDisksAreReturned}
 use Rattle.pool_stops.specs.OwnRunning.{CreatedPoolsAreOnTheirDisks, IsOnItsDisks}
 use Rattle.pool_stops.specs.Reopening.{AreByGroup}
 use Rattle.pool_stops.specs.Running.{pool_of}
 use Rattle.pool_stops.specs.Unhindered.{AnswerTruly}
 use Rattle.pool_lives.specs.Lasting.{Keeps, LivesGoOn, LivesLoseNothing, served_first}
-use Rattle.pool_lives.specs.Lives.{Down, Exports, FindsNone, Goes, HandsBack, Happening, IsAnswered, IsExported, IsHandedBack, IsLeft, IsLife, IsOpenStopped, IsRun, IsRunStopped, Opens, Place, Runs, StopsOpening, StopsRunning, Up}
+use Rattle.pool_lives.specs.Lives.{Down, Exports, FindsNone, Goes, HandsBack, Happening, IsAnswered, IsExported, IsHandedBack, IsLife, IsOpenStopped, IsRun, IsRunStopped, Opens, Place, Runs, StopsOpening, StopsRunning, Up}
 use Rattle.pool_lives.specs.Tales.{IsTale, Known, Resting, Serving, Tells}
 use Rattle.pool_lives.proofs.Chains.{chain_on, trusted}
 use Rattle.pool_lives.proofs.Handing.{at_hand, begun_grew, safe_exported, safe_unexported, safe_unopened}

@@ -1,31 +1,30 @@
 -- Disks that are handed on with no stop between.
-use Rattle.std.proofs.Common.{ℕ, zero, suc, ◌≡◌, inl, ⊎_elim, ◌+◌, ◌<◌, ◌≤◌, Bool, List, [], ◌∷◌, ◌++◌, length, map, slice_get, Option, Some, None, Contains, refl, sym, ap, subst, ◌∙◌, arith}
+use Rattle.std.proofs.Common.{ℕ, zero, suc, ◌≡◌, inl, ⊎_elim, ◌+◌, ◌<◌, ◌≤◌, List, [], ◌∷◌, ◌++◌, length, map, slice_get, Option, Some, None, Contains, refl, sym, ap, subst, ◌∙◌, arith}
 use Rattle.std.specs.Prelude.{option_and_then, option_map, option_to_list, unwrap_or}
 use Rattle.std.specs.List.{range_with_len}
 use Rattle.std.proofs.lemmas.List.{length-map}
 use Rattle.std.proofs.lemmas.List.FromFn.{get_or-range_with_len, length-range_with_len}
 use Rattle.std.proofs.lemmas.Option.{get_or_from_slice_get, slice_get-get_or, slice_get-map, slice_get_past, slice_get_within}
 use Rattle.model_disk.specs.Call.{Call}
-use Rattle.model_disk.specs.Contents.{byte_at, is_dirty}
-use Rattle.model_disk.specs.Joint.{Disks, JointCall, bytes_of, calls_on, content, log_of}
+use Rattle.model_disk.specs.Contents.{byte_at}
+use Rattle.model_disk.specs.Joint.{Disks, bytes_of, calls_on, log_of}
 use Rattle.model_disk.specs.Member.{calls_of, disk_of, start_of}
 use Rattle.model_disk.specs.RunLaws.{IsHeld}
 use Rattle.model_disk.specs.Runs.{HeldOn, IsSettled}
 use Rattle.model_disk.specs.declared.disk.Disk as disk
 use Rattle.model_disk.specs.declared.member.Member.{Member}
 use Rattle.model_disk.specs.declared.member.Member.TheVariants.{Present, Absent}
-use Rattle.pool_create.specs.Calls.{GrewTo}
 use Rattle.pool_create.specs.OpenFinding.{AreBack, IsArrayOf}
 use Rattle.pool_members.specs.HandedIn.{AreHandedIn as ArePlaced, disk_back, disks_back, place_of_disk, places_of_disks}
 use Rattle.pool_members.specs.declared.arranging.Child.{Child}
 use Rattle.pool_members.specs.declared.handed_in.Place.{Place}
-use Rattle.pool_members.specs.declared.handed_in.Place.TheVariants.{OfChild, Unnamed}
+use Rattle.pool_members.specs.declared.handed_in.Place.TheVariants.{OfChild}
 use Rattle.pool_stops.specs.Found.{AreChildren}
 use Rattle.pool_stops.specs.Handed.{AllHold, AreHandedIn, AreShown, IsHolding}
-use Rattle.pool_stops.specs.OwnReopening.{AreReturned, AreSafe, ArraysComeBack, ComeBack, ShownImagesAreLeft}
+use Rattle.pool_stops.specs.OwnReopening.{AreSafe, ArraysComeBack, ComeBack, ShownImagesAreLeft}
 use Rattle.pool_stops.proofs.Arranging.{disk_at}
 use Rattle.pool_stops.proofs.Handed.{child_at}
-use Rattle.pool_stops.proofs.Lists.{below_or, same_lists, same_some}
+use Rattle.pool_stops.proofs.Lists.{below_or, same_some}
 
 -- ---- lists
 
