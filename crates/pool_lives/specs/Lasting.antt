@@ -96,7 +96,8 @@ module _ {D : Type 0} where
         → AnswerTruly is.array is.new → IsLeft is.out is.array is.new left → Goes g (Down images) (StopsOpening rewind) (Down left)
     pub unfound : (images : List (List ℕ)) (disks back : List D) (order : List ℕ) (rewind : ℕ) (cause : LabelsRefusal) → AreReturned g images disks order
         → FindRefuses g disks rewind back cause → Goes g (Down images) (FindsNone rewind) (Down images) × AreReturned g images back order
-    -- with no stop between
+    -- And with no stop between: the disks of a core with nothing planned, of an export that was done, or refused once it was begun, and of an open that was
+    -- refused once its pool was found.
     pub hands_back : (core : CoreState) → IsAtHand core → core.commit.planned ≡ None → HandsOn g (Up core) HandsBack (disks_of core)
     pub hands_exported : (core : CoreState) (u : Uberblock) (new : Disks) → IsAtHand core → IsExportDone core u new → AnswerTruly (disks_of core) new
         → HandsOn g (Up core) Exports new
@@ -106,5 +107,5 @@ module _ {D : Type 0} where
         (p : Possible) (pools : Uberblock → PlainPool) (disks : List D) (order : List ℕ) (rewind : ℕ) (refusal : Refusal) (back : List D)
         → OpenAgain g pool vdevs digest images shapes out p pools → rewind < 3 → AreReturned g images disks order → (is : IsUnopened g disks rewind back refusal)
         → AnswerTruly is.ordered.found.old is.ordered.found.new → AnswerTruly is.array is.new → HandsOn g (Down images) (StopsOpening rewind) is.new
-    -- and so the disks of a core, or an array, may be handed in again, as they stand in it
+    -- such disks may be handed in again, as they stand in their array
     pub arrays : ArraysComeBack g

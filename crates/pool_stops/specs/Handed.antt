@@ -13,7 +13,7 @@ pub record AreHandedIn (images handed : List (List ℕ)) (order : List ℕ) : Ty
   pub all : (place : ℕ) → place < length handed → Contains order place
   pub once : (child other place : ℕ) → slice_get order child ≡ Some place → slice_get order other ≡ Some place → child ≡ other
 
--- disks that show these bytes
+-- disks that show these bytes, and nothing past them
 pub record AreShown (images : List (List ℕ)) (disks : Disks) : Type 0 where
   pub count : length disks.starts ≡ length images
   pub sizes : (which : ℕ) → length (bytes_of disks.starts which) ≡ length (bytes_of images which)

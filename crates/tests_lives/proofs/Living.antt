@@ -24,7 +24,7 @@ use Rattle.pool_lives.specs.Tales.{Known, Resting, Serving}
 use Rattle.pool_model.specs.View.{View}
 use Rattle.pool_model.specs.declared.step.Reply.{Reply}
 use Rattle.pool_model.specs.declared.step.Step.{Step}
-use Rattle.tests_lives.specs.Lived.{AllWell, ExportsAndOpens, GivesBackAndOpens, HasLived, HasLivedOn}
+use Rattle.tests_lives.specs.Lived.{AllWell, ExportsAndOpens, GivesBackAndOpens, HasLived, HasLivedOn, RunsOn}
 
 module _ {D : Type 0} where
   serves : (g : disk.Ghosts D) (pool : PoolIdentity) (config : Config) (digest : List ℕ) (core : CoreState) (known : Known)
@@ -124,28 +124,39 @@ module _ {D : Type 0} where
   at_hand g pool config digest core (Serving v last before) kept = kept.1
   at_hand g pool config digest core (Resting p pools) kept = absurd kept
 
-  pub has_lived_on : (g : disk.Ghosts D) → LivesLoseNothing g → (disks : List D) (pool : PoolIdentity) (config : Config) (steps : List Step)
-      (first second u : Uberblock) (run again core : CoreState) → HasLived g disks pool config steps first run → ExportsAndOpens g run second again
-      → GivesBackAndOpens g again u core → HasLivedOn g disks pool config steps u core
-  has_lived_on g law disks pool config steps first second u run again core lived exports gives = record {
+  pub runs_on : (g : disk.Ghosts D) → LivesGoOn g → (old : CoreState) (steps : List Step) (new : CoreState) (before after : List Reply)
+      → Ran old steps before new after → RunsOn g old steps new
+  runs_on g on old steps new before after ran =
+      record { before = before; after = after; ran = ran; life = λ honest all. (Up new, on.runs old new steps before after ran honest all, refl) }
+
+  pub has_lived_on : (g : disk.Ghosts D) → LivesLoseNothing g → (disks : List D) (pool : PoolIdentity) (config : Config) (steps more : List Step)
+      (first second u : Uberblock) (run again last core : CoreState) → HasLived g disks pool config steps first run → ExportsAndOpens g run second again
+      → RunsOn g again more last → GivesBackAndOpens g last u core → HasLivedOn g disks pool config steps more u core
+  has_lived_on g law disks pool config steps more first second u run again last core lived exports runs gives = record {
     first = first;
     run = run;
     lived = lived;
     second = second;
     again = again;
     exports = exports;
+    last = last;
+    runs = runs;
     gives = gives;
-    life = λ well truly opened last.
+    life = λ well truly opened honest all end.
         let start = lived.life well in
-        let ran : Happening = Runs steps lived.ran.0 in
-        let keeps = λ (its : List Happening) (to : CoreState) (life : IsLife g (Up lived.first) its (Up to)). law pool config first lived.first start.0 its (Up to) life in
-        let one = keeps (ran ∷ []) run start.1 in
+        let from : Place = Up lived.first in
+        let keeps = λ (its : List Happening) (to : CoreState) (life : IsLife g from its (Up to)). law pool config first lived.first start.0 its (Up to) life in
+        let ran : List Happening = Runs steps lived.ran.0 ∷ [] in
+        let one = keeps ran run start.1 in
         let hand = at_hand g pool config first.config_digest run one.0 one.2 in
-        let shipped = join g (Up lived.first) (Up run) (Up again) (ran ∷ []) (Exports ∷ Opens 0 second ∷ []) start.1 (exports.life hand truly opened) in
-        let two = keeps (ran ∷ Exports ∷ Opens 0 second ∷ []) again shipped in
-        let mine = at_hand g pool config first.config_digest again two.0 two.2 in
-        let all = join g (Up lived.first) (Up again) (Up core) (ran ∷ Exports ∷ Opens 0 second ∷ []) (HandsBack ∷ FindsNone 2 ∷ Opens 0 u ∷ []) shipped
-        (gives.life mine last) in
-        let end = keeps (ran ∷ Exports ∷ Opens 0 second ∷ HandsBack ∷ FindsNone 2 ∷ Opens 0 u ∷ []) core all in
-        (all, serves g pool config first.config_digest core end.0 end.2);
+        let shipped : List Happening = ran ++ Exports ∷ Opens 0 second ∷ [] in
+        let two = join g from (Up run) (Up again) ran (Exports ∷ Opens 0 second ∷ []) start.1 (exports.life hand truly opened) in
+        let more_steps : List Happening = shipped ++ Runs more runs.ran.0 ∷ [] in
+        let three = join g from (Up again) (Up last) shipped (Runs more runs.ran.0 ∷ []) two (runs.life honest all) in
+        let kept = keeps more_steps last three in
+        let mine = at_hand g pool config first.config_digest last kept.0 kept.2 in
+        let back : List Happening = HandsBack ∷ FindsNone 2 ∷ Opens 0 u ∷ [] in
+        let four = join g from (Up last) (Up core) more_steps back three (gives.life mine end) in
+        let served = keeps (more_steps ++ back) core four in
+        (four, serves g pool config first.config_digest core served.0 served.2);
   }

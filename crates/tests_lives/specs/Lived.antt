@@ -61,6 +61,13 @@ module _ {D : Type 0} where
     pub opened : IsOpened g disks 0 u new
     pub life : IsAtHand old → AnswerTruly (disks_of old) left → WentWell opened → IsLife g (Up old) (Exports ∷ Opens 0 u ∷ []) (Up new)
 
+  -- it took more steps
+  pub record RunsOn (g : disk.Ghosts D) (old : CoreState) (steps : List Step) (new : CoreState) : Type 0 where
+    pub before : List Reply
+    pub after : List Reply
+    pub ran : Ran old steps before new after
+    pub life : IsHonestSince (disks_of old) (disks_of new) → NoneIsOut new.commit → IsLife g (Up old) (Runs steps ran.0 ∷ []) (Up new)
+
   -- so it is where a core gave them back, and no pool was found two groups before its own
   pub record GivesBackAndOpens (g : disk.Ghosts D) (old : CoreState) (u : Uberblock) (new : CoreState) : Type 0 where
     pub disks : List D
@@ -72,7 +79,7 @@ module _ {D : Type 0} where
     pub life : IsAtHand old → WentWell opened → IsLife g (Up old) (HandsBack ∷ FindsNone 2 ∷ Opens 0 u ∷ []) (Up new)
 
   -- all of it, which is one life; and then a view is served
-  pub record HasLivedOn (g : disk.Ghosts D) (disks : List D) (pool : PoolIdentity) (config : Config) (steps : List Step) (u : Uberblock) (core : CoreState)
+  pub record HasLivedOn (g : disk.Ghosts D) (disks : List D) (pool : PoolIdentity) (config : Config) (steps more : List Step) (u : Uberblock) (core : CoreState)
       : Type 0 where
     pub first : Uberblock
     pub run : CoreState
@@ -80,7 +87,11 @@ module _ {D : Type 0} where
     pub second : Uberblock
     pub again : CoreState
     pub exports : ExportsAndOpens g run second again
-    pub gives : GivesBackAndOpens g again u core
-    pub life : AllWell g lived.created run → AnswerTruly (disks_of run) exports.left → WentWell exports.opened → WentWell gives.opened
-        → IsLife g (Up lived.first) (Runs steps lived.ran.0 ∷ Exports ∷ Opens 0 second ∷ HandsBack ∷ FindsNone 2 ∷ Opens 0 u ∷ []) (Up core)
+    pub last : CoreState
+    pub runs : RunsOn g again more last
+    pub gives : GivesBackAndOpens g last u core
+    pub life : AllWell g lived.created run → AnswerTruly (disks_of run) exports.left → WentWell exports.opened
+        → IsHonestSince (disks_of again) (disks_of last) → NoneIsOut last.commit → WentWell gives.opened
+        → IsLife g (Up lived.first)
+        (Runs steps lived.ran.0 ∷ Exports ∷ Opens 0 second ∷ Runs more runs.ran.0 ∷ HandsBack ∷ FindsNone 2 ∷ Opens 0 u ∷ []) (Up core)
         × ((v : View) × Represents core v)

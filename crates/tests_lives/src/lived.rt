@@ -2,7 +2,7 @@
 ghost use Rattle.std.specs.Prelude.{◌≡◌, map, IfOk};
 ghost use Rattle.model_disk.specs.declared.member.Member.TheVariants.{Present};
 ghost use Rattle.pool_create.specs.CoreStateOf.{state_of};
-ghost use Rattle.tests_lives.specs.Lived.{ExportsAndOpens, GivesBackAndOpens, HasLived, HasLivedOn};
+ghost use Rattle.tests_lives.specs.Lived.{ExportsAndOpens, GivesBackAndOpens, HasLived, HasLivedOn, RunsOn};
 
 use model_disk::{Disk, MemDisk, Member};
 use pool_create::{NotOpened, OpenedPool, create, export, open};
@@ -74,6 +74,25 @@ fn exported<D: Disk + Drop>(
     Ok(opened)
 }
 
+/// Takes more steps.
+fn run_on<D: Disk + Drop>(
+    alloc: Global,
+    pool: OpenedPool<Member<D>>,
+    steps: Vec<Step>,
+) -> Result<OpenedPool<Member<D>>, ()>
+    ensures { IfOk result (λ ran. RunsOn D.Disk (state_of pool.core) steps.items
+        (state_of ran.core)) }
+{
+    lives_go_on::<D>();
+    let OpenedPool { core, uberblock } = pool;
+    let mut core = core;
+    let mut replies = Vec::new(alloc);
+    let Ok(()) = run(&mut core, steps, &mut replies) else {
+        return Err(());
+    };
+    Ok(OpenedPool { core, uberblock })
+}
+
 /// Takes the disks back from a core, is refused to go back two groups on them, and opens them.
 fn taken_back<D: Disk + Drop>(
     alloc: Global,
@@ -98,21 +117,23 @@ fn taken_back<D: Disk + Drop>(
     Ok(opened)
 }
 
-/// Makes a pool and takes these steps, exports it and opens it, takes its disks back and opens them.
+/// Makes a pool and takes these steps, exports it and opens it, takes more steps, takes its disks back and opens them.
 fn lived_on<D: Disk + Drop>(
     alloc: Global,
     disks: Vec<D>,
     pool: PoolIdentity,
     config: Config,
     steps: Vec<Step>,
+    more: Vec<Step>,
 ) -> Result<OpenedPool<Member<D>>, ()>
     ensures { IfOk result (λ opened. HasLivedOn D.Disk disks.items pool config steps.items
-        opened.uberblock (state_of opened.core)) }
+        more.items opened.uberblock (state_of opened.core)) }
 {
     lives_lose_nothing::<D>();
     let first = lived(alloc, disks, pool, config, steps)?;
     let second = exported(alloc, first)?;
-    taken_back(alloc, second)
+    let last = run_on(alloc, second, more)?;
+    taken_back(alloc, last)
 }
 
 fn config(alloc: Global) -> Result<Config, AllocError> {
@@ -138,12 +159,21 @@ fn one_group(alloc: Global) -> Result<Vec<Step>, AllocError> {
     Ok(steps)
 }
 
-/// The group and the claim of a pool that was made, committed a group, was exported and opened, and whose disks were taken back and opened.
+/// The group and the claim of a pool that was made, committed a group, was exported and opened, committed another, and whose disks were taken back
+/// and opened.
 fn shown(alloc: Global) -> Result<[u64; 2], AllocError> {
     let disks = MemDisk::several(alloc, 3, 0x80_0000)?;
     let name = String::from_str(alloc, "pool")?;
     let identity = PoolIdentity { name, guid: 1 };
-    match lived_on(alloc, disks, identity, config(alloc)?, one_group(alloc)?) {
+    let config = config(alloc)?;
+    match lived_on(
+        alloc,
+        disks,
+        identity,
+        config,
+        one_group(alloc)?,
+        one_group(alloc)?,
+    ) {
         Ok(pool) => Ok([pool.uberblock.group, pool.uberblock.claim]),
         Err(()) => Ok([0, 0]),
     }
@@ -151,5 +181,5 @@ fn shown(alloc: Global) -> Result<[u64; 2], AllocError> {
 
 #[test]
 fn a_pool_lives_on(rt: HostRuntime) {
-    assert!(rt; shown(rt.alloc()) == Ok([4, 3]));
+    assert!(rt; shown(rt.alloc()) == Ok([5, 3]));
 }
