@@ -3,12 +3,14 @@
 #![tactic(auto)]
 
 use clap::{Arg, ArgMatches, Command, value_parser};
-use programs::{Alone, ExitStatus, Planner, PoolOnDisks, Workers, schedule};
+use programs::{Alone, ExitStatus, PoolOnDisks, Workers, schedule};
 use std::alloc::{AllocError, Global};
 use std::io::{BufReader, BufWriter, ErrorKind};
 use std::process::ExitCode;
+use std::sync::Wait;
+use std::thread::Threads;
 use std::{env, io};
-use thread_schedules::schedule_in_threads;
+use thread_schedules::{SharedPlanner, schedule_in_threads};
 
 const ABOUT: &str =
     "Runs a schedule from standard input against a storage pool, and prints a reply a line";
@@ -19,6 +21,7 @@ const THREADS: &str =
     "This many threads send the lines behind `threads`, and the record of all steps is printed";
 
 /// What the words ask for.
+#[derive(Clone, Copy)]
 struct Options {
     workers: Option<usize>,
     threads: Option<usize>,
@@ -59,7 +62,7 @@ fn print_told(rt: &HostRuntime, error: &clap::Error) -> io::Result<u8> {
     Ok(if error.use_stderr() { 2 } else { 0 })
 }
 
-fn asked(rt: &HostRuntime, alloc: Global) -> io::Result<Asked> {
+fn read_words(rt: &HostRuntime, alloc: Global) -> io::Result<Asked> {
     let words: Vec<String> = env::args(rt)?.collect(alloc)?;
     match parser(alloc)?.try_get_matches_from(words.as_slice()) {
         Ok(matches) => Ok(Asked::Run(options_of(&matches))),
@@ -67,9 +70,10 @@ fn asked(rt: &HostRuntime, alloc: Global) -> io::Result<Asked> {
     }
 }
 
-/// Runs the schedule with plans that this planner makes, and gives its status.
-fn run_planned<X: Planner + Sync>(
+/// Runs the schedule with plans that this planner makes, and gives its status. Threads are started through `starter`.
+fn run_planned<X: SharedPlanner + Sync, R: Threads + Wait + Sync>(
     rt: &HostRuntime,
+    starter: &R,
     planner: &X,
     alloc: Global,
     threads: Option<usize>,
@@ -82,7 +86,7 @@ fn run_planned<X: Planner + Sync>(
     let status: ExitStatus = match threads {
         None => schedule::<PoolOnDisks, _, _, _, _>(planner, alloc, input, &mut output, errors),
         Some(threads) => schedule_in_threads::<PoolOnDisks, _, _, _, _, _>(
-            rt,
+            starter,
             planner,
             alloc,
             threads.clamp(1, 64),
@@ -94,23 +98,23 @@ fn run_planned<X: Planner + Sync>(
     Ok(status.number())
 }
 
-fn run(rt: &HostRuntime) -> io::Result<u8> {
+fn run<R: Threads + Wait + Sync>(rt: &HostRuntime, starter: &R) -> io::Result<u8> {
     let alloc = rt.alloc();
-    let options = match asked(rt, alloc)? {
+    let options = match read_words(rt, alloc)? {
         Asked::Run(options) => options,
         Asked::Told(status) => return Ok(status),
     };
     match options.workers {
-        None => run_planned(rt, &Alone, alloc, options.threads),
+        None => run_planned(rt, starter, &Alone, alloc, options.threads),
         Some(workers) => {
-            let workers = Workers::new(rt, workers.max(1));
-            run_planned(rt, &workers, alloc, options.threads)
+            let workers = Workers::new(starter, workers.max(1));
+            run_planned(rt, starter, &workers, alloc, options.threads)
         }
     }
 }
 
 fn main(rt: HostRuntime) -> ExitCode {
-    let status = match run(&rt) {
+    let status = match run(&rt, &rt) {
         Ok(status) => status,
         Err(error) => {
             let fault = if error.kind() == ErrorKind::OutOfMemory {
