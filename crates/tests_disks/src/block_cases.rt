@@ -91,58 +91,34 @@ pub(crate) const STORED: &[(&str, &str)] = &[
     ("vdevs 1 20 8388608 8388608", "BadConfig"),
 ];
 
-/// Plans whose parity is made as it is written, by workers, or on the test's thread: the disks are the same.
-pub(crate) const MADE: &[(&str, &str)] = &[
-    // The parity of an extent is one piece of work, whatever the number of workers, and is not made again.
+/// Plans that are written, and the same or another one again, whose parity is made by so many workers, or with none on
+/// the test's thread, and then by one worker more; how many extents the workers pass, and what comes of the second.
+pub(crate) const MADE: &[(&str, usize, u64, &str)] = &[
+    (ONE_PARITY, 0, 0, "0 failed; 0 differ"),
+    (ONE_PARITY, 1, 6, "0 failed; 0 differ"),
+    (ONE_PARITY, 2, 6, "0 failed; 0 differ"),
+    (ONE_PARITY, 3, 6, "0 failed; 0 differ"),
+    // Both rows of an extent are one piece of work.
+    (TWO_PARITIES, 0, 0, "0 failed; 0 differ"),
+    (TWO_PARITIES, 1, 6, "0 failed; 0 differ"),
+    (TWO_PARITIES, 2, 6, "0 failed; 0 differ"),
+    (TWO_PARITIES, 3, 6, "0 failed; 0 differ"),
+    // Another block of one sector differs in its data, and in both parities.
     (
-        "small; drop 7; plan 3 1 1 7; plan 5 7 2 7; plan 9 256 3 7; write;
-            beside; drop 7; plan 3 1 1 7; plan 5 7 2 7; plan 9 256 3 7; make 1; make 1; write; alike",
-        "new; ok; ok; ok; ok; 0 failed; new; ok; ok; ok; ok; 6 extents; 0 extents; 0 failed;
-            0 differ",
-    ),
-    (
-        "small; drop 7; plan 3 1 1 7; plan 5 7 2 7; plan 9 256 3 7; write;
-            beside; drop 7; plan 3 1 1 7; plan 5 7 2 7; plan 9 256 3 7; make 2; write; alike",
-        "new; ok; ok; ok; ok; 0 failed; new; ok; ok; ok; ok; 6 extents; 0 failed; 0 differ",
-    ),
-    (
-        "small; drop 7; plan 3 1 1 7; plan 5 7 2 7; plan 9 256 3 7; write;
-            beside; drop 7; plan 3 1 1 7; plan 5 7 2 7; plan 9 256 3 7; make 3; write; alike",
-        "new; ok; ok; ok; ok; 0 failed; new; ok; ok; ok; ok; 6 extents; 0 failed; 0 differ",
-    ),
-    (
-        "small; drop 7; plan 3 1 1 7; plan 5 7 2 7; plan 9 256 3 7; write;
-            beside; drop 7; plan 3 1 1 7; plan 5 7 2 7; plan 9 256 3 7; make 0; make 1; write; alike",
-        "new; ok; ok; ok; ok; 0 failed; new; ok; ok; ok; ok; here; 0 extents; 0 failed; 0 differ",
-    ),
-    // With two parities both rows of an extent are one piece of work.
-    (
-        "double; drop 7; plan 3 1 1 7; plan 5 7 2 7; plan 9 256 3 7; write;
-            double; drop 7; plan 3 1 1 7; plan 5 7 2 7; plan 9 256 3 7; make 1; make 1; write; alike",
-        "new; ok; ok; ok; ok; 0 failed; new; ok; ok; ok; ok; 6 extents; 0 extents; 0 failed;
-            0 differ",
-    ),
-    (
-        "double; drop 7; plan 3 1 1 7; plan 5 7 2 7; plan 9 256 3 7; write;
-            double; drop 7; plan 3 1 1 7; plan 5 7 2 7; plan 9 256 3 7; make 2; write; alike",
-        "new; ok; ok; ok; ok; 0 failed; new; ok; ok; ok; ok; 6 extents; 0 failed; 0 differ",
-    ),
-    (
-        "double; drop 7; plan 3 1 1 7; plan 5 7 2 7; plan 9 256 3 7; write;
-            double; drop 7; plan 3 1 1 7; plan 5 7 2 7; plan 9 256 3 7; make 3; write; alike",
-        "new; ok; ok; ok; ok; 0 failed; new; ok; ok; ok; ok; 6 extents; 0 failed; 0 differ",
-    ),
-    (
-        "double; drop 7; plan 3 1 1 7; plan 5 7 2 7; plan 9 256 3 7; write;
-            double; drop 7; plan 3 1 1 7; plan 5 7 2 7; plan 9 256 3 7; make 0; make 1; write; alike",
-        "new; ok; ok; ok; ok; 0 failed; new; ok; ok; ok; ok; here; 0 extents; 0 failed; 0 differ",
-    ),
-    // Other blocks leave other disks.
-    (
-        "double; drop 7; plan 3 1 1 7; write; double; drop 7; plan 4 1 1 7; make 2; write; alike",
-        "new; ok; ok; 0 failed; new; ok; ok; 1 extents; 0 failed; 3 differ",
+        "double; drop 7; plan 3 1 1 7; write; double; drop 7; plan 4 1 1 7",
+        2,
+        1,
+        "0 failed; 3 differ",
     ),
 ];
+
+/// Blocks of one, two and three copies, which are six extents, twice.
+const ONE_PARITY: &str = "small; drop 7; plan 3 1 1 7; plan 5 7 2 7; plan 9 256 3 7; write;
+    beside; drop 7; plan 3 1 1 7; plan 5 7 2 7; plan 9 256 3 7";
+
+/// The same with two parities.
+const TWO_PARITIES: &str = "double; drop 7; plan 3 1 1 7; plan 5 7 2 7; plan 9 256 3 7; write;
+    double; drop 7; plan 3 1 1 7; plan 5 7 2 7; plan 9 256 3 7";
 
 /// Stores over disks that have blocks already.
 pub(crate) const OPENED: &[(&str, &str)] = &[

@@ -1,7 +1,7 @@
 //! Stores of blocks by pointer.
 use crate::block_cases::{MADE, MAPS, OPENED, RELEASED, STORED};
 use crate::extents::{EXTENTS, Extents};
-use crate::lines::{Bench, Call, wrong_lines};
+use crate::lines::{Bench, Call, play, wrong_lines};
 use crate::pattern::Pattern;
 use block_pointer::{Block, Copies, Property};
 use block_store::{
@@ -45,9 +45,7 @@ impl Gate for Passed {
 
 /// A store with the blocks that were planned, and another one.
 #[derive(Drop)]
-struct Blocks<'a> {
-    rt: &'a HostRuntime,
-    gate: Passed,
+struct Blocks {
     store: Option<TestStore>,
     other: Option<TestStore>,
     known: Vec<Known>,
@@ -403,7 +401,7 @@ fn called(
     Ok(format!(in alloc; "{refusal:?}")?)
 }
 
-impl<'a> Bench for Blocks<'a> {
+impl Bench for Blocks {
     fn answer(&mut self, alloc: Global, call: &Call) -> Result<String, Fail> {
         if call.name == "alike"
             && let (Some(one), Some(other)) = (self.store.take(), self.other.take())
@@ -436,34 +434,42 @@ impl<'a> Bench for Blocks<'a> {
                 let (differ, refused) = load(store, other)?;
                 Ok(format!(in alloc; "{differ} differ {refused} refused")?)
             }
-            ("make", _) if call.number(0) > 0 => {
-                store.make_due(self.rt, alloc, &self.gate, call.number(0))?;
-                let passed = self.gate.times.swap(0, Ordering::SeqCst);
-                Ok(format!(in alloc; "{passed} extents")?)
-            }
-            ("make", _) => {
-                store.make_due_here();
-                Ok(format!(in alloc; "here")?)
-            }
             _ => called(store, &mut self.known, alloc, call),
         }
     }
 }
 
+/// Besides, a plan whose parity is made as it is written leaves the same disks as one whose parity is made before,
+/// and each extent is passed once.
 #[test]
 fn extents_and_blocks(rt: HostRuntime) -> Result<(), Fail> {
     let mut wrong = wrong_lines(&rt, rt.alloc(), &mut Extents, EXTENTS)?;
     let mut blocks = Blocks {
-        rt: &rt,
-        gate: Passed {
-            times: AtomicU64::new(0),
-        },
         store: None,
         other: None,
         known: Vec::new(rt.alloc()),
     };
-    for cases in &[STORED, MADE, OPENED, RELEASED, MAPS] {
+    for cases in &[STORED, OPENED, RELEASED, MAPS] {
         wrong.push_str(wrong_lines(&rt, rt.alloc(), &mut blocks, cases)?.as_str())?;
+    }
+    let gate = Passed {
+        times: AtomicU64::new(0),
+    };
+    for (line, workers, extents, wanted) in MADE {
+        let _ = play(rt.alloc(), &mut blocks, line)?;
+        if let Some(store) = &mut blocks.store {
+            if *workers > 0 {
+                store.make_due(&rt, rt.alloc(), &gate, *workers)?;
+            } else {
+                store.make_due_here();
+            }
+            store.make_due(&rt, rt.alloc(), &gate, 1)?;
+        }
+        let passed = gate.times.swap(0, Ordering::SeqCst);
+        let came = play(rt.alloc(), &mut blocks, "write; alike")?;
+        if passed != *extents || came.as_str() != *wanted {
+            wrong.push_str(format!(in rt.alloc(); "{workers} {passed} {came}\n")?.as_str())?;
+        }
     }
     assert!(rt; wrong.is_empty(), "{wrong}");
     Ok(())
