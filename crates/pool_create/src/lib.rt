@@ -17,6 +17,5 @@ pub use handing_in::create;
 pub use making::create_over;
 pub use pool_open::{
     Core, FoundPool, NamedShape, NotExported, NotOpened, OpenedFrom, OpenedPool, PoolIdentity,
-    Refusal, VolumeShape, export, find, open, open_over, plan_with,
-    unfailing_opens_claim_once,
+    Refusal, VolumeShape, export, find, open, open_over, plan_with, unfailing_opens_claim_once,
 };
