@@ -94,10 +94,7 @@ pub(crate) const STORED: &[(&str, &str)] = &[
 /// Plans that are written, and the same or another one again, whose parity is made by so many workers, or with none on
 /// the test's thread, and then by one worker more; how many extents the workers pass, and what comes of the second.
 pub(crate) const MADE: &[(&str, usize, u64, &str)] = &[
-    (ONE_PARITY, 0, 0, "0 failed; 0 differ"),
-    (ONE_PARITY, 1, 6, "0 failed; 0 differ"),
     (ONE_PARITY, 2, 6, "0 failed; 0 differ"),
-    (ONE_PARITY, 3, 6, "0 failed; 0 differ"),
     // Both rows of an extent are one piece of work.
     (TWO_PARITIES, 0, 0, "0 failed; 0 differ"),
     (TWO_PARITIES, 1, 6, "0 failed; 0 differ"),
