@@ -10,6 +10,7 @@ use std::thread::Threads;
 use thread_schedules::schedule_in_threads;
 
 /// What was printed and told, and the number at the end.
+#[derive(Drop)]
 struct Told {
     output: String,
     errors: String,

@@ -17,7 +17,7 @@ use Rattle.disk_set.specs.contracts.set.DiskSet.{the_row as set_row}
 use Rattle.block_store.specs.contracts.store.BlockStore.TheInside as store
 use Rattle.block_store.specs.contracts.store.BlockStore.{the_row as store_row}
 use Rattle.block_store.proofs.space.VdevMetaslabs.TheSendSync as metaslabs
-use Rattle.raidz_io.proofs.writes.ColumnWrite.TheSendSync as writes
+use Rattle.raidz_io.proofs.column_write.ColumnWrite.TheSendSync as writes
 use Rattle.pool_commit.specs.contracts.commit.Commit.{the_field as commit_field, the_type as commit_type}
 use Rattle.pool_commit.proofs.kept.Kept.TheSendSync as kept
 use Rattle.pool_commit.proofs.kept.Planned.TheSendSync as planned
