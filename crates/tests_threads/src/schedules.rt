@@ -94,10 +94,8 @@ fn expect_replay<R: Threads + Wait + Abort + Sync>(
     Ok(())
 }
 
-/// Four writers, each of whom writes its block.
-const FOUR: &str = "hold 1
-write 1 2 v 0 512 01
-release 1
+/// Three writers, each of whom writes its block.
+const OTHERS: &str = "release 1
 hold 2
 write 2 1 v 512 512 02
 release 2
@@ -110,16 +108,18 @@ release 4
 read v 0 2048
 ";
 
-/// A pool with a volume, of which threads run what comes next.
+/// A pool with a volume, and writer 1 that writes its block by a thread.
 const MADE: &str = "pool 1 3 8388608 12 2
 hold 1
 create 1 1 v 2048 512
 release 1
 sync
 threads
+hold 1
+write 1 2 v 0 512 01
 ";
 
-/// The same, opened again without a disk; and a stop is set, which no commit of the threads looks at.
+/// The same, opened again without a disk, where a writer's numbers begin anew; and a stop is set, which no commit of the threads looks at.
 const OPENED: &str = "# a pool
 pool 1 3 8388608 12 2
 hold 1
@@ -132,6 +132,8 @@ sync
 reopen 0 1
 stop slots 1
 threads
+hold 1
+write 1 1 v 0 512 01
 ";
 
 const READ: &str = "\nread v 0 2048\n# 01x512 02x512 03x512 04x512\n";
@@ -140,7 +142,7 @@ const READ: &str = "\nread v 0 2048\n# 01x512 02x512 03x512 04x512\n";
 fn four_writers_of_a_schedule(rt: HostRuntime) -> Result<(), Fail> {
     let alloc = rt.alloc();
     for front in [MADE, OPENED] {
-        let input = format!(in alloc; "{front}{FOUR}")?;
+        let input = format!(in alloc; "{front}{OTHERS}")?;
         for threads in 1..5 {
             expect_replay(&rt, alloc, threads, input.as_str(), READ)?;
         }
