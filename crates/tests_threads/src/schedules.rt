@@ -151,7 +151,9 @@ fn four_writers_of_a_schedule(rt: HostRuntime) -> Result<(), Fail> {
 }
 
 /// The lines of one writer's turn: a write, or a snapshot.
-fn turn(alloc: Global, text: &mut String, writer: u64, round: u64) -> Result<(), AllocError> {
+fn turn(alloc: Global, text: &mut String, writer: u64, round: u64) -> Result<(), AllocError>
+    requires { (writer < 100) × (round < 100000) }
+{
     let line = if writer == 16 {
         format!(in alloc; "hold 16\nsnapshot 16 {round} v s{round}\nrelease 16\n")?
     } else {
