@@ -5,7 +5,7 @@ use Rattle.std.specs.declared.alloc.Global.{Global}
 use Rattle.std.proofs.lemmas.Bool.{cases_lt}
 use Rattle.uberblock_ring.specs.declared.uberblock.Uberblock.{Uberblock}
 use Rattle.uberblock_ring.specs.Uberblock.{IsNumber}
-use Rattle.model_disk.specs.Call.{FailedRead}
+use Rattle.model_disk.specs.Call.{FailedRead, Read}
 use Rattle.model_disk.specs.Joint.{Disks, bytes_of, content, AreHonestSince}
 use Rattle.model_disk.specs.Runs.{Makes, no_write}
 use Rattle.model_disk.proofs.LawLemmas.{same_bytes}
@@ -28,11 +28,13 @@ use Rattle.pool_slots.proofs.Finding.{known_on, honest_before, honest_since}
 use Rattle.pool_slots.proofs.LabelAreas.{area_len, inscribed_is, label_not_read, label_shown, reads_other, same_areas}
 use Rattle.pool_slots.proofs.LabelScans.{label_earlier, label_later}
 use Rattle.pool_slots.proofs.Reading.{longer}
-use Rattle.pool_export.specs.Faults.{IsFaultOf}
+use Rattle.pool_export.specs.Absence.{AnswersOn}
+use Rattle.pool_export.proofs.Absence.{answers_more, answers_none, answers_one, fails_next, fails_one}
+use Rattle.pool_export.specs.Faults.{EndsAtFault, IsFaultOf}
 use Rattle.pool_export.specs.Reads.{IsAbove, IsBetter, IsBetterOf, IsToldOf, ReadsArea, ReadsBest, ReadsBetter, unread_as}
 use Rattle.pool_export.specs.Taken.{exported}
-use Rattle.pool_export.specs.declared.refusal.Refusal.{Refusal}
-use Rattle.pool_export.specs.declared.refusal.Refusal.TheVariants.{NoMemory, DiskFault, NoLabel}
+use Rattle.pool_export.specs.declared.unread.Unread.{Unread}
+use Rattle.pool_export.specs.declared.unread.Unread.TheVariants.{NoMemory, DiskFault, NoLabel}
 
 -- ---- one label
 
@@ -67,6 +69,22 @@ pub only_unread : (best : Option Label) (old new : Disks) (which number : ℕ) (
 only_unread best old new which number label.NoMemory starts it = label_not_read old new which number label.NoMemory starts it
 only_unread best old new which number label.DiskFault starts it = label_not_read old new which number label.DiskFault starts it
 only_unread best old new which number (label.BadLabel b) starts it = label_not_read old new which number (label.BadLabel b) starts it
+
+-- the one read that was made, or none
+pub answers_read : (old new : Disks) (which number : ℕ) (found : Label) → ReadsLabel old new which number (Ok found) → AnswersOn old new which
+answers_read old new which number found it = answers_one old new which (Read (area_at (length (bytes_of old.starts which)) number) it.0) it.1.1 refl
+
+pub ends_unread : (best : Option Label) (old new : Disks) (which number : ℕ) (cause : LabelRefusal) → ReadsLabel old new which number (Err cause) → EndsAtFault (unread_as which best cause) old new which
+ends_unread best old new which number label.NoMemory (inl none) = answers_none old new which none
+ends_unread best old new which number label.NoMemory (inr it) = answers_one old new which (Read (area_at (length (bytes_of old.starts which)) number) it.0) it.1.1 refl
+ends_unread best old new which number label.DiskFault it = fails_one old new which (FailedRead (area_at (length (bytes_of old.starts which)) number) 114688) it refl
+ends_unread best old new which number (label.BadLabel b) it = answers_one old new which (Read (area_at (length (bytes_of old.starts which)) number) it.0) it.1.1 refl
+
+-- behind calls that were answered
+pub ends_err : (T U : Type 0) (old mid new : Disks) (which : ℕ) (cause : Unread) → AnswersOn old mid which → EndsAtFault {T = T} (Err cause) mid new which → EndsAtFault {T = U} (Err cause) old new which
+ends_err T U old mid new which NoMemory first it = answers_more old mid new which first it
+ends_err T U old mid new which (DiskFault d) first it = fails_next old mid new which first it
+ends_err T U old mid new which (NoLabel d) first it = answers_more old mid new which first it
 
 -- ---- label by label
 
@@ -193,7 +211,7 @@ best_next digest first loop new which n best it before makes read (inr stays) =
     let P : Option Label → Type 0 = IsBestTo digest first new which (n + 1) in
     subst P (sym stays.same) (stays_next digest first loop new which n best before makes read stays.told)
 
-pub best_refused : (digest : List ℕ) (first loop new : Disks) (which n : ℕ) (best : Option Label) (refusal : Refusal) → Makes no_write first loop
+pub best_refused : (digest : List ℕ) (first loop new : Disks) (which n : ℕ) (best : Option Label) (refusal : Unread) → Makes no_write first loop
     → ReadsBetter digest best loop new which n (Err refusal) → ReadsBest digest first new which (Err refusal)
 best_refused digest first loop new which n best NoMemory before it = tt
 best_refused digest first loop new which n best (DiskFault d) before it = fails_later no_write first loop new before d it

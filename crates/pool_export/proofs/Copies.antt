@@ -1,5 +1,5 @@
 -- Where areas lie, and writes of them.
-use Rattle.std.proofs.Common.{◌≡◌, ◌⊎◌, inl, inr, ◌<◌, ◌≤◌, ◌∙◌, ℕ, ◌+◌, ◌*◌, List, ◌∷◌, length, slice_get, get_or, Option, Some, None, Result, Ok, Err, OnOk, false, refl, sym, ap, subst, arith}
+use Rattle.std.proofs.Common.{◌≡◌, ◌⊎◌, inl, inr, ◌<◌, ◌≤◌, ◌∙◌, ℕ, ◌+◌, ◌*◌, List, ◌∷◌, Bool, length, slice_get, get_or, Option, Some, None, Result, Ok, Err, OnOk, false, refl, sym, ap, subst, arith}
 use Rattle.std.specs.Prelude.{Vec}
 use Rattle.std.specs.declared.alloc.Global.{Global}
 use Rattle.std.proofs.lemmas.Option.{slice_get-get_or}
@@ -10,12 +10,12 @@ use Rattle.model_disk.specs.Runs.{IsOff}
 use Rattle.model_disk.proofs.LawLemmas.{written_bytes_stand}
 use Rattle.model_disk.proofs.RunLemmas.{off_content}
 use Rattle.pool_slots.specs.Labels.{area_place}
-use Rattle.pool_slots.specs.Slots.{MakesOn, is_disk}
+use Rattle.pool_slots.specs.Slots.{InUse, MakesOn, is_disk}
 use Rattle.pool_slots.specs.Writes.{InHalf}
 use Rattle.pool_slots.proofs.Phases.{MakesOn-more, MakesOn-wider}
 use Rattle.pool_slots.proofs.Places.{apart_covers, labels_apart}
 use Rattle.pool_slots.proofs.Writing.{MakesOn-write}
-use Rattle.pool_export.specs.Writes.{AreWhole, AreaStands, Areas, HasArea, IsAreaOf, IsAreaWrite, IsCopy, StandsOn, copy_on, on_one}
+use Rattle.pool_export.specs.Writes.{AreWhole, AreaStands, Areas, IsAreaOf, IsAreaWrite, IsCopy, IsUsedWrite, StandsOn, copy_on, on_one}
 
 -- ---- where areas lie
 
@@ -120,13 +120,15 @@ none_some area e = cc
 same_area : (a b : Vec ℕ Global) → Some (Some a) ≡ Some (Some b) → a ≡ b
 same_area a b e = cc
 
-pub area_made : (starts : List (List ℕ)) (areas : Areas) (picks : ℕ → Type 0) (which : ℕ) (area : Vec ℕ Global) (old new : Disks) → IsAreaOf areas which area
-    → MakesOn (is_disk which) (copy_on which starts picks area.items) old new → MakesOn (on_one which (HasArea areas)) (IsAreaWrite starts areas picks) old new
-area_made starts areas picks which area old new has makes =
-    let H : ℕ → Type 0 = HasArea areas in
-    MakesOn-wider (is_disk which) (on_one which (HasArea areas)) (copy_on which starts picks area.items) (IsAreaWrite starts areas picks) old new
-    (λ w same. (same, subst H (sym same) (area, has)))
-    (λ w at bytes write. let Q : ℕ → Type 0 = λ d. IsAreaOf areas d area in record { area = area; has = subst Q (sym write.0) has; copy = write.1 }) makes
+pub area_made : (out : List Bool) (starts : List (List ℕ)) (areas : Areas) (picks : ℕ → Type 0) (which : ℕ) (area : Vec ℕ Global) (old new : Disks) → InUse out which → IsAreaOf areas which area
+    → MakesOn (is_disk which) (copy_on which starts picks area.items) old new → MakesOn (on_one which (InUse out)) (IsUsedWrite out starts areas picks) old new
+area_made out starts areas picks which area old new used has makes =
+    let U : ℕ → Type 0 = InUse out in
+    MakesOn-wider (is_disk which) (on_one which U) (copy_on which starts picks area.items) (IsUsedWrite out starts areas picks) old new
+    (λ w same. (same, subst U (sym same) used))
+    (λ w at bytes write.
+    let Q : ℕ → Type 0 = λ d. IsAreaOf areas d area in
+    record { used = subst U (sym write.0) used; write = record { area = area; has = subst Q (sym write.0) has; copy = write.1 } }) makes
 
 pub stands_on : (held : ℕ → ℕ → Option ℕ) (starts : List (List ℕ)) (areas : Areas) (picks : ℕ → Type 0) (which : ℕ) (area : Vec ℕ Global) → IsAreaOf areas which area
     → AreaStands (held which) (length (bytes_of starts which)) picks area.items → StandsOn which held starts areas picks

@@ -1,3 +1,4 @@
+mod Absence
 pub mod Best
 mod Scans
 mod Copies

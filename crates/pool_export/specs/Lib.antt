@@ -1,3 +1,4 @@
+pub mod Absence
 pub mod Faults
 pub mod Taken
 pub mod Writes

@@ -10,12 +10,15 @@ use Rattle.vdev_label.specs.declared.refusal.Refusal.TheVariants as label
 use Rattle.pool_slots.specs.Configs.{of_config}
 use Rattle.pool_slots.specs.Failures.{HasFailedOn}
 use Rattle.pool_slots.specs.Labels.{IsLabelShown, IsValid, IsWithout}
-use Rattle.pool_slots.specs.Opens.{AreKnown, IsKnown}
+use Rattle.pool_slots.specs.Opens.{IsKnown}
+use Rattle.pool_slots.specs.Present.{is_out}
 use Rattle.pool_slots.specs.Slots.{InUse}
 use Rattle.pool_export.specs.Taken.{IsMadeOf, IsTaken}
 use Rattle.pool_export.specs.Writes.{Areas, AreasFit, AreasOn, IsAreaOf, IsPutAway}
 use Rattle.pool_export.specs.declared.refusal.Refusal.{Refusal}
-use Rattle.pool_export.specs.declared.refusal.Refusal.TheVariants.{NoMemory, DiskFault, NoLabel}
+use Rattle.pool_export.specs.declared.refusal.Refusal.TheVariants as refused
+use Rattle.pool_export.specs.declared.unread.Unread.{Unread}
+use Rattle.pool_export.specs.declared.unread.Unread.TheVariants.{NoMemory, DiskFault, NoLabel}
 
 -- ---- one label
 
@@ -33,7 +36,7 @@ abbrev pub IsBetterOf : List ℕ → Option Label → Label → Option Label →
 IsBetterOf digest best label it = (IsBetter digest best (label_view label) × (it ≡ Some label)) ⊎ ((¬ IsBetter digest best (label_view label)) × (it ≡ best))
 
 -- why a label of a disk is not read: an invalid one shows nothing, and the best one so far stays
-abbrev pub unread_as : ℕ → Option Label → LabelRefusal → Result (Option Label) Refusal
+abbrev pub unread_as : ℕ → Option Label → LabelRefusal → Result (Option Label) Unread
 unread_as which best label.NoMemory = Err NoMemory
 unread_as which best label.DiskFault = Err (DiskFault which)
 unread_as which best (label.BadLabel it) = Ok best
@@ -74,7 +77,7 @@ pub record StaysBest (digest : List ℕ) (best it : Option Label) (old new : Dis
   pub told : IsToldOf old new which (shows_no_better number digest best)
 
 -- what the label of this number makes of the best one so far; else want of memory, or a call that failed
-abbrev pub ReadsBetter : List ℕ → Option Label → Disks → Disks → ℕ → ℕ → Result (Option Label) Refusal → Type 0
+abbrev pub ReadsBetter : List ℕ → Option Label → Disks → Disks → ℕ → ℕ → Result (Option Label) Unread → Type 0
 ReadsBetter digest best old new which number (Ok it) = TakesOver digest best it old new which number ⊎ StaysBest digest best it old new which number
 ReadsBetter digest best old new which number (Err NoMemory) = Unit {0}
 ReadsBetter digest best old new which number (Err (DiskFault disk)) = HasFailedOn old new disk
@@ -83,7 +86,7 @@ ReadsBetter digest best old new which number (Err (NoLabel disk)) = ⊥
 -- ---- one disk
 
 -- the label that is taken, if one shows the configuration
-abbrev pub ReadsBest : List ℕ → Disks → Disks → ℕ → Result (Option Label) Refusal → Type 0
+abbrev pub ReadsBest : List ℕ → Disks → Disks → ℕ → Result (Option Label) Unread → Type 0
 ReadsBest digest old new which (Ok None) = IsToldOf old new which (shows_none digest)
 ReadsBest digest old new which (Ok (Some it)) = IsValid (label_view it) × of_config digest (label_view it) × IsToldOf old new which (takes digest (label_view it))
 ReadsBest digest old new which (Err NoMemory) = Unit {0}
@@ -91,28 +94,28 @@ ReadsBest digest old new which (Err (DiskFault disk)) = HasFailedOn old new disk
 ReadsBest digest old new which (Err (NoLabel disk)) = ⊥
 
 -- the area that is to be written to the disk
-abbrev pub ReadsArea : Uberblock → Disks → Disks → ℕ → Result (Vec ℕ Global) Refusal → Type 0
+abbrev pub ReadsArea : Uberblock → Disks → Disks → ℕ → Result (Vec ℕ Global) Unread → Type 0
 ReadsArea u old new which (Ok area) = ((l : PlainLabel) × IsPutAway u l area.items) × IsToldOf old new which (IsMadeOf u area.items)
 ReadsArea u old new which (Err NoMemory) = Unit {0}
 ReadsArea u old new which (Err (DiskFault disk)) = HasFailedOn old new disk
 ReadsArea u old new which (Err (NoLabel disk)) = (disk ≡ which) × IsToldOf old new which (shows_none u.config_digest)
 
--- the same where the disk may be out: then there is none
+-- the same where the disk may be out, or goes out: then there is none
 abbrev pub ReadsIfUsed : List Bool → Uberblock → Disks → Disks → ℕ → Result (Option (Vec ℕ Global)) Refusal → Type 0
-ReadsIfUsed out u old new which (Ok None) = ¬ InUse out which
-ReadsIfUsed out u old new which (Ok (Some area)) = InUse out which × ReadsArea u old new which (Ok area)
-ReadsIfUsed out u old new which (Err refusal) = InUse out which × ReadsArea u old new which (Err refusal)
+ReadsIfUsed later u old new which (Ok None) = is_out later which
+ReadsIfUsed later u old new which (Ok (Some area)) = ReadsArea u old new which (Ok area)
+ReadsIfUsed later u old new which (Err refused.NoMemory) = Unit {0}
+ReadsIfUsed later u old new which (Err (refused.NoLabel disk)) = (disk ≡ which) × InUse later which × IsToldOf old new which (shows_none u.config_digest)
+ReadsIfUsed later u old new which (Err refused.NoDisk) = ⊥
 
 -- ---- all disks
 
 -- each area is made of what its disk showed
-abbrev pub AreMadeOf : Uberblock → Disks → Areas → Type 0
-AreMadeOf u old areas = (which : ℕ) (area : Vec ℕ Global) → IsAreaOf areas which area → IsMadeOf u area.items (length (bytes_of old.starts which)) (content old which)
+abbrev pub AreToldOf : Uberblock → Disks → Disks → Areas → Type 0
+AreToldOf u old new areas = (which : ℕ) (area : Vec ℕ Global) → IsAreaOf areas which area → IsToldOf old new which (IsMadeOf u area.items)
 
 abbrev pub ReadsAreas : List Bool → Uberblock → Disks → Disks → Result (Vec (Option (Vec ℕ Global)) Global) Refusal → Type 0
-ReadsAreas out u old new (Ok all) =
-    (length all.items ≡ length old.starts) × AreasOn out all.items × AreasFit u all.items
-    × (AreKnown out old → AreHonestSince (length old.calls) new.starts new.calls → AreMadeOf u old all.items)
-ReadsAreas out u old new (Err NoMemory) = Unit {0}
-ReadsAreas out u old new (Err (DiskFault disk)) = HasFailedOn old new disk
-ReadsAreas out u old new (Err (NoLabel disk)) = InUse out disk × IsToldOf old new disk (shows_none u.config_digest)
+ReadsAreas later u old new (Ok all) = (length all.items ≡ length old.starts) × AreasOn later all.items × AreasFit u all.items × AreToldOf u old new all.items
+ReadsAreas later u old new (Err refused.NoMemory) = Unit {0}
+ReadsAreas later u old new (Err (refused.NoLabel disk)) = InUse later disk × IsToldOf old new disk (shows_none u.config_digest)
+ReadsAreas later u old new (Err refused.NoDisk) = ⊥

@@ -1,5 +1,5 @@
 -- What an export writes.
-use Rattle.std.specs.Prelude.{◌≡◌, ◌↔◌, ◌<◌, ℕ, ◌+◌, Bool, List, length, slice_get, Option, Some, Vec}
+use Rattle.std.specs.Prelude.{◌≡◌, ◌<◌, ℕ, ◌+◌, Bool, List, length, slice_get, Option, Some, Vec}
 use Rattle.std.specs.declared.alloc.Global.{Global}
 use Rattle.model_disk.specs.Joint.{bytes_of}
 use Rattle.uberblock_ring.specs.declared.uberblock.Uberblock.{Uberblock}
@@ -41,9 +41,9 @@ IsAreaOf areas which area = slice_get areas which ≡ Some (Some area)
 abbrev pub HasArea : Areas → ℕ → Type 0
 HasArea areas which = (area : Vec ℕ Global) × IsAreaOf areas which area
 
--- for the disks in use, and no others
+-- for each disk in use
 abbrev pub AreasOn : List Bool → Areas → Type 0
-AreasOn out areas = (which : ℕ) → InUse out which ↔ HasArea areas which
+AreasOn out areas = (which : ℕ) → InUse out which → HasArea areas which
 
 -- each is of a label that is put away for this uberblock
 abbrev pub AreasFit : Uberblock → Areas → Type 0
@@ -73,6 +73,11 @@ pub record IsAreaWrite (starts : List (List ℕ)) (areas : Areas) (picks : ℕ �
   pub has : IsAreaOf areas which area
   pub copy : IsCopy starts picks area.items which at bytes
 
+-- on a disk in use
+pub record IsUsedWrite (out : List Bool) (starts : List (List ℕ)) (areas : Areas) (picks : ℕ → Type 0) (which at : ℕ) (bytes : List ℕ) : Type 0 where
+  pub used : InUse out which
+  pub write : IsAreaWrite starts areas picks which at bytes
+
 -- any of the four
 abbrev pub is_any : ℕ → Type 0
 is_any number = number < 4
@@ -89,6 +94,6 @@ AreaStands held size picks area = (number : ℕ) → number < 4 → picks number
 abbrev pub StandsOn : ℕ → (ℕ → ℕ → Option ℕ) → List (List ℕ) → Areas → (ℕ → Type 0) → Type 0
 StandsOn which held starts areas picks = (area : Vec ℕ Global) → IsAreaOf areas which area → AreaStands (held which) (length (bytes_of starts which)) picks area.items
 
--- each disk's does
-abbrev pub AreasStand : (ℕ → ℕ → Option ℕ) → List (List ℕ) → Areas → (ℕ → Type 0) → Type 0
-AreasStand held starts areas picks = (which : ℕ) → StandsOn which held starts areas picks
+-- that of each disk in use does
+abbrev pub AreasStandOn : List Bool → (ℕ → ℕ → Option ℕ) → List (List ℕ) → Areas → (ℕ → Type 0) → Type 0
+AreasStandOn out held starts areas picks = (which : ℕ) → InUse out which → StandsOn which held starts areas picks

@@ -5,10 +5,10 @@ ghost use Rattle.vdev_label.specs.Plain.{label_view};
 ghost use Rattle.pool_slots.specs.Labels.{IsValid};
 ghost use Rattle.pool_slots.specs.Reads.{OnlyReads};
 ghost use Rattle.pool_slots.specs.Slots.{is_disk};
-ghost use Rattle.pool_export.specs.Faults.{IsFaultOf};
+ghost use Rattle.pool_export.specs.Faults.{EndsAtFault, IsFaultOf};
 ghost use Rattle.pool_export.specs.Reads.{IsAbove, IsBetterOf, ReadsBest, ReadsBetter, unread_as};
 
-use crate::refusal::Refusal;
+use crate::unread::Unread;
 use model_disk::{Disk, DiskArray};
 use std::alloc::{AllocError, Global};
 use vdev_label::{LABELS, Label, config_of_label_fits, read_label};
@@ -47,12 +47,12 @@ fn unread(
     which: usize,
     best: Option<Label>,
     cause: vdev_label::Refusal,
-) -> Result<Option<Label>, Refusal>
+) -> Result<Option<Label>, Unread>
     ensures { result ≡ unread_as which best cause }
 {
     match cause {
-        vdev_label::Refusal::NoMemory => Err(Refusal::NoMemory),
-        vdev_label::Refusal::DiskFault => Err(Refusal::DiskFault { disk: which }),
+        vdev_label::Refusal::NoMemory => Err(Unread::NoMemory),
+        vdev_label::Refusal::DiskFault => Err(Unread::DiskFault { disk: which }),
         vdev_label::Refusal::BadLabel(_) => Ok(best),
     }
 }
@@ -65,11 +65,12 @@ fn read_better<D: Disk + Drop>(
     number: u64,
     digest: &[u8; 32],
     best: Option<Label>,
-) -> Result<Option<Label>, Refusal>
+) -> Result<Option<Label>, Unread>
     requires which { which < length disks.old.starts }
     requires number { number < LABELS }
     requires room { 1048576 ≤ length (bytes_of disks.old.starts which) }
     ensures only { OnlyReads (is_disk which) (IsFaultOf result) disks.old disks.new }
+    ensures ends { EndsAtFault result disks.old disks.new which }
     ensures reads { ReadsBetter digest.now best disks.old disks.new which number result }
 {
     match read_label(alloc, disks, which, number) {
@@ -85,10 +86,11 @@ pub(crate) fn read_best<D: Disk + Drop>(
     disks: &mut DiskArray<D>,
     which: usize,
     digest: &[u8; 32],
-) -> Result<Option<Label>, Refusal>
+) -> Result<Option<Label>, Unread>
     requires which { which < length disks.old.starts }
     requires room { 1048576 ≤ length (bytes_of disks.old.starts which) }
     ensures only { OnlyReads (is_disk which) (IsFaultOf result) disks.old disks.new }
+    ensures ends { EndsAtFault result disks.old disks.new which }
     ensures reads { ReadsBest digest.now disks.old disks.new which result }
 {
     let mut best = None;

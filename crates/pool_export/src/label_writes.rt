@@ -1,15 +1,14 @@
 //! The writes of one half of the labels.
-ghost use Rattle.std.specs.Prelude.{◌≡◌, ◌<◌, ◌≤◌, ◌∷◌, length, IfErr, OnOk};
+ghost use Rattle.std.specs.Prelude.{◌≡◌, ◌<◌, ◌≤◌, ◌∷◌, length, OnOk};
 ghost use Rattle.model_disk.specs.Call.{write_call};
 ghost use Rattle.model_disk.specs.Joint.{bytes_of, content, on};
-ghost use Rattle.pool_slots.specs.Failures.{IsFailure};
 ghost use Rattle.pool_slots.specs.Labels.{area_place};
-ghost use Rattle.pool_slots.specs.Slots.{HaveLabels, MakesOn, is_disk};
+ghost use Rattle.pool_slots.specs.Slots.{HaveLabels, InUse, MakesOn, is_disk};
 ghost use Rattle.pool_slots.specs.Writes.{InHalf};
-ghost use Rattle.pool_export.specs.Writes.{AreWhole, AreaStands, AreasStand, HasArea, IsAreaWrite, StandsOn, copy_on, on_one};
+ghost use Rattle.pool_export.specs.Absence.{EndsAs, GoOutFailing};
+ghost use Rattle.pool_export.specs.Writes.{AreWhole, AreaStands, AreasStandOn, IsUsedWrite, StandsOn, copy_on, on_one};
 
-use model_disk::{Disk, DiskArray};
-use pool_slots::DiskFailure;
+use model_disk::{Disk, DiskArray, DiskError};
 use vdev_label::{LABELS, label_offset};
 
 /// Where the area of a label begins in it.
@@ -22,7 +21,7 @@ fn write_area<D: Disk + Drop>(
     which: usize,
     number: u64,
     area: &[u8],
-) -> Result<(), DiskFailure>
+) -> Result<(), DiskError>
     requires which { which < length disks.old.starts }
     requires number { number < LABELS }
     requires whole { length area.now ≡ 114688 }
@@ -31,22 +30,18 @@ fn write_area<D: Disk + Drop>(
     ensures call { disks.new.calls
         ≡ on which (write_call result (area_place (length (bytes_of disks.old.starts which)) number)
         area.now) ∷ disks.old.calls }
-    ensures fault { IfErr result (IsFailure disks.old disks.new) }
 {
     let at = label_offset(disks.size(which), number) + AREA_START;
-    match disks.write_at(which, at, area) {
-        Ok(()) => Ok(()),
-        Err(_) => Err(DiskFailure { disk: which }),
-    }
+    disks.write_at(which, at, area)
 }
 
-/// Writes an area to two labels of a disk: to 0 and 2, or to 1 and 3.
+/// Writes an area to two labels of a disk: to 0 and 2, or to 1 and 3. The first write that fails ends it.
 fn write_both<D: Disk + Drop>(
     disks: &mut DiskArray<D>,
     which: usize,
     half: u64,
     area: &[u8],
-) -> Result<(), DiskFailure>
+) -> Result<(), DiskError>
     requires which { which < length disks.old.starts }
     requires half { half < 2 }
     requires whole { length area.now ≡ 114688 }
@@ -55,54 +50,62 @@ fn write_both<D: Disk + Drop>(
         (copy_on which disks.old.starts (InHalf half) area.now) disks.old disks.new }
     ensures stands { OnOk result (AreaStands (content disks.new which)
         (length (bytes_of disks.old.starts which)) (InHalf half) area.now) }
-    ensures fault { IfErr result (IsFailure disks.old disks.new) }
+    ensures ends { EndsAs result disks.old disks.new which }
 {
     write_area(disks, which, half, area)?;
     write_area(disks, which, half + 2, area)
 }
 
-/// The same of a disk that has an area; nothing on another.
-fn write_if_used<D: Disk + Drop>(
+/// The same of a disk in use, which is out from then on where a write fails; nothing on another.
+fn write_or_put_out<D: Disk + Drop>(
     disks: &mut DiskArray<D>,
+    out: &mut Vec<bool>,
     areas: &[Option<Vec<u8>>],
     which: usize,
     half: u64,
-) -> Result<(), DiskFailure>
+)
     requires which { which < length disks.old.starts }
+    requires out { length out.old.items ≡ length disks.old.starts }
     requires count { length areas.now ≡ length disks.old.starts }
     requires half { half < 2 }
     requires whole { AreWhole areas.now }
     requires room { HaveLabels disks.old.starts }
-    ensures makes { MakesOn (on_one which (HasArea areas.now))
-        (IsAreaWrite disks.old.starts areas.now (InHalf half)) disks.old disks.new }
-    ensures stand { OnOk result (StandsOn which (content disks.new) disks.old.starts areas.now
-        (InHalf half)) }
-    ensures fault { IfErr result (IsFailure disks.old disks.new) }
+    ensures absent { GoOutFailing out.old.items out.new.items disks.old disks.new }
+    ensures makes { MakesOn (on_one which (InUse out.old.items))
+        (IsUsedWrite out.old.items disks.old.starts areas.now (InHalf half)) disks.old disks.new }
+    ensures stands { InUse out.new.items which
+        → StandsOn which (content disks.new) disks.old.starts areas.now (InHalf half) }
 {
-    match &areas[which] {
-        Some(area) => write_both(disks, which, half, area),
-        None => Ok(()),
+    if out[which] {
+        return;
+    }
+    let Some(area) = &areas[which] else {
+        return;
+    };
+    if write_both(disks, which, half, area).is_err() {
+        out[which] = true;
     }
 }
 
-/// Writes half of the labels of each disk that has an area: 0 and 2, or 1 and 3. The first fault ends it.
+/// Writes half of the labels of each disk in use: 0 and 2, or 1 and 3. Those of which a write fails are out from then on.
 pub(crate) fn write_half<D: Disk + Drop>(
     disks: &mut DiskArray<D>,
+    out: &mut Vec<bool>,
     areas: &[Option<Vec<u8>>],
     half: u64,
-) -> Result<(), DiskFailure>
+)
+    requires out { length out.old.items ≡ length disks.old.starts }
     requires count { length areas.now ≡ length disks.old.starts }
     requires half { half < 2 }
     requires whole { AreWhole areas.now }
     requires room { HaveLabels disks.old.starts }
-    ensures makes { MakesOn (HasArea areas.now)
-        (IsAreaWrite disks.old.starts areas.now (InHalf half)) disks.old disks.new }
-    ensures stand { OnOk result (AreasStand (content disks.new) disks.old.starts areas.now
-        (InHalf half)) }
-    ensures fault { IfErr result (IsFailure disks.old disks.new) }
+    ensures absent { GoOutFailing out.old.items out.new.items disks.old disks.new }
+    ensures makes { MakesOn (InUse out.old.items)
+        (IsUsedWrite out.old.items disks.old.starts areas.now (InHalf half)) disks.old disks.new }
+    ensures stand { AreasStandOn out.new.items (content disks.new) disks.old.starts areas.now
+        (InHalf half) }
 {
     for which in 0..disks.len() {
-        write_if_used(disks, areas, which, half)?;
+        write_or_put_out(disks, out, areas, which, half);
     }
-    Ok(())
 }

@@ -7,6 +7,7 @@ mod label_writes;
 mod reading;
 mod refusal;
 mod settling;
+mod unread;
 
 pub use exporting::export_labels;
 pub use refusal::Refusal;

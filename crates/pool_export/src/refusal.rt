@@ -1,7 +1,6 @@
 //! Why disks are not exported.
 ghost use Rattle.std.specs.Prelude.{◌≡◌};
 
-use pool_slots::DiskFailure;
 use std::alloc::{AllocError, AllocFailed};
 use thiserror::Error;
 
@@ -9,21 +8,12 @@ use thiserror::Error;
 pub enum Refusal {
     #[error("out of memory")]
     NoMemory,
-    #[error("disk {disk} failed")]
-    DiskFault { disk: usize },
     /// With the configuration of the uberblock.
     #[error("disk {disk} has no label")]
     NoLabel { disk: usize },
-}
-
-impl From<DiskFailure> for Refusal {
-    ghost use Rattle.pool_export.specs.declared.refusal.Refusal.TheVariants.{DiskFault};
-
-    ghost from_gives = { λ failure refusal. refusal ≡ DiskFault failure.disk };
-
-    fn from(failure: DiskFailure) -> Refusal {
-        Refusal::DiskFault { disk: failure.disk }
-    }
+    /// All that were in use failed, or none was.
+    #[error("no disk is left")]
+    NoDisk,
 }
 
 impl From<AllocError> for Refusal {
