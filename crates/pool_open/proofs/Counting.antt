@@ -1,16 +1,14 @@
 -- Vdevs, one after the other.
-use Rattle.std.proofs.Common.{◌≡◌, ◌≤◌, ◌+◌, ◌*◌, ℕ, zero, suc, List, [], ◌∷◌, length, All, Some, slice_get, take, min, ap, ◌∙◌, subst, arith}
-use Rattle.std.proofs.lemmas.List.Elements.{All-nil, All-cons}
-use Rattle.block_store.specs.Opened.{LieOn}
+use Rattle.std.proofs.Common.{◌≡◌, ◌≤◌, ◌+◌, ◌*◌, ℕ, zero, suc, Bool, false, List, [], ◌∷◌, length, Some, slice_get, slice_index_or, take, min, ap, refl, ◌∙◌, subst, arith}
 use Rattle.block_store.specs.declared.shape.VdevShape.{VdevShape}
 use Rattle.pool_core.specs.Config.{shown}
-use Rattle.pool_open.specs.Words.{LiesAmong, sectors_in, vdevs_in}
+use Rattle.pool_open.specs.Words.{sectors_in, vdevs_in}
 
--- the disks of each are there
-pub lie_among : (starts : List (List ℕ)) (first : ℕ) (shapes : List VdevShape) → LieOn starts first shapes → All (LiesAmong (length starts)) shapes
-lie_among starts first [] lie = All-nil (LiesAmong (length starts))
-lie_among starts first (shape ∷ shapes) lie =
-    All-cons (LiesAmong (length starts)) shape shapes lie.1.there (lie_among starts (first + shape.vdev.geometry.children) shapes lie.2)
+-- none is out that isn't there
+pub none_beyond : (xs : List Bool) (i : ℕ) → length xs ≤ i → slice_index_or xs i false ≡ false
+none_beyond [] i beyond = refl
+none_beyond (x ∷ xs) zero beyond = absurd (omega (arith, beyond))
+none_beyond (x ∷ xs) (suc i) beyond = none_beyond xs i (omega (arith, beyond))
 
 pub vdev_at : (shapes : List VdevShape) (i : ℕ) (shape : VdevShape) → slice_get shapes i ≡ Some shape → slice_get (vdevs_in shapes) i ≡ Some (shown shape.vdev)
 vdev_at [] i shape at = absurd (cc)

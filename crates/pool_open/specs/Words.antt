@@ -1,5 +1,5 @@
 -- Words of a pool that is opened.
-use Rattle.std.specs.Prelude.{ℕ, ◌≤◌, ◌+◌, ◌*◌, ◌-◌, ◌^◌, List, [], ◌∷◌, map, min}
+use Rattle.std.specs.Prelude.{ℕ, ◌+◌, ◌*◌, ◌-◌, ◌^◌, List, [], ◌∷◌, map, min}
 use Rattle.block_store.specs.declared.shape.VdevShape.{VdevShape}
 use Rattle.pool_core.specs.Config.{shown}
 use Rattle.pool_core.specs.Stamp.{Stamp}
@@ -9,10 +9,6 @@ use Rattle.uberblock_ring.specs.declared.uberblock.Uberblock.{Uberblock}
 -- the machine's vdevs of these shapes
 abbrev pub vdevs_in : List VdevShape → List Vdev
 vdevs_in shapes = map (λ shape. shown shape.vdev) shapes
-
--- the vdev's disks are among so many
-abbrev pub LiesAmong : ℕ → VdevShape → Type 0
-LiesAmong n shape = shape.vdev.first + shape.vdev.geometry.children ≤ n
 
 abbrev pub sectors_in : List VdevShape → ℕ
 sectors_in [] = 0

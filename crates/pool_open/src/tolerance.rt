@@ -1,20 +1,27 @@
 //! Whether a pool bears that disks are out, and how large it is.
-ghost use Rattle.std.specs.Prelude.{◌≡◌, ◌≤◌, ◌+◌, ◌-◌, ◌^◌, length, min, All};
+ghost use Rattle.std.specs.Prelude.{◌≡◌, ◌+◌, ◌-◌, ◌^◌, min};
 ghost use Rattle.block_store.specs.Store.{is_out};
 ghost use Rattle.pool_model.specs.View.{is_tolerable, lost_in};
-ghost use Rattle.pool_open.specs.Words.{LiesAmong, sectors_in, vdevs_in};
+ghost use Rattle.pool_open.specs.Words.{sectors_in, vdevs_in};
 
 use block_store::VdevShape;
 use raidz_io::Vdev;
 
+/// Whether so many disks behind a first one a disk is out. One that isn't there is not.
+fn is_out(out: &[bool], first: usize, child: u32) -> bool
+    ensures { result ≡ is_out out.now (first + child) }
+{
+    let disk = first.saturating_add(child as usize);
+    disk < out.len() && out[disk]
+}
+
 /// How many disks of a vdev are out.
 fn count_out(out: &[bool], vdev: Vdev) -> u32
-    requires there { vdev.first + vdev.geometry.children ≤ length out.now }
     ensures { result ≡ lost_in (is_out out.now) vdev.first vdev.geometry.children }
 {
     let mut count = 0;
     for child in 0..vdev.geometry.children {
-        if out[vdev.first + child as usize] {
+        if is_out(out, vdev.first, child) {
             count += 1;
         }
     }
@@ -23,7 +30,6 @@ fn count_out(out: &[bool], vdev: Vdev) -> u32
 
 /// Whether of no vdev more disks are out than it has parities.
 pub(crate) fn are_tolerable(shapes: &[VdevShape], out: &[bool]) -> bool
-    requires there { All (LiesAmong (length out.now)) shapes.now }
     ensures { result ≡ is_tolerable (vdevs_in shapes.now) (is_out out.now) }
 {
     for index in 0..shapes.len() {

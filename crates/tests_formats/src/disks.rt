@@ -38,7 +38,7 @@ const NEVER: Fault = Fault::At(u64::MAX);
 /// - `survey OUT 1` and `surveyed 1` answer the highest uberblock, the taken one and that under the next claim; `claim OUT 1`
 ///   then also what is claimed.
 /// - `scan 1` answers the disk of each child, the place of the label that is taken, and the taken uberblock and the highest.
-/// - `export OUT NAME 3` puts labels away, and `blank` answers whether there is none.
+/// - `export OUT NAME 3` puts labels away and answers which disks are out then, and `blank` answers whether there is none.
 /// - `label 0 3` shows a label, `front 0 17` four bytes from a place on, and `slots 0 1` how many slots a disk has, which
 ///   is the highest, and the uberblocks of that and of the group before.
 pub(crate) const CASES: &[(&str, &str)] = &[
@@ -176,39 +176,62 @@ pub(crate) const CASES: &[(&str, &str)] = &[
     // Labels of disks in use are put away.
     (
         "8 never 0; format; export -x- first 3; label 0 0; label 0 3; label 1 1; label 2 2",
-        "done; done; pool false 3 101 1 100 4: 100 1 7168 12 1 [101, 102, 103]; \
+        "done; done out [false, true, false]; pool false 3 101 1 100 4: 100 1 7168 12 1 [101, 102, 103]; \
         pool false 3 101 1 100 4: 100 1 7168 12 1 [101, 102, 103]; \
         pool true 1 102 1 100 2: 100 1 7168 12 1 [101, 102, 103]; \
         pool false 3 103 1 100 4: 100 1 7168 12 1 [101, 102, 103]; ",
     ),
-    // Even labels wait until odd ones are flushed: the second odd one cannot be written, or they cannot be flushed.
+    // A disk goes out whose second odd label cannot be written, or which cannot be flushed then. Its even labels are not
+    // written, as they wait until odd ones are flushed, and the other disk is put away.
     (
-        "8 write 5; format; export -x- first 3; label 0 0; label 0 3; label 1 1; label 2 2",
-        "done; disk 2 failed; pool true 1 101 1 100 2: 100 1 7168 12 1 [101, 102, 103]; \
+        "8 write 5; format; export -x- first 3; label 0 0; label 0 3; label 1 1; label 2 2; label 2 1",
+        "done; done out [false, true, true]; pool false 3 101 1 100 4: 100 1 7168 12 1 [101, 102, 103]; \
         pool false 3 101 1 100 4: 100 1 7168 12 1 [101, 102, 103]; \
         pool true 1 102 1 100 2: 100 1 7168 12 1 [101, 102, 103]; \
-        pool true 1 103 1 100 2: 100 1 7168 12 1 [101, 102, 103]; ",
+        pool true 1 103 1 100 2: 100 1 7168 12 1 [101, 102, 103]; \
+        pool false 3 103 1 100 4: 100 1 7168 12 1 [101, 102, 103]; ",
     ),
     (
-        "8 flush 1; format; export -x- first 3; label 0 0; label 0 3; label 1 1; label 2 2",
-        "done; disk 2 failed; pool true 1 101 1 100 2: 100 1 7168 12 1 [101, 102, 103]; \
+        "8 flush 1; format; export -x- first 3; label 0 0; label 0 3; label 1 1; label 2 2; label 2 1",
+        "done; done out [false, true, true]; pool false 3 101 1 100 4: 100 1 7168 12 1 [101, 102, 103]; \
         pool false 3 101 1 100 4: 100 1 7168 12 1 [101, 102, 103]; \
         pool true 1 102 1 100 2: 100 1 7168 12 1 [101, 102, 103]; \
-        pool true 1 103 1 100 2: 100 1 7168 12 1 [101, 102, 103]; ",
+        pool true 1 103 1 100 2: 100 1 7168 12 1 [101, 102, 103]; \
+        pool false 3 103 1 100 4: 100 1 7168 12 1 [101, 102, 103]; ",
+    ),
+    // So does one whose second even label cannot be written.
+    (
+        "8 write 7; format; export -x- first 3; label 0 0; label 0 3; label 1 1; label 2 2; label 2 0",
+        "done; done out [false, true, true]; pool false 3 101 1 100 4: 100 1 7168 12 1 [101, 102, 103]; \
+        pool false 3 101 1 100 4: 100 1 7168 12 1 [101, 102, 103]; \
+        pool true 1 102 1 100 2: 100 1 7168 12 1 [101, 102, 103]; \
+        pool true 1 103 1 100 2: 100 1 7168 12 1 [101, 102, 103]; \
+        pool false 3 103 1 100 4: 100 1 7168 12 1 [101, 102, 103]; ",
     ),
     // All labels are read before any is written: one cannot be read, or none has the configuration.
     (
-        "8 read 3; format; export -x- first 3; label 0 0; label 0 3; label 1 1; label 2 2",
-        "done; disk 2 failed; pool true 1 101 1 100 2: 100 1 7168 12 1 [101, 102, 103]; \
-        pool true 1 101 1 100 2: 100 1 7168 12 1 [101, 102, 103]; \
+        "8 read 3; format; export -x- first 3; label 0 0; label 0 3; label 1 1; label 2 2; label 2 1",
+        "done; done out [false, true, true]; pool false 3 101 1 100 4: 100 1 7168 12 1 [101, 102, 103]; \
+        pool false 3 101 1 100 4: 100 1 7168 12 1 [101, 102, 103]; \
         pool true 1 102 1 100 2: 100 1 7168 12 1 [101, 102, 103]; \
+        pool true 1 103 1 100 2: 100 1 7168 12 1 [101, 102, 103]; \
         pool true 1 103 1 100 2: 100 1 7168 12 1 [101, 102, 103]; ",
     ),
     (
         "8 never 0; format; export -x- plain 3; label 0 0; label 0 3; label 1 1; label 2 2",
-        "done; disk 0 has no label; pool true 1 101 1 100 2: 100 1 7168 12 1 [101, 102, 103]; \
+        "done; disk 0 has no label out [false, true, false]; pool true 1 101 1 100 2: 100 1 7168 12 1 [101, 102, 103]; \
         pool true 1 101 1 100 2: 100 1 7168 12 1 [101, 102, 103]; \
         pool true 1 102 1 100 2: 100 1 7168 12 1 [101, 102, 103]; \
+        pool true 1 103 1 100 2: 100 1 7168 12 1 [101, 102, 103]; ",
+    ),
+    // No disk is left: none was in use, or the only one cannot be flushed.
+    (
+        "8 never 0; format; export xxx first 3; label 2 1",
+        "done; no disk is left out [true, true, true]; pool true 1 103 1 100 2: 100 1 7168 12 1 [101, 102, 103]; ",
+    ),
+    (
+        "8 flush 1; format; export xx- first 3; label 2 1; label 2 2",
+        "done; no disk is left out [true, true, true]; pool false 3 103 1 100 4: 100 1 7168 12 1 [101, 102, 103]; \
         pool true 1 103 1 100 2: 100 1 7168 12 1 [101, 102, 103]; ",
     ),
     // The disks of a pool in another order: the disk of each child, and the label that is taken, of all twelve.
@@ -526,7 +549,11 @@ fn written(alloc: Global, disks: &mut Disks, step: &Step<'_>) -> Result<String, 
     let uberblock = named(step.name, first);
     match step.verb {
         "commit" => done(alloc, commit(disks, &step.out, &uberblock)),
-        _ => done(alloc, export_labels(alloc, disks, &step.out, &uberblock)),
+        _ => {
+            let mut out = Vec::from_slice(alloc, &step.out)?;
+            let answer = export_labels(alloc, disks, &mut out, &uberblock);
+            Ok(format!(in alloc; "{} out {out:?}", done(alloc, answer)?)?)
+        }
     }
 }
 

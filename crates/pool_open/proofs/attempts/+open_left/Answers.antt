@@ -6,8 +6,7 @@ use Rattle.pool_slots.proofs.Results.{if_err_is}
 use Rattle.pool_core.specs.StateOf.{state_of}
 use Rattle.pool_open.specs.Opening.{IsOpenedOver}
 use Rattle.pool_open.specs.Retried.{IsAttempt, IsFailedClaim, IsNotOpenedAtLast, IsOpenedAtLast}
-use Rattle.pool_open.specs.Words.{LiesAmong, vdevs_in}
-use Rattle.pool_open.proofs.Counting.{lie_among}
+use Rattle.pool_open.specs.Words.{vdevs_in}
 use Rattle.pool_open.proofs.Retried.{count_left, fewer_left, labels_left, laid_left, may_left, opened_first, opened_next, refused_first, refused_next, refused_with_few}
 use Rattle.pool_open.proofs.attempts.+open_left.Goals as goal
 
@@ -22,15 +21,6 @@ returns-in-Opened-clause-opened g t c =
     let it : IsOpenedOver c.args.disks c.args.shapes.now c.args.out.items c.args.rewind c.in-Opened.pool.uberblock (state_of c.in-Opened.pool.core) =
     subst (IsAttempt g.D.Disk c.args.disks c.args.shapes.now c.args.out.items c.args.rewind) c.in-Opened.is c.in_ok-pool.ensures.attempted in
     opened_first c.args.disks c.args.shapes.now c.args.out.items c.args.rewind c.in-Opened.pool.uberblock (state_of c.in-Opened.pool.core) it
-
-pub are_tolerable-requires : goal.are_tolerable-requires
-are_tolerable-requires g t c =
-    let it : IsFailedClaim c.args.disks c.args.shapes.now c.args.out.items c.args.rewind c.in-ClaimFailed.disks c.in-ClaimFailed.out.items =
-    subst (IsAttempt g.D.Disk c.args.disks c.args.shapes.now c.args.out.items c.args.rewind) c.in-ClaimFailed.is c.in_ok-pool.ensures.attempted in
-    record {
-      there = subst (λ (n : ℕ). All (LiesAmong n) c.args.shapes.now) (sym (ap length c.deref.ensures.value ∙ count_left it))
-          (lie_among c.args.disks.starts 0 c.args.shapes.now c.requires.may.lie);
-    }
 
 pub returns-then-not-are_tolerable-clause-refused : goal.returns-then-not-are_tolerable-clause-refused
 returns-then-not-are_tolerable-clause-refused g t c =
