@@ -1,5 +1,5 @@
 -- An export of a core's disks, by what is said of their labels.
-use Rattle.std.proofs.Common.{◌≡◌, ◌∙◌, inl, inr, Bool, true, false, List, refl, sym, ap, subst}
+use Rattle.std.proofs.Common.{◌≡◌, ◌∙◌, inl, inr, Bool, true, false, List, Result, Ok, Err, OnOk, refl, sym, ap, subst}
 use Rattle.model_disk.specs.Joint.{Disks}
 use Rattle.model_disk.specs.declared.disk.Disk as disk
 use Rattle.pool_core.specs.Last.{IsLastUberblock}
@@ -105,6 +105,11 @@ given_few g core u out later old new disks same_out same_disks exportable last i
       array = array;
       stopped = record { begun = begun core u later new exportable last it; absent = it.absent; why = inr (refl, few) };
     }
+
+-- what holds of an answer that is no refusal
+pub ok_use : {T E : Type 0} (r : Result T E) (P : Type 0) → ((e : E) → ¬ (r ≡ Err e)) → OnOk r P → P
+ok_use (Ok x) P none it = it
+ok_use (Err e) P none it = absurd (none e refl)
 
 -- what the core has against it
 pub refuses : (core : CoreState) (refusal : Refusal) → IsAgainstExport core refusal → RefusesExport core refusal
