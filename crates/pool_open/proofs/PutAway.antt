@@ -95,15 +95,15 @@ given_back g core u out later old new disks cause refusal same_out same_disks ex
 
 -- where too many are out
 pub given_few : {D : Type 0} (g : disk.Ghosts D) (core : CoreState) (u : Uberblock) (out later : List Bool) (old new : Disks) (disks : List D) → out ≡ outs_of core → old ≡ disks_of core
-    → IsExportable core → IsLastUberblock core.commit u → AreWritten u later new out old → bears core later ≡ false → IsArrayOf g disks new → IsGivenBack g core Suspended disks
-given_few g core u out later old new disks same_out same_disks exportable last is few array =
+    → IsExportable core → IsLastUberblock core.commit u → AreWritten u later new out old → bears core later ≡ false → AreSettled later new.calls → IsArrayOf g disks new → IsGivenBack g core Suspended disks
+given_few g core u out later old new disks same_out same_disks exportable last is few settled array =
     let it = of_same (AreWritten u later new) out (outs_of core) old (disks_of core) same_out same_disks is in
     record {
       u = u;
       later = later;
       new = new;
       array = array;
-      stopped = record { begun = begun core u later new exportable last it; absent = it.absent; why = inr (refl, few) };
+      stopped = record { begun = begun core u later new exportable last it; absent = it.absent; why = inr (refl, few, settled) };
     }
 
 -- what holds of an answer that is no refusal

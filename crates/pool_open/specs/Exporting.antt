@@ -68,11 +68,11 @@ pub record IsExportDone (core : CoreState) (u : Uberblock) (later : List Bool) (
   pub settled : AreSettled later new.calls
   pub keeps : ExportKeeps later (disks_of core) new
 
--- Why it isn't done: the labels were refused, or more disks of a vdev are out now than it has parities.
+-- Why it isn't done: the labels were refused; or more disks of a vdev are out now than it has parities, and on those in use nothing is unflushed.
 abbrev pub StopsExport : CoreState → Uberblock → List Bool → Disks → Refusal → Type 0
 StopsExport core u later new refusal =
     ((cause : LabelsRefusal) × (refusal ≡ of_export cause) × ExportRefuses (outs_of core) later u (disks_of core) new cause)
-    ⊎ ((refusal ≡ Suspended) × (bears core later ≡ false))
+    ⊎ ((refusal ≡ Suspended) × (bears core later ≡ false) × AreSettled later new.calls)
 
 -- it ended so, and those disks are out now too of which a call failed
 pub record IsExportStopped (core : CoreState) (u : Uberblock) (later : List Bool) (new : Disks) (refusal : Refusal) : Type 0 where

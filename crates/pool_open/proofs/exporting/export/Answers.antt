@@ -33,6 +33,7 @@ returns-then-not-are_tolerable-clause-not g c =
     c.in-Ok.ensures.out c.into_array-disks.ensures c.in-Ok.ensures.exportable c.in-Ok.ensures.uberblock
     (record { absent = said.absent; makes = said.makes; takes = said.taken; leads = said.any_moment; configures = said.configured_any_moment; marks = said.labels_any_moment })
     (borne core c.deref.result.now later c.deref-2.result.now c.are_tolerable.result false (c.deref.ensures.value ∙ c.in-Ok.ensures.shapes) c.deref-2.ensures.value c.are_tolerable.ensures c.if-not-are_tolerable.true)
+    (ok_use c.export_labels.result (AreSettled later new.calls) c.in_default.not-Err said.settled)
     (sym c.into_disks-then-not-are_tolerable.ensures.starts, λ which. sym (c.into_disks-then-not-are_tolerable.ensures.calls which))
 
 pub returns-clause-exported : goal.returns-clause-exported
