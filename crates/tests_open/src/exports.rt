@@ -1,8 +1,10 @@
 //! Pools that are exported, and opened again.
+use crate::failing::{failing, left};
 use crate::pools::{
-    Shown, TestDisk, blank, blocks_of, committed, fill, make, present, sync, write_block,
+    NEVER, Opening, Shown, TestDisk, blank, blocks_of, committed, fill, make, opening, present,
+    sync, write_block,
 };
-use model_disk::Member;
+use model_disk::{Fault, Member};
 use pool_create::Core;
 use pool_model::Refusal;
 use pool_open::{NotExported, OpenedPool, export, open};
@@ -89,5 +91,45 @@ fn put_away_later(alloc: Global) -> Result<(Refusal, Option<u64>, Found), Fail> 
 fn what_is_accepted_is_committed_first(rt: HostRuntime) -> Result<(), Fail> {
     let found = ((Some(6), Some((0, 0xbb))), 2);
     assert!(rt; put_away_later(rt.alloc())? == (Refusal::NotNow, Some(6), found));
+    Ok(())
+}
+
+/// What an export answers of a pool that is opened on disks that fail so, and what an open then gives of the disks but one, which fail no more.
+fn exported_failing(
+    alloc: Global,
+    faults: &[Fault; 3],
+    dead: usize,
+) -> Result<(Option<Refusal>, Opening), Fail> {
+    let (pool, _) = open(alloc, failing(alloc, faults)?, 0).map_err(pool_open::Refusal::from)?;
+    let (refusal, members) = match export(alloc, pool) {
+        Ok(members) => (None, members),
+        Err(NotExported::Stopped { refusal, disks }) => (Some(refusal), disks),
+        Err(NotExported::Refused { refusal, .. }) => return Err(Fail::from(refusal)),
+    };
+    let again = opening(alloc, left(alloc, members, dead)?, 0);
+    Ok((refusal, again))
+}
+
+/// One disk fails at a write or a flush of the export, each in turn: an open makes eight writes and four flushes before.
+#[test]
+fn an_export_goes_on_without_a_disk(rt: HostRuntime) -> Result<(), Fail> {
+    for number in 0..6 {
+        let fault = if number < 4 {
+            Fault::Write(8 + number)
+        } else {
+            Fault::Flush(number)
+        };
+        let answer = exported_failing(rt.alloc(), &[NEVER, fault, NEVER], 1)?;
+        assert!(rt; answer == (None, Ok((5, 3))));
+    }
+    Ok(())
+}
+
+/// Two disks fail, at the last flush of the export. The pool opens again from all of them.
+#[test]
+fn an_export_needs_enough_disks(rt: HostRuntime) -> Result<(), Fail> {
+    let last = Fault::Flush(5);
+    let answer = exported_failing(rt.alloc(), &[NEVER, last, last], 3)?;
+    assert!(rt; answer == (Some(Refusal::Suspended), Ok((5, 3))));
     Ok(())
 }

@@ -9,7 +9,7 @@ use std::alloc::{AllocError, Global};
 use std::test::*;
 
 /// The disks of a pool with a volume, of which the last, the second and the first fail so.
-fn failing(alloc: Global, faults: &[Fault; 3]) -> Result<Vec<TestDisk>, Fail> {
+pub(crate) fn failing(alloc: Global, faults: &[Fault; 3]) -> Result<Vec<TestDisk>, Fail> {
     let (mut disks, _) = written(alloc)?;
     let mut failing = Vec::new(alloc);
     for &fault in faults {
@@ -31,7 +31,11 @@ fn outs(alloc: Global, core: &Core<Member<TestDisk>>) -> Result<Option<[bool; 3]
 }
 
 /// The disks of a pool but that one, which fail no more.
-fn left(alloc: Global, members: Vec<Member<TestDisk>>, dead: usize) -> Result<Vec<TestDisk>, Fail> {
+pub(crate) fn left(
+    alloc: Global,
+    members: Vec<Member<TestDisk>>,
+    dead: usize,
+) -> Result<Vec<TestDisk>, Fail> {
     let mut members = members;
     if dead < members.len() {
         members.remove(dead);
