@@ -1,11 +1,10 @@
 -- Disks that are handed on with no stop between: each byte is known, and nothing is unflushed.
-use Rattle.std.proofs.Common.{◌≡◌, ⊎_elim, ◌<◌, ℕ, zero, suc, Bool, true, false, List, [], ◌∷◌, ◌++◌, length, All, Option, Some, None, refl, sym, ap, subst, ◌∙◌, arith, true≢false}
+use Rattle.std.proofs.Common.{◌≡◌, ◌⊎◌, inl, inr, ⊎_elim, ◌<◌, ℕ, zero, suc, Bool, true, false, List, [], ◌∷◌, ◌++◌, length, slice_get, All, Option, Some, None, refl, sym, ap, subst, ◌∙◌, arith, true≢false}
 use Rattle.std.specs.Prelude.{◌==◌, if◌then◌else◌}
 use Rattle.std.proofs.lemmas.List.Elements.{All-head, All-tail}
 use Rattle.model_disk.specs.Call.{Call, FailedFlush, FailedRead, FailedWrite, Flushed, Read, Wrote}
 use Rattle.model_disk.specs.Contents.{is_dirty}
 use Rattle.model_disk.specs.Joint.{Disks, JointCall, calls_on}
-use Rattle.model_disk.specs.RunLaws.{FailuresAreSeen}
 use Rattle.model_disk.specs.Runs.{AreSettled}
 use Rattle.model_disk.specs.declared.disk.Disk as disk
 use Rattle.block_store.specs.Store.{is_out}
@@ -18,14 +17,16 @@ use Rattle.pool_create.specs.CoreState.{CoreState, disks_of}
 use Rattle.pool_create.specs.OpenExporting.{IsExportBegun, IsExportDone, IsExportStopped}
 use Rattle.pool_create.specs.OpenRefusal.{Refusal}
 use Rattle.pool_create.specs.Opens.{IsUnopened}
+use Rattle.pool_export.specs.Absence.{GoOutFailing}
 use Rattle.pool_export.specs.Refusals.{ExportRefuses}
 use Rattle.pool_export.specs.declared.refusal.Refusal.{Refusal as LabelsRefusal}
-use Rattle.pool_export.specs.declared.refusal.Refusal.TheVariants.{DiskFault, NoLabel, NoMemory}
+use Rattle.pool_export.specs.declared.refusal.Refusal.TheVariants.{NoDisk, NoLabel, NoMemory}
 use Rattle.pool_model.specs.View.{View, is_syncing}
 use Rattle.pool_model.specs.declared.refusal.Refusal.{Refusal as ExportRefusal}
 use Rattle.pool_slots.specs.Opens.{IsKnown}
 use Rattle.pool_slots.specs.Reads.{IsReadCall, IsReadOf, OnlyReads, nowhere}
-use Rattle.pool_slots.specs.Slots.{InUse}
+use Rattle.pool_slots.specs.Present.{is_out as is_out_of}
+use Rattle.pool_slots.specs.Slots.{InUse, AreSettled as AreSettledInUse}
 use Rattle.pool_stops.specs.OwnReopening.{AreSafe, GrewFromKnown}
 use Rattle.pool_stops.specs.Running.{IsBetween, IsRunning, StandAt}
 use Rattle.pool_stops.specs.Unhindered.{AnswerTruly}
@@ -101,32 +102,48 @@ safe_begun core u new hand begun truly settled = record {
   settled = settled;
 }
 
-pub safe_exported : (core : CoreState) (u : Uberblock) (new : Disks) → IsAtHand core → IsExportDone core u new → AnswerTruly (disks_of core) new → AreSafe new
-safe_exported core u new hand done truly =
-    safe_begun core u new hand done.begun truly (λ which below.
-    let there : which < length core.commit.store.out = omega (arith, below, ap length done.begun.makes.makes.starts, hand.count) in
-    done.settled which (in_use core.commit.store.out which there (hand.none which)))
+-- a disk in use stays so where no call failed
+either : (out : List Bool) (which : ℕ) → which < length out → InUse out which ⊎ (slice_get out which ≡ Some true)
+either [] which below = absurd (omega (arith, below))
+either (false ∷ out) zero below = inl refl
+either (true ∷ out) zero below = inr refl
+either (flag ∷ out) (suc which) below = either out which (omega (arith, below))
 
--- where no call failed it only read
-only_read : FailuresAreSeen → (out : List Bool) (u : Uberblock) (old new : Disks) (cause : LabelsRefusal) → AnswerTruly old new → ExportRefuses out u old new cause
-    → OnlyReads (InUse out) nowhere old new
-only_read law out u old new NoMemory truly why = why
-only_read law out u old new (NoLabel which) truly why = why.0
-only_read law out u old new (DiskFault which) truly why = ⊎_elim
-    (λ reading. absurd (truly.none_failed which reading.failed))
-    (λ writing.
-    let only = writing.only in
-    let seen = law.since old writing.read new only.newer (record { starts = only.starts; calls = only.calls }) (which, writing.failed) in
-    absurd (truly.none_failed seen.0 seen.1))
-    why
+still_in_use : (out later : List Bool) (old new : Disks) → GoOutFailing out later old new → AnswerTruly old new → (which : ℕ) → which < length out → is_out out which ≡ false → InUse later which
+still_in_use out later old new absent truly which below none =
+    ⊎_elim (λ used. used)
+    (λ (gone : slice_get later which ≡ Some true).
+    absurd (truly.none_failed which (absent.failed which (in_use out which below none) (λ used. let same : Some true ≡ Some false = sym gone ∙ used in absurd cc))))
+    (either later which (omega (arith, below, absent.count)))
 
-pub safe_unexported : FailuresAreSeen → (core : CoreState) (u : Uberblock) (new : Disks) (refusal : ExportRefusal) → IsAtHand core
-    → IsExportStopped core u new refusal → AnswerTruly (disks_of core) new → AreSafe new
-safe_unexported law core u new refusal hand stopped truly =
-    let out : List Bool = core.commit.store.out in
-    safe_begun core u new hand stopped.begun truly
-    (settled_by_reads (InUse out) nowhere (disks_of core) new (only_read law out u (disks_of core) new stopped.cause truly stopped.why)
-    (hand.settled (hand.unplanned stopped.begun.exportable)))
+there_in : (core : CoreState) (u : Uberblock) (new : Disks) → IsAtHand core → IsExportBegun core u new → (which : ℕ) → which < length new.starts → which < length core.commit.store.out
+there_in core u new hand begun which below = omega (arith, below, ap length begun.makes.makes.starts, hand.count)
+
+all_settled : (core : CoreState) (u : Uberblock) (later : List Bool) (new : Disks) → IsAtHand core → IsExportBegun core u new → GoOutFailing core.commit.store.out later (disks_of core) new
+    → AnswerTruly (disks_of core) new → AreSettledInUse later new.calls → AreSettled new
+all_settled core u later new hand begun absent truly settled which below =
+    settled which (still_in_use core.commit.store.out later (disks_of core) new absent truly which (there_in core u new hand begun which below) (hand.none which))
+
+pub safe_exported : (core : CoreState) (u : Uberblock) (later : List Bool) (new : Disks) → IsAtHand core → IsExportDone core u later new → AnswerTruly (disks_of core) new → AreSafe new
+safe_exported core u later new hand done truly = safe_begun core u new hand done.begun truly (all_settled core u later new hand done.begun done.absent truly done.settled)
+
+-- where labels were refused it only read
+settled_refused : (core : CoreState) (u : Uberblock) (later : List Bool) (new : Disks) (cause : LabelsRefusal) → IsAtHand core → IsExportBegun core u new
+    → GoOutFailing core.commit.store.out later (disks_of core) new → AnswerTruly (disks_of core) new → ExportRefuses core.commit.store.out later u (disks_of core) new cause → AreSettled new
+settled_refused core u later new NoMemory hand begun absent truly why =
+    settled_by_reads (InUse core.commit.store.out) (is_out_of later) (disks_of core) new why (hand.settled (hand.unplanned begun.exportable))
+settled_refused core u later new (NoLabel disk) hand begun absent truly why =
+    settled_by_reads (InUse core.commit.store.out) (is_out_of later) (disks_of core) new why.0 (hand.settled (hand.unplanned begun.exportable))
+settled_refused core u later new NoDisk hand begun absent truly why which below =
+    absurd (why which (still_in_use core.commit.store.out later (disks_of core) new absent truly which (there_in core u new hand begun which below) (hand.none which)))
+
+pub safe_unexported : (core : CoreState) (u : Uberblock) (later : List Bool) (new : Disks) (refusal : ExportRefusal) → IsAtHand core
+    → IsExportStopped core u later new refusal → AnswerTruly (disks_of core) new → AreSafe new
+safe_unexported core u later new refusal hand stopped truly =
+    safe_begun core u new hand stopped.begun truly (⊎_elim
+    (λ refused. settled_refused core u later new refused.0 hand stopped.begun stopped.absent truly refused.2)
+    (λ many. all_settled core u later new hand stopped.begun stopped.absent truly many.2)
+    stopped.why)
 
 -- ---- opens
 

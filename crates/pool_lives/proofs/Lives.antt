@@ -4,7 +4,6 @@ use Rattle.std.specs.Prelude.{All, ◌==◌, ◌^◌, if◌then◌else◌}
 use Rattle.std.proofs.lemmas.List.{append_cancel_left, length-append}
 use Rattle.std.proofs.lemmas.List.Elements.{All-head, All-tail}
 use Rattle.model_disk.specs.Joint.{Disks}
-use Rattle.model_disk.specs.RunLaws.{FailuresAreSeen}
 use Rattle.model_disk.specs.declared.disk.Disk as disk
 use Rattle.block_store.specs.Places.{shapes_of}
 use Rattle.block_store.specs.Store.{is_out}
@@ -321,8 +320,8 @@ module _ {D : Type 0} where
   go_on g from to next [] it same goes = (next, subst (λ (place : Place). Goes g place it next) (sym same) goes, refl)
   go_on g from to next (first ∷ its) it (place, began, life) goes = (place, began, go_on g place to next its it life goes)
 
-  pub lives_go_on : (g : disk.Ghosts D) → UnfoundDisksAreReturned g → ShownImagesAreLeft → ArraysComeBack g → FailuresAreSeen → LivesGoOn g
-  lives_go_on g law shown_left arrays seen = record {
+  pub lives_go_on : (g : disk.Ghosts D) → UnfoundDisksAreReturned g → ShownImagesAreLeft → ArraysComeBack g → LivesGoOn g
+  lives_go_on g law shown_left arrays = record {
     on = λ from to next its it life goes. go_on g from to next its it life goes;
     runs = λ old new steps before after ran honest all. record {
       before = before;
@@ -344,8 +343,8 @@ module _ {D : Type 0} where
     unfound = λ images disks back order rewind cause returned refuses.
         (((disks, order, returned, back, cause, refuses), refl), law images disks back order rewind cause returned refuses);
     hands_back = λ core hand none. (record { known = hand.known; settled = hand.settled none }, λ images shown. (none, shown));
-    hands_exported = λ core u new hand done truly. (
-      safe_exported core u new hand done truly,
+    hands_exported = λ core u later new hand done truly. (
+      safe_exported core u later new hand done truly,
       λ images shown. (
         u,
         new,
@@ -354,8 +353,8 @@ module _ {D : Type 0} where
         shown_left core.commit.store.out (disks_of core) new images (begun_grew core u new done.begun) shown,
       ),
     );
-    hands_unexported = λ core u new refusal hand stopped truly. (
-      safe_unexported seen core u new refusal hand stopped truly,
+    hands_unexported = λ core u later new refusal hand stopped truly. (
+      safe_unexported core u later new refusal hand stopped truly,
       λ images shown. (
         u,
         new,

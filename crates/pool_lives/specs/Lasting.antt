@@ -99,10 +99,10 @@ module _ {D : Type 0} where
     -- And with no stop between: the disks of a core with nothing planned, of an export that was done, or refused once it was begun, and of an open that was
     -- refused once its pool was found.
     pub hands_back : (core : CoreState) → IsAtHand core → core.commit.planned ≡ None → HandsOn g (Up core) HandsBack (disks_of core)
-    pub hands_exported : (core : CoreState) (u : Uberblock) (new : Disks) → IsAtHand core → IsExportDone core u new → AnswerTruly (disks_of core) new
+    pub hands_exported : (core : CoreState) (u : Uberblock) (later : List Bool) (new : Disks) → IsAtHand core → IsExportDone core u later new → AnswerTruly (disks_of core) new
         → HandsOn g (Up core) Exports new
-    pub hands_unexported : (core : CoreState) (u : Uberblock) (new : Disks) (refusal : ExportRefusal) → IsAtHand core
-        → IsExportStopped core u new refusal → AnswerTruly (disks_of core) new → HandsOn g (Up core) Exports new
+    pub hands_unexported : (core : CoreState) (u : Uberblock) (later : List Bool) (new : Disks) (refusal : ExportRefusal) → IsAtHand core
+        → IsExportStopped core u later new refusal → AnswerTruly (disks_of core) new → HandsOn g (Up core) Exports new
     pub hands_unopened : (pool : PoolIdentity) (vdevs : List PlainVdev) (digest : List ℕ) (images : List (List ℕ)) (shapes : List VdevShape) (out : List Bool)
         (p : Possible) (pools : Uberblock → PlainPool) (disks : List D) (order : List ℕ) (rewind : ℕ) (refusal : Refusal) (back : List D)
         → OpenAgain g pool vdevs digest images shapes out p pools → rewind < 3 → AreReturned g images disks order → (is : IsUnopened g disks rewind back refusal)

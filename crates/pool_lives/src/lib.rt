@@ -4,7 +4,6 @@
 ghost use Rattle.pool_lives.specs.Lasting.{LivesGoOn, LivesLoseNothing};
 
 use model_disk::Disk;
-use model_disk::laws::failures_are_seen;
 use pool_create::unfailing_opens_claim_once;
 use pool_model::headline_of_runs;
 use pool_stops::{
@@ -42,5 +41,4 @@ pub fn lives_go_on<D: Disk + Drop>()
 {
     disks_may_be_handed_in::<D>();
     disks_may_be_handed_on::<D>();
-    failures_are_seen();
 }

@@ -1,5 +1,5 @@
 -- By what the calls ensured the pool has lived.
-use Rattle.std.proofs.Common.{ℕ, ◌≡◌, List, [], ◌∷◌, ◌++◌, map, refl, sym, ap, subst, ◌∙◌}
+use Rattle.std.proofs.Common.{ℕ, ◌≡◌, Bool, List, [], ◌∷◌, ◌++◌, map, refl, sym, ap, subst, ◌∙◌}
 use Rattle.model_disk.specs.Call.{Call}
 use Rattle.model_disk.specs.Joint.{Disks, calls_on, log_of}
 use Rattle.model_disk.specs.Member.{calls_of, start_of}
@@ -71,16 +71,17 @@ module _ {D : Type 0} where
     λ which. calls which ∙ ap (λ (logs : List (List Call)). log_of logs which) (ap (map (calls_of g)) same ∙ logs_of g disks),
   )
 
-  pub exports_and_opens : (g : disk.Ghosts D) → LivesGoOn g → (old : CoreState) (exported : Uberblock) (left : Disks) (disks : List D) (u : Uberblock)
-      (new : CoreState) → IsExportDone old exported left → IsArrayOf g disks left → IsOpened g disks 0 u new → ExportsAndOpens g old u new
-  exports_and_opens g on old exported left disks u new done array opened = record {
+  pub exports_and_opens : (g : disk.Ghosts D) → LivesGoOn g → (old : CoreState) (exported : Uberblock) (later : List Bool) (left : Disks) (disks : List D) (u : Uberblock)
+      (new : CoreState) → IsExportDone old exported later left → IsArrayOf g disks left → IsOpened g disks 0 u new → ExportsAndOpens g old u new
+  exports_and_opens g on old exported later left disks u new done array opened = record {
     exported = exported;
+    later = later;
     left = left;
     done = done;
     disks = disks;
     opened = opened;
     life = λ hand truly well.
-        let goes = on.hands_exported old exported left hand done truly in
+        let goes = on.hands_exported old exported later left hand done truly in
         let back = on.arrays left disks array goes.0 in
         let images = back.1.images in (
           Down images,

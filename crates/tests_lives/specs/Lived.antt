@@ -1,5 +1,5 @@
 -- A life that was lived: by what its calls ensured it is one.
-use Rattle.std.specs.Prelude.{ℕ, List, [], ◌∷◌}
+use Rattle.std.specs.Prelude.{ℕ, Bool, List, [], ◌∷◌}
 use Rattle.model_disk.specs.Joint.{Disks}
 use Rattle.model_disk.specs.declared.disk.Disk as disk
 use Rattle.raidz_io.specs.Reads.{IsHonestSince}
@@ -55,8 +55,9 @@ module _ {D : Type 0} where
   -- a pool was exported and its very disks were opened, which is a life where all went well
   pub record ExportsAndOpens (g : disk.Ghosts D) (old : CoreState) (u : Uberblock) (new : CoreState) : Type 0 where
     pub exported : Uberblock
+    pub later : List Bool
     pub left : Disks
-    pub done : IsExportDone old exported left
+    pub done : IsExportDone old exported later left
     pub disks : List D
     pub opened : IsOpened g disks 0 u new
     pub life : IsAtHand old → AnswerTruly (disks_of old) left → WentWell opened → IsLife g (Up old) (Exports ∷ Opens 0 u ∷ []) (Up new)

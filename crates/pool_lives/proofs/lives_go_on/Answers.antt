@@ -3,4 +3,3 @@ use Rattle.pool_lives.proofs.lives_go_on.Goals as goal
 
 pub returns : goal.returns
 returns g c = law g.D.Disk c.disks_may_be_handed_in.ensures.unfound c.disks_may_be_handed_on.ensures.shown c.disks_may_be_handed_on.ensures.back
-    c.failures_are_seen.ensures
