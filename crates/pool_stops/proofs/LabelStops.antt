@@ -64,7 +64,6 @@ still_left out digest old new makes leaves =
           let mine = left.each which below in
           record {
             size = mine.size;
-            bytes = mine.bytes;
             kept = λ i value clean known.
                 let same = kept_byte no_write (bytes_of old.starts which) made old.calls which i are (λ at bytes none. absurd none) in
                 mine.kept i value (same.1 clean) (same.0 ∙ known);
