@@ -24,7 +24,7 @@ use Rattle.pool_export.specs.declared.refusal.Refusal.TheVariants.{NoDisk, NoLab
 use Rattle.pool_model.specs.View.{View, is_syncing}
 use Rattle.pool_model.specs.declared.refusal.Refusal.{Refusal as ExportRefusal}
 use Rattle.pool_slots.specs.Opens.{IsKnown}
-use Rattle.pool_slots.specs.Reads.{IsReadCall, IsReadOf, OnlyReads, nowhere}
+use Rattle.pool_slots.specs.Reads.{IsReadCall, IsReadOf, OnlyReads}
 use Rattle.pool_slots.specs.Present.{is_out as is_out_of}
 use Rattle.pool_slots.specs.Slots.{InUse, AreSettled as AreSettledInUse}
 use Rattle.pool_stops.specs.OwnReopening.{AreSafe, GrewFromKnown}
@@ -134,7 +134,7 @@ settled_refused core u later new NoMemory hand begun absent truly why =
     settled_by_reads (InUse core.commit.store.out) (is_out_of later) (disks_of core) new why (hand.settled (hand.unplanned begun.exportable))
 settled_refused core u later new (NoLabel disk) hand begun absent truly why =
     settled_by_reads (InUse core.commit.store.out) (is_out_of later) (disks_of core) new why.0 (hand.settled (hand.unplanned begun.exportable))
-settled_refused core u later new NoDisk hand begun absent truly why which below =
+settled_refused core u later new NoDisk hand begun absent truly why = λ which below.
     absurd (why which (still_in_use core.commit.store.out later (disks_of core) new absent truly which (there_in core u new hand begun which below) (hand.none which)))
 
 pub safe_unexported : (core : CoreState) (u : Uberblock) (later : List Bool) (new : Disks) (refusal : ExportRefusal) → IsAtHand core
