@@ -5,6 +5,8 @@
 #[cfg(test)]
 mod alone;
 #[cfg(test)]
+mod failing_disks;
+#[cfg(test)]
 mod gates;
 #[cfg(test)]
 mod in_threads;

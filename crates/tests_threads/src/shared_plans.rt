@@ -1,7 +1,7 @@
 //! Plans of a pool whose parity workers share.
 use crate::gates::Meeting;
 use block_store::VdevConfig;
-use model_disk::MemDisk;
+use model_disk::{Disk, MemDisk};
 use pool_core::{Core, plan_with};
 use pool_model::{Action, Bytes, Change, Name, Reply, Step, Write};
 use raidz_map::Geometry;
@@ -27,7 +27,7 @@ impl Gate for Counted {
     }
 }
 
-fn named(alloc: Global) -> Result<Name, AllocError> {
+pub(crate) fn named(alloc: Global) -> Result<Name, AllocError> {
     Ok(Name::new(Vec::from_slice(alloc, b"v")?))
 }
 
@@ -42,17 +42,17 @@ fn pool(alloc: Global) -> Result<Core<MemDisk>, Fail> {
     Ok(Core::create(alloc, disks, &[vdev])?)
 }
 
-/// Lets a group be planned that has this step of writer 1.
-fn quiesce(core: &mut Core<MemDisk>, step: Step) {
-    core.step(Step::Hold(1));
+/// Lets a group be planned that has this step of a writer.
+pub(crate) fn quiesce<D: Disk + Drop>(core: &mut Core<D>, writer: u32, step: Step) {
+    core.step(Step::Hold(writer));
     core.step(step);
-    core.step(Step::Release(1));
+    core.step(Step::Release(writer));
     core.step(Step::Close);
     core.step(Step::Quiesce);
 }
 
 /// Makes the calls of the planned group, and gives the last reply.
-fn commit(core: &mut Core<MemDisk>) -> Reply {
+pub(crate) fn commit<D: Disk + Drop>(core: &mut Core<D>) -> Reply {
     for _ in 0..1000 {
         let reply = core.step(Step::Device);
         if !matches!(reply, Reply::Moved(_)) {
@@ -75,7 +75,7 @@ fn quiesced(alloc: Global) -> Result<Core<MemDisk>, Fail> {
             block_size: 0x1000,
         },
     });
-    quiesce(&mut core, created);
+    quiesce(&mut core, 1, created);
     core.step(Step::Plan { timestamp: 8 });
     commit(&mut core);
     let volume = named(alloc)?;
@@ -87,7 +87,7 @@ fn quiesced(alloc: Global) -> Result<Core<MemDisk>, Fail> {
         offset: 0,
         bytes,
     });
-    quiesce(&mut core, write);
+    quiesce(&mut core, 1, write);
     Ok(core)
 }
 
