@@ -130,8 +130,9 @@ fn each_extent_has_its_worker(rt: HostRuntime) -> Result<(), Fail> {
         assert!(rt; !gate.wrong.load(Ordering::SeqCst));
         counts.push(gate.extents.load(Ordering::SeqCst))?;
     }
+    let first = counts.first().copied().unwrap_or(0);
     assert!(rt;
-        counts[0] > 16 && counts.iter().all(|count| *count == counts[0]),
+        first > 16 && counts.iter().all(|count| *count == first),
         "{counts:?}"
     );
     let mut core = quiesced(alloc)?;
