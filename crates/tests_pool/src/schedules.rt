@@ -528,7 +528,7 @@ quiesced -> quiesced 5
 
 /// Its plan, as far as its blocks are written, and as far as they are flushed.
 const WRITTEN: &str = "plan -> planned 5
-times 15 device -> moved Blocks
+times 16 device -> moved Blocks
 ";
 
 const FLUSHED: &str = "device -> moved BlocksFlush
