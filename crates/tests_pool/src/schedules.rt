@@ -528,7 +528,7 @@ quiesced -> quiesced 5
 
 /// Its plan, as far as its blocks are written, and as far as they are flushed.
 const WRITTEN: &str = "plan -> planned 5
-times 16 device -> moved Blocks
+times 14 device -> moved Blocks
 ";
 
 const FLUSHED: &str = "device -> moved BlocksFlush
@@ -552,8 +552,7 @@ times 2 device -> moved Slots
 device -> committed 5
 ";
 
-/// So it does where two of the disks' slots are written, and where all are; where nothing is left but on that disk it is committed with no
-/// call.
+/// So it does where two of the disks' slots are written, and where all are.
 const SOME_SLOTS: &str = "times 2 device -> moved Slots
 out 2 -> out
 device -> committed 5
@@ -562,6 +561,20 @@ device -> committed 5
 const ALL_SLOTS: &str = "times 3 device -> moved Slots
 out 0 -> out
 device -> committed 5
+";
+
+/// Where nothing is left but the flush of that disk, the group is committed with no call.
+const NO_CALL_LEFT: &str = "pool 2 5 8388608 12 2
+close -> closed 4
+quiesced -> quiesced 4
+plan -> planned 4
+times 3 device -> moved Blocks
+times 2 device -> moved BlocksFlush
+times 5 device -> moved Slots
+device -> moved SlotsFlush
+out 4 -> out
+device -> committed 4
+device -> refused 13 NotNow
 ";
 
 /// The group reads without the disk, and the one before it; the next one is committed without it; and a second disk suspends the pool, also
@@ -617,7 +630,7 @@ fn wrong_at(alloc: Global, moments: &[(&[&str], usize)]) -> Result<String, Fail>
 
 #[test]
 fn disks_are_taken_out(rt: HostRuntime) -> Result<(), Fail> {
-    let mut wrong = wrong_in(rt.alloc(), &[TAKEN_OUT])?;
+    let mut wrong = wrong_in(rt.alloc(), &[TAKEN_OUT, NO_CALL_LEFT])?;
     wrong.push_str(wrong_at(rt.alloc(), &MOMENTS)?.as_str())?;
     assert!(rt; wrong.is_empty(), "{wrong}");
     Ok(())
