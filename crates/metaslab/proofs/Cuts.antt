@@ -77,21 +77,21 @@ cut_sizes big small p l a m s0 s1 s2 s3 cut sizes lost left right =
       each = λ q k has. elim (second.only q k has) [
         | inr (here, some, ends) ↦ subst (λ (n : ℕ). IsWhole small n k) (sym here) (right_part big small p l a m cut (omega arith) k ends)
         | inl had ↦ elim (first.only q k had) [
-            | inr (here, some, ends) ↦ subst (λ (n : ℕ). IsWhole small n k) (sym here) (left_part big small p l a m cut (omega arith) k ends)
-            | inl before ↦
-                let was = out.only q k before in
-                let whole = sizes.each q k was.0 in
-                others_stay big small p l a m q k cut whole (λ same.
-                    let is : k ≡ l = as_long big p l k cut.whole (subst (λ (n : ℕ). IsWhole big n k) same whole) in
-                    elim (was.1 whole.some) [ inl there ↦ there same | inr short ↦ short (ap (λ (n : ℕ). p + n) is) ])
-          ]
+          | inr (here, some, ends) ↦ subst (λ (n : ℕ). IsWhole small n k) (sym here) (left_part big small p l a m cut (omega arith) k ends)
+          | inl before ↦
+              let was = out.only q k before in
+              let whole = sizes.each q k was.0 in
+              others_stay big small p l a m q k cut whole (λ same.
+              let is : k ≡ l = as_long big p l k cut.whole (subst (λ (n : ℕ). IsWhole big n k) same whole) in
+              elim (was.1 whole.some) [ inl there ↦ there same | inr short ↦ short (ap (λ (n : ℕ). p + n) is) ])
+        ]
       ];
       all = λ q k whole. elim (parts_or_others big small p l a m q k cut whole) [
         | inl (was, differ) ↦ second.stay q k (first.stay q k (out.stay q k (sizes.all q k was) (inl differ)))
         | inr part ↦ elim part [
-            | inl (here, ends) ↦ second.stay q k (subst (λ (n : ℕ). HasRun s2 n k) (sym here) (first.has k whole.some ends))
-            | inr (here, ends) ↦ subst (λ (n : ℕ). HasRun s3 n k) (sym here) (second.has k whole.some ends)
-          ]
+          | inl (here, ends) ↦ second.stay q k (subst (λ (n : ℕ). HasRun s2 n k) (sym here) (first.has k whole.some ends))
+          | inr (here, ends) ↦ subst (λ (n : ℕ). HasRun s3 n k) (sym here) (second.has k whole.some ends)
+        ]
       ];
     }
 
@@ -120,9 +120,9 @@ give_sizes big small p l a m s0 s1 s2 s3 cut sizes left right gained =
             elim (parts_or_others big small p l a m q k cut whole) [
               | inl (is, differ) ↦ is
               | inr part ↦ elim part [
-                  | inl (here, ends) ↦ elim (before.1 whole.some) [ inl there ↦ absurd (there here) | inr short ↦ absurd (short ends) ]
-                  | inr (here, ends) ↦ elim (was.1 whole.some) [ inl there ↦ absurd (there here) | inr short ↦ absurd (short ends) ]
-                ]
+                | inl (here, ends) ↦ elim (before.1 whole.some) [ inl there ↦ absurd (there here) | inr short ↦ absurd (short ends) ]
+                | inr (here, ends) ↦ elim (was.1 whole.some) [ inl there ↦ absurd (there here) | inr short ↦ absurd (short ends) ]
+              ]
             ]
       ];
       all = λ q k whole. elim (cases_eq q p) [
@@ -225,14 +225,14 @@ none_found sizes free n (Some run) are some sorted none = tt
 none_found None free n None are some sorted none = absurd sorted
 none_found (Some s) free n None are some sorted none =
     λ (start, each).
-        let at = has_index free.runs start (record { start = 0; len = 0 }) (each start (omega arith) (omega arith)) in
-        let run = get_or free.runs at.0 (record { start = 0; len = 0 }) in
-        let whole = whole_at_index 0 (free.sectors + 1) free.runs at.0 (record { start = 0; len = 0 }) are.1 at.1 in
-        let has = named run start at.2 in
-        let short = none run.start run.len (sorted.all run.start run.len whole) in
-        let out = whole.behind in
-        let is_in = each (run.start + run.len) (omega (arith, has.1)) (omega (arith, has.0, has.1, short)) in
-        absurd cc
+    let at = has_index free.runs start (record { start = 0; len = 0 }) (each start (omega arith) (omega arith)) in
+    let run = get_or free.runs at.0 (record { start = 0; len = 0 }) in
+    let whole = whole_at_index 0 (free.sectors + 1) free.runs at.0 (record { start = 0; len = 0 }) are.1 at.1 in
+    let has = named run start at.2 in
+    let short = none run.start run.len (sorted.all run.start run.len whole) in
+    let out = whole.behind in
+    let is_in = each (run.start + run.len) (omega (arith, has.1)) (omega (arith, has.0, has.1, short)) in
+    absurd cc
 
 -- ---- counts
 

@@ -25,13 +25,13 @@ other_places k q l p differ =
     elim (cases_lt k l) [
       | inl below ↦ rw (less k l below) refl
       | inr from ↦ elim (cases_lt l k) [
-          | inl above ↦ rw (greater k l above) refl
-          | inr to ↦
-              elim (cases_lt q p) [
-                | inl first ↦ rw (same k l (omega arith), less q p first) refl
-                | inr later ↦ rw (same k l (omega arith), greater q p (omega arith)) refl
-              ]
-        ]
+        | inl above ↦ rw (greater k l above) refl
+        | inr to ↦
+            elim (cases_lt q p) [
+              | inl first ↦ rw (same k l (omega arith), less q p first) refl
+              | inr later ↦ rw (same k l (omega arith), greater q p (omega arith)) refl
+            ]
+      ]
     ]
 
 pub other_lengths : (k q l p : ℕ) → k ≢ l → is_eq (by_size (k, q) (l, p)) ≡ false
@@ -47,12 +47,12 @@ not_later k q l p h =
     elim (cases_lt k l) [
       | inl below ↦ inl below
       | inr from ↦ elim (cases_lt l k) [
-          | inl above ↦ let no : true ≡ false = rw (greater k l above) at h in absurd cc
-          | inr to ↦ elim (cases_lt p q) [
-              | inl first ↦ let no : true ≡ false = rw (same k l (omega arith), greater q p first) at h in absurd cc
-              | inr later ↦ inr (omega arith, later)
-            ]
+        | inl above ↦ let no : true ≡ false = rw (greater k l above) at h in absurd cc
+        | inr to ↦ elim (cases_lt p q) [
+          | inl first ↦ let no : true ≡ false = rw (same k l (omega arith), greater q p first) at h in absurd cc
+          | inr later ↦ inr (omega arith, later)
         ]
+      ]
     ]
 
 pub from_start : (k l p : ℕ) → k ≤ l → is_gt (by_size (k, 0) (l, p)) ≡ false
@@ -60,9 +60,9 @@ from_start k l p h =
     elim (cases_lt k l) [
       | inl below ↦ rw (less k l below) refl
       | inr from ↦ elim (cases_lt 0 p) [
-          | inl first ↦ rw (same k l (omega arith), less 0 p first) refl
-          | inr none ↦ rw (same k l (omega arith), same 0 p (omega arith)) refl
-        ]
+        | inl first ↦ rw (same k l (omega arith), less 0 p first) refl
+        | inr none ↦ rw (same k l (omega arith), same 0 p (omega arith)) refl
+      ]
     ]
 
 same_or_other : (k q l p : ℕ) → ((q ≡ p) × (k ≡ l)) ⊎ ((q ≢ p) ⊎ (k ≢ l))

@@ -136,9 +136,9 @@ none_has to rs count s d between front back few last =
           elim (cases_lt i count) [
             | inr behind ↦ let later = back i behind below in absurd (omega arith)
             | inl within ↦ elim (cases_lt (i + 1) count) [
-                | inl early ↦ absurd (past_early to rs count i s d between front few early has)
-                | inr final ↦ let out = last i (omega arith) in let is_in = at.2 in absurd cc
-              ]
+              | inl early ↦ absurd (past_early to rs count i s d between front few early has)
+              | inr final ↦ let out = last i (omega arith) in let is_in = at.2 in absurd cc
+            ]
           ]
     ]
 
@@ -188,12 +188,12 @@ others_stay big small p l a m q k cut whole differ =
     λ s from to. elim (cases_lt s a) [
       | inl before ↦ inl before
       | inr not_before ↦ elim (cases_lt s (a + m)) [
-          | inl inside ↦
-              let one = one_start big p l q k s cut.whole whole (omega arith) (omega arith) from to in
-              let other = one_start big q k p l s whole cut.whole from to (omega arith) (omega arith) in
-              absurd (differ (omega arith))
-          | inr behind ↦ inr behind
-        ]
+        | inl inside ↦
+            let one = one_start big p l q k s cut.whole whole (omega arith) (omega arith) from to in
+            let other = one_start big q k p l s whole cut.whole from to (omega arith) (omega arith) in
+            absurd (differ (omega arith))
+        | inr behind ↦ inr behind
+      ]
     ] in
     let still : (s : ℕ) → big s ≡ false → small s ≡ false =
     λ s out. elim (cases_lt s a) [

@@ -92,7 +92,10 @@ impl PlannedMetaslab {
             return Err(Refusal::NoSpace);
         }
         let mut copy = self.kept.hand_over()?;
-        let run = copy.allocate(sectors)?;
+        let Ok(run) = copy.allocate(sectors) else {
+            // There was room, so memory was short.
+            return Err(Refusal::NoMemory);
+        };
         self.copy = Some(copy);
         Ok(run)
     }
