@@ -101,6 +101,19 @@ flushed old new disk result starts spaces due calls ok err spans gone stray = re
   group = group_after old new result disk spans gone;
 }
 
+-- a disk that goes out with no call changes no byte
+pub put_out : (old new : Store) (disk : ℕ) → new.disks ≡ old.disks → new.spaces ≡ old.spaces → new.due ≡ old.due
+    → IsOutToo old.out disk new.out → GoesOut old disk new → new.stray ≡ old.stray → IsKept old new
+put_out old new disk disks spaces due too gone stray = record {
+  stray = stray;
+  spaces = spaces;
+  due = due;
+  contents = λ other i for. ap (λ (d : Disks). content d other i) disks;
+  more_out = λ other held. more_out old new disk too other held;
+  more_lost = lose_one old new disk too gone;
+  group = same_group old new disk gone;
+}
+
 -- a write of bytes that are for no block changes none that is
 pub wrote_aside : (old new : Store) (disk offset : ℕ) (bytes : List ℕ) (result : Result (Unit {0}) FailedDisk) → new.disks.starts ≡ old.disks.starts
     → new.spaces ≡ old.spaces → new.due ≡ old.due → new.disks.calls ≡ on disk (write_call result offset bytes) ∷ old.disks.calls

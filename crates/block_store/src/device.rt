@@ -103,4 +103,23 @@ impl<D: Disk + Drop> BlockStore<D> {
         blocks_beside_others();
         self.set.flush(disk)
     }
+
+    /// A disk is out from then on, with no call on it. What is due on it stays due, until the plan is dropped.
+    pub fn put_out(&mut self, disk: usize)
+        requires { disk < length self.old.disks.starts }
+        ensures disks { self.new.disks ≡ self.old.disks }
+        ensures spaces { self.new.spaces ≡ self.old.spaces }
+        ensures due { self.new.due ≡ self.old.due }
+        ensures stray { self.new.stray ≡ self.old.stray }
+        ensures out { IsOutToo self.old.out disk self.new.out }
+        ensures gone { GoesOut self.old disk self.new }
+
+        // All that is stored and planned stays so: what it may lack is blocks from the plan's group on.
+        ensures keeps { Keeps self.old self.new }
+        ensures stores { KeepsStored self.old self.new }
+        ensures plans { KeepsPlans self.old self.new }
+    {
+        blocks_beside_others();
+        self.set.put_out(disk);
+    }
 }

@@ -92,10 +92,21 @@ impl<D: Disk + Drop> DiskSet<D> {
         if answered {
             return Ok(());
         }
+        self.put_out(disk);
+        Err(FailedDisk { disk })
+    }
+
+    /// A disk is out from then on, with no call on it. What is due on it stays due.
+    pub fn put_out(&mut self, disk: usize)
+        requires { disk < length self.old.disks.starts }
+        ensures disks { self.new.disks ≡ self.old.disks }
+        ensures due { self.new.due ≡ self.old.due }
+        ensures out { IsOutToo self.old.out disk self.new.out }
+        ensures spans { self.new.spans ≡ spans_without self.old.out self.old.spans disk }
+    {
         if !self.out[disk] {
             self.since[disk] = self.group;
         }
         self.out[disk] = true;
-        Err(FailedDisk { disk })
     }
 }

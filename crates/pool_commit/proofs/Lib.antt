@@ -1,3 +1,4 @@
+pub mod Absence
 pub mod Accounted
 pub mod Accounting
 pub mod Backing

@@ -152,7 +152,7 @@ no_length (x ∷ xs) few = absurd (omega (arith, few))
 none_left : (counts slot_counts : ℕ → ℕ) (store : Store) (behind : Behind) → calls_left store behind ≡ 0 → left_calls counts slot_counts store.due behind ≡ []
 none_left counts slot_counts store behind none = no_length (left_calls counts slot_counts store.due behind) (omega (arith, none, count_left counts slot_counts store behind))
 
-all_through : (P Q : DueCall → Type 0) → ((call : DueCall) → P call → Q call) → (calls : List DueCall) → AllByRecursion P calls → AllByRecursion Q calls
+pub all_through : (P Q : DueCall → Type 0) → ((call : DueCall) → P call → Q call) → (calls : List DueCall) → AllByRecursion P calls → AllByRecursion Q calls
 all_through P Q h [] all = tt
 all_through P Q h (call ∷ calls) all = (h call all.0, all_through P Q h calls all.1)
 
@@ -401,7 +401,7 @@ out_too false false false false false p q r = refl
 out_too a b m e n p q r = search rules
 
 -- and its disk is out
-outs_are : (old : State) (mid : Store) (v : View) (disk : ℕ) → ((other : ℕ) → v.out other ≡ is_out old.store.out other) → IsOutToo old.store.out disk mid.out
+pub outs_are : (old : State) (mid : Store) (v : View) (disk : ℕ) → ((other : ℕ) → v.out other ≡ is_out old.store.out other) → IsOutToo old.store.out disk mid.out
     → (other : ℕ) → ((other == disk) || v.out other) ≡ is_out mid.out other
 outs_are old mid v disk out too other = out_too (v.out other) (is_out old.store.out other) (is_out mid.out other) (other == disk) (is_out mid.out other) (out other) (too.disks other) refl
 
@@ -514,7 +514,7 @@ suspended_is : (mid : Store) (v : View) (disk : ℕ) → v.vdevs ≡ vdevs_of mi
     → is_suspended (dropped v disk) ≡ lacks_disks mid
 suspended_is mid v disk vdevs outs = λ i. not (is_tolerable (vdevs i) (λ other. outs other i))
 
-all_filtered : (P : DueCall → Type 0) (test : DueCall → Bool) (calls : List DueCall) → AllByRecursion (λ call. test call ≡ true → P call) calls → AllByRecursion P (filter test calls)
+pub all_filtered : (P : DueCall → Type 0) (test : DueCall → Bool) (calls : List DueCall) → AllByRecursion (λ call. test call ≡ true → P call) calls → AllByRecursion P (filter test calls)
 all_filtered P test [] all = tt
 all_filtered P test (call ∷ calls) all = keep (test call) refl (all_filtered P test calls all.1)
   where

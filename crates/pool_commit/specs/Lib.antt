@@ -1,3 +1,4 @@
+pub mod Absence
 pub mod Accounted
 pub mod Config
 pub mod Configs

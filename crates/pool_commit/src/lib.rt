@@ -2,6 +2,7 @@
 //! the device calls that commit it. It knows nothing of writers, holds and pending items.
 #![tactic(auto)]
 
+mod absence;
 mod commit;
 mod config;
 mod device;

@@ -1,7 +1,8 @@
-//! Whether a pool is suspended: whether more disks of a vdev are out than it has parities.
-ghost use Rattle.std.specs.Prelude.{◌≡◌, ◌<◌, ◌≤◌, ◌+◌, ◌-◌, ◌^◌, Some, length, slice_get};
+//! The disks of a pool's vdevs, and whether it is suspended: whether more disks of a vdev are out than it has parities.
+ghost use Rattle.std.specs.Prelude.{◌≡◌, ◌<◌, ◌≤◌, ◌+◌, ◌-◌, ◌^◌, ◌==◌, Some, length, slice_get, IsTrue};
+ghost use Rattle.std.specs.List.{list_any};
 ghost use Rattle.block_store.specs.Store.{is_out};
-ghost use Rattle.pool_model.specs.View.{lost_in};
+ghost use Rattle.pool_model.specs.View.{disks_of, lost_in};
 ghost use Rattle.pool_commit.specs.Config.{shown, vdevs_of};
 ghost use Rattle.pool_commit.specs.Suspension.{lacks_disks as lacks};
 
@@ -16,6 +17,20 @@ pub(crate) fn lacks_disks<D: Disk + Drop>(store: &BlockStore<D>) -> bool
     for index in 0..store.vdev_count() {
         let vdev = vdev_at(store, index);
         if count_out(store, vdev) > vdev.geometry.parity {
+            return true;
+        }
+    }
+    false
+}
+
+/// Whether a vdev of the pool has the disk of this number.
+pub(crate) fn has_disk<D: Disk + Drop>(store: &BlockStore<D>, disk: usize) -> bool
+    ensures vdevs { result ≡ list_any (λ d. d == disk) (disks_of (vdevs_of store.now.spaces)) }
+    ensures there { IsTrue result → disk < length store.now.disks.starts }
+{
+    for index in 0..store.vdev_count() {
+        let vdev = vdev_at(store, index);
+        if vdev.first <= disk && disk - vdev.first < vdev.geometry.children as usize {
             return true;
         }
     }

@@ -1,9 +1,11 @@
 -- Refusals and disks that are out.
 use Rattle.std.proofs.Common.{◌≡◌, ⊎_elim, inl, inr, ℕ, List, [], ◌∷◌, Bool, None, refl, sym, ap, ◌∙◌, subst}
 use Rattle.pool_model.specs.declared.step.Step.{Step}
-use Rattle.pool_model.specs.declared.step.Step.TheVariants.{Hold, Device}
+use Rattle.pool_model.specs.declared.step.Step.TheVariants.{Hold, Device, DiskOut}
 use Rattle.pool_model.specs.declared.step.Reply.{Reply}
-use Rattle.pool_model.specs.declared.step.Reply.TheVariants.{Refused}
+use Rattle.pool_model.specs.declared.step.Reply.TheVariants.{Replan, Refused}
+use Rattle.pool_model.specs.declared.refusal.Refusal.{Refusal}
+use Rattle.pool_model.specs.declared.refusal.Refusal.TheVariants.{Suspended}
 use Rattle.pool_model.specs.View.{View, Given}
 use Rattle.pool_model.specs.Refusals.{refusal_of}
 use Rattle.pool_model.specs.Machine.{MayAnswer, StepOf, Run}
@@ -30,18 +32,22 @@ told_refusals v steps givens replies w r = absurd r
 
 -- ---- disks that are out
 
-stays_out : (out : ℕ → Bool) (step : Step) (given : Given) → NoFault step given → OutsBy out step given out
-stays_out out Device given e = none_out out given e
-stays_out out (Hold writer) given e = λ disk. refl
-stays_out out step given e = λ disk. refl
+stays_out : (out : ℕ → Bool) (step : Step) (given : Given) (cause : Refusal) → NoFault step given → OutsBy out step given (Refused cause) out
+stays_out out Device given cause e = none_out out given (Refused cause) e
+stays_out out (DiskOut gone) given cause e = λ disk. refl
+stays_out out (Hold writer) given cause e = λ disk. refl
+stays_out out step given cause e = λ disk. refl
 
-pub out_moves : EachMove (λ v given step reply w. OutsBy v.out step given w.out)
+pub out_moves : EachMove (λ v given step reply w. OutsBy v.out step given reply w.out)
 out_moves = record {
-  stays = λ v given step cause may e. stays_out v.out step given e;
+  stays = λ v given step cause may e. stays_out v.out step given cause e;
   begun = λ v given t cause is d. refl;
   again = λ v given t cause is d. refl;
-  failed = λ v given disk left e. goes_out v.out given disk e;
-  replanned = λ v given disk left e. goes_out v.out given disk e;
+  failed = λ v given disk left e. goes_out v.out given (Refused Suspended) disk e;
+  replanned = λ v given disk left e. goes_out v.out given (Replan disk) disk e;
+  out_unplanned = λ v given disk e d. refl;
+  out_early = λ v given disk left d. refl;
+  out_late = λ v given disk left d. refl;
   moved = λ v given phase left rest out e. e;
   read = λ v given name offset len bytes a d. refl;
   read_under = λ v given g name offset len bytes e a d. refl;
@@ -56,9 +62,9 @@ out_moves = record {
   committed = λ v given left out e. e;
 }
 
-pub told_outs : (v : View) (steps : List Step) (givens : List Given) (replies : List Reply) (w : View) → Run v steps givens replies w → OutsMove v.out steps givens w.out
+pub told_outs : (v : View) (steps : List Step) (givens : List Given) (replies : List Reply) (w : View) → Run v steps givens replies w → OutsMove v.out steps givens replies w.out
 told_outs v [] [] [] w r = λ disk. ap (λ (x : View). x.out disk) r
-told_outs v (step ∷ steps) (given ∷ givens) (reply ∷ replies) w r = (r.0.out, by_move (λ v given step reply w. OutsBy v.out step given w.out) out_moves v given step reply r.0 r.1, told_outs r.0 steps givens replies w r.2)
+told_outs v (step ∷ steps) (given ∷ givens) (reply ∷ replies) w r = (r.0.out, by_move (λ v given step reply w. OutsBy v.out step given reply w.out) out_moves v given step reply r.0 r.1, told_outs r.0 steps givens replies w r.2)
 told_outs v steps givens replies w r = absurd r
 
 -- ---- slots
@@ -70,6 +76,9 @@ slots_stay = record {
   again = λ v given t cause is. refl;
   failed = λ v given disk left e. refl;
   replanned = λ v given disk left e. refl;
+  out_unplanned = λ v given disk e. refl;
+  out_early = λ v given disk left. refl;
+  out_late = λ v given disk left. refl;
   moved = λ v given phase left rest out e. refl;
   read = λ v given name offset len bytes a. refl;
   read_under = λ v given g name offset len bytes e a. refl;

@@ -6,15 +6,15 @@ use Rattle.pool_model.specs.declared.group.Stage.TheVariants.{Quiescing, Quiesce
 use Rattle.pool_model.specs.declared.item.Action.{Action}
 use Rattle.pool_model.specs.declared.item.Item.TheVariants.{Write as WriteItem, Action as ActionItem}
 use Rattle.pool_model.specs.declared.item.Write.{Write}
-use Rattle.pool_model.specs.declared.step.Step.TheVariants.{Hold, Write as WriteStep, Act, Release, Close, Quiesce, Plan}
-use Rattle.pool_model.specs.declared.step.Reply.TheVariants.{Held, Receipt, Released, Closed, Quiesced, Planned}
+use Rattle.pool_model.specs.declared.step.Step.TheVariants.{Hold, Write as WriteStep, Act, Release, Close, Quiesce, Plan, DiskOut}
+use Rattle.pool_model.specs.declared.step.Reply.TheVariants.{Held, Receipt, Released, Closed, Quiesced, Planned, Out}
 use Rattle.pool_model.specs.View.{View, Sync, Idle, Unplanned, Due, nothing_given, is_syncing, is_planned, is_quiesced, disks_in_use, open_group, waiting_group}
 use Rattle.pool_model.specs.declared.volume.PlainVolume.{PlainVolume}
 use Rattle.pool_model.specs.Pools.{PlainPool}
 use Rattle.pool_model.specs.Refusals.{write_refusal, act_refusal, refusal_of}
 use Rattle.pool_model.specs.Groups.{Counters, counters_of}
 use Rattle.pool_model.specs.Flow.{flow_of, with_hold, without_hold, with_accepted}
-use Rattle.pool_model.specs.Machine.{disks_with_slots, with_flow, taken, without_plan, dropped, IsAnswered}
+use Rattle.pool_model.specs.Machine.{disks_with_slots, with_flow, taken, without_plan, dropped, gone_out, IsAnswered}
 use Rattle.pool_model.proofs.Causes.{or_none, none_of, first_none, not_false, write_none, act_none, act_open, below_greatest, quiescing, quiesced}
 use Rattle.pool_model.proofs.Moves.{plan_none}
 use Rattle.pool_model.proofs.Plans.{plan_calls, is_plan_of, may_nothing}
@@ -84,6 +84,9 @@ plan_answered v timestamp n = (
   taken v (Due (plan_calls [] (disks_in_use v) (disks_with_slots v))),
   record { none = n; answered = ((refl, (takes_due v timestamp n, refl)), plan_calls [] (disks_in_use v) (disks_with_slots v), is_plan_of v [] tt, refl); calls = may_nothing (Plan timestamp) },
 )
+
+pub out_answered : (v : View) (disk : ℕ) → refusal_of v (DiskOut disk) ≡ None → IsAnswered v nothing_given (DiskOut disk) Out (gone_out v disk)
+out_answered v disk n = record { none = n; answered = refl; calls = may_nothing (DiskOut disk) }
 
 -- a group that is synced already, and has no plan, is taken as it is
 pub taken_already : (v : View) → is_syncing v.sync ≡ true → is_planned v.sync ≡ false → taken v Unplanned ≡ v

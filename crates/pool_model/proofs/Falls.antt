@@ -60,6 +60,7 @@ fall_moves = record {
   stays = λ v step cause writer low items s l f. subst (λ xs. NeverFalls low (groups_of writer xs)) (sym (refused_item step cause items)) (f low l);
   begun = λ v t cause writer low items s l f. f low (record { below = l.below; held = l.held });
   replanned = λ v disk writer low items s l f. f low (record { below = l.below; held = l.held });
+  out = λ v disk writer low items s l f. f low (record { below = l.below; held = l.held });
   moved = λ v phase writer low items s l f. f low (record { below = l.below; held = l.held });
   read = λ v name offset len bytes writer low items s l f. f low l;
   read_under = λ v g name offset len bytes writer low items s l f. f low l;

@@ -8,9 +8,9 @@ use Rattle.pool_model.specs.declared.item.Item.TheVariants.{Write as WriteItem, 
 use Rattle.pool_model.specs.declared.item.Write.{Write}
 use Rattle.pool_model.specs.declared.step.Phase.{Phase}
 use Rattle.pool_model.specs.declared.step.Step.{Step}
-use Rattle.pool_model.specs.declared.step.Step.TheVariants.{Hold, Write as WriteStep, Act, Release, Close, Quiesce, Plan, Device, Read, ReadUnder}
+use Rattle.pool_model.specs.declared.step.Step.TheVariants.{Hold, Write as WriteStep, Act, Release, Close, Quiesce, Plan, Device, DiskOut, Read, ReadUnder}
 use Rattle.pool_model.specs.declared.step.Reply.{Reply}
-use Rattle.pool_model.specs.declared.step.Reply.TheVariants.{Held, Receipt, Released, Closed, Quiesced, Planned, Moved, Replan, Committed, Bytes, Refused}
+use Rattle.pool_model.specs.declared.step.Reply.TheVariants.{Held, Receipt, Released, Closed, Quiesced, Planned, Moved, Replan, Committed, Out, Bytes, Refused}
 use Rattle.pool_model.specs.declared.refusal.Refusal.{Refusal}
 use Rattle.pool_model.specs.declared.refusal.Refusal.TheVariants.{Suspended, NotNow}
 use Rattle.pool_model.specs.View.{hold_group, is_held}
@@ -22,6 +22,7 @@ pub record EachFlow (P : Flow → Step → Reply → Flow → Type 0) : Type 0 w
   pub stays : (f : Flow) (step : Step) (cause : Refusal) → P f step (Refused cause) f
   pub begun : (f : Flow) (timestamp : ℕ) (cause : Refusal) → P (record f { syncing = false; waiting = Some QuiescedStage }) (Plan timestamp) (Refused cause) (record f { syncing = true; waiting = None })
   pub replanned : (f : Flow) (disk : ℕ) → P f Device (Replan disk) f
+  pub out : (f : Flow) (disk : ℕ) → P f (DiskOut disk) Out f
   pub moved : (f : Flow) (phase : Phase) → P f Device (Moved phase) f
   pub read : (f : Flow) (name : List ℕ) (offset len : ℕ) (bytes : List ℕ) → P f (Read name offset len) (Bytes bytes) f
   pub read_under : (f : Flow) (group : ℕ) (name : List ℕ) (offset len : ℕ) (bytes : List ℕ) → P f (ReadUnder group name offset len) (Bytes bytes) f
@@ -77,6 +78,7 @@ by_flow P m f Device (Committed group) g s =
     subst (P f Device (Committed group)) (sym s.2) (subst (λ k. P f Device (Committed k) (with_committed f)) (sym s.1) (subst (λ b. P (record f { syncing = b }) Device (Committed (suc f.committed)) (with_committed f)) (sym s.0) (m.committed f)))
 by_flow P m f Device (Moved phase) g s = subst (P f Device (Moved phase)) (sym s) (m.moved f phase)
 by_flow P m f Device (Replan disk) g s = subst (P f Device (Replan disk)) (sym s) (m.replanned f disk)
+by_flow P m f (DiskOut disk) Out g s = subst (P f (DiskOut disk) Out) (sym s) (m.out f disk)
 by_flow P m f (Read name offset len) (Bytes bytes) g s = subst (P f (Read name offset len) (Bytes bytes)) (sym s) (m.read f name offset len bytes)
 by_flow P m f (ReadUnder group name offset len) (Bytes bytes) g s = subst (P f (ReadUnder group name offset len) (Bytes bytes)) (sym s) (m.read_under f group name offset len bytes)
 by_flow P m f (Hold writer) (Refused cause) g s = subst (P f (Hold writer) (Refused cause)) (sym s) (m.stays f (Hold writer) cause)

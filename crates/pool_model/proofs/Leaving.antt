@@ -10,7 +10,7 @@ use Rattle.pool_model.specs.declared.step.Reply.TheVariants.{Moved, Committed, R
 use Rattle.pool_model.specs.View.{View, Given, DueCall, Due}
 use Rattle.pool_model.specs.Machine.{Makes, MakesAll, GoesWithout, GoesOn, Ends, without_disk, StepOf}
 
-same_due : (one other : List DueCall) → Due one ≡ Due other → one ≡ other
+pub same_due : (one other : List DueCall) → Due one ≡ Due other → one ≡ other
 same_due one other e = cc
 
 no_commit : (group : ℕ) (cause : Refusal) → ¬ (Committed group ≡ Refused cause)
@@ -23,7 +23,7 @@ none_in : (call : DueCall) → ¬ Contains [] call
 none_in call (k, within, is) = omega (arith, within)
 
 -- a call on another disk stays
-stays_left : (disk : ℕ) (calls : List DueCall) (call : DueCall) → Contains calls call → (call.disk == disk) ≡ false → Contains (filter (λ c. not (c.disk == disk)) calls) call
+pub stays_left : (disk : ℕ) (calls : List DueCall) (call : DueCall) → Contains calls call → (call.disk == disk) ≡ false → Contains (filter (λ c. not (c.disk == disk)) calls) call
 stays_left disk [] call held other = absurd (none_in call held)
 stays_left disk (first ∷ calls) call (zero, within, is) other =
     subst (λ b. Contains (if not b then first ∷ filter (λ c. not (c.disk == disk)) calls else filter (λ c. not (c.disk == disk)) calls) call)
@@ -46,7 +46,7 @@ made_all left made call all held = ⊎_elim
     (λ some. ⊎_elim (λ made. made) (λ rest. absurd (none_in call rest)) (made_or_left left made [] some.0 call some.1 held))
     all
 
-still_in_use : (v : View) (disk other : ℕ) → (without_disk v disk).out other ≡ false → (other == disk) ≡ false
+pub still_in_use : (v : View) (disk other : ℕ) → (without_disk v disk).out other ≡ false → (other == disk) ≡ false
 still_in_use v disk other = elim (other == disk) as (λ b. (b || v.out other) ≡ false → b ≡ false) [ true ↦ λ e. e | false ↦ λ e. refl ]
 
 without : (v : View) (given : Given) (phase : Phase) (rest : List DueCall) (w : View) (left : List DueCall) (call : DueCall) → v.sync ≡ Due left → GoesWithout v given phase rest w

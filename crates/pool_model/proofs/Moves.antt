@@ -1,6 +1,6 @@
 -- The ways in which the machine may go on, each from a view that shows what it needs.
 use Rattle.std.proofs.Common.{◌≡◌, ◌⊎◌, ⊎_elim, inl, inr, ◌≤◌, ◌<◌, ℕ, suc, List, [], ◌∷◌, Bool, true, false, true≢false, Option, Some, None, refl, sym, ap, ◌∙◌, subst}
-use Rattle.std.specs.Prelude.{not, ◌==◌, ◌&&◌, ◌||◌}
+use Rattle.std.specs.Prelude.{not, filter, ◌==◌, ◌&&◌, ◌||◌, if◌then◌else◌}
 use Rattle.pool_model.specs.declared.group.Stage.{Stage}
 use Rattle.pool_model.specs.declared.group.Stage.TheVariants.{Quiescing, Quiesced as QuiescedStage}
 use Rattle.pool_model.specs.declared.item.Action.{Action}
@@ -8,16 +8,16 @@ use Rattle.pool_model.specs.declared.item.Item.TheVariants.{Write as WriteItem, 
 use Rattle.pool_model.specs.declared.item.Write.{Write}
 use Rattle.pool_model.specs.declared.step.Phase.{Phase}
 use Rattle.pool_model.specs.declared.step.Step.{Step}
-use Rattle.pool_model.specs.declared.step.Step.TheVariants.{Hold, Write as WriteStep, Act, Release, Close, Quiesce, Plan, Device, Read, ReadUnder}
+use Rattle.pool_model.specs.declared.step.Step.TheVariants.{Hold, Write as WriteStep, Act, Release, Close, Quiesce, Plan, Device, DiskOut, Read, ReadUnder}
 use Rattle.pool_model.specs.declared.step.Reply.{Reply}
-use Rattle.pool_model.specs.declared.step.Reply.TheVariants.{Held, Receipt, Released, Closed, Quiesced, Planned, Moved, Replan, Committed, Bytes, Refused}
+use Rattle.pool_model.specs.declared.step.Reply.TheVariants.{Held, Receipt, Released, Closed, Quiesced, Planned, Moved, Replan, Committed, Out, Bytes, Refused}
 use Rattle.pool_model.specs.declared.refusal.Refusal.{Refusal}
 use Rattle.pool_model.specs.declared.refusal.Refusal.TheVariants.{NoMemory, DiskFault, NoSpace, Suspended, NotNow, BadPointer, BadDigest, BadMap}
 use Rattle.pool_model.specs.View.{View, Given, DueCall, Sync, is_fault_on, Idle, Unplanned, Due, is_syncing, is_planned, is_quiesced, is_suspended, waiting_group, open_group, is_kept, hold_group, is_held, now_of}
 use Rattle.pool_model.specs.Refusals.{greatest, first_cause, may_plan, refusal_of}
 use Rattle.pool_model.specs.Flow.{Flow, flow_of, with_hold, without_hold, with_accepted}
 use Rattle.pool_model.specs.Headline.{OutsBy}
-use Rattle.pool_model.specs.Machine.{with_flow, taken, without_disk, dropped, committed_next, FailsOn, GoesWell, GoesWithout, IsDone, IsQuiet, IsUnreadable, MayLack, without_memory, AreBytesOf, MayAnswer, StepOf}
+use Rattle.pool_model.specs.Machine.{with_flow, taken, is_late_sync, calls_without, without_disk, dropped, gone_out, committed_next, FailsOn, GoesWell, GoesWithout, IsDone, IsQuiet, IsUnreadable, MayLack, without_memory, AreBytesOf, MayAnswer, StepOf}
 use Rattle.pool_model.proofs.Causes.{or_none, first_none, not_false}
 
 -- a Plan that is refused leaves its group taken, unless the pool is suspended or no group is due
@@ -41,11 +41,11 @@ abbrev pub IsFaultOn : Given → ℕ → Type 0
 IsFaultOn given disk = (call : DueCall) × (given.fault ≡ Some call) × (call.disk ≡ disk)
 
 -- a Device step that fails on no disk takes none out; one that fails takes its disk out
-pub none_out : (out : ℕ → Bool) (given : Given) → given.fault ≡ None → OutsBy out Device given out
-none_out out given e = λ disk. ap (λ (fault : Option DueCall). is_fault_on fault disk || out disk) (sym e)
+pub none_out : (out : ℕ → Bool) (given : Given) (reply : Reply) → given.fault ≡ None → OutsBy out Device given reply out
+none_out out given reply e = λ disk. ap (λ (fault : Option DueCall). is_fault_on fault disk || out disk) (sym e)
 
-pub goes_out : (out : ℕ → Bool) (given : Given) (disk : ℕ) → IsFaultOn given disk → OutsBy out Device given (λ d. (d == disk) || out d)
-goes_out out given disk e = λ d. sym (ap (λ (fault : Option DueCall). is_fault_on fault d || out d) e.1 ∙ ap (λ (on : ℕ). (d == on) || out d) e.2)
+pub goes_out : (out : ℕ → Bool) (given : Given) (reply : Reply) (disk : ℕ) → IsFaultOn given disk → OutsBy out Device given reply (λ d. (d == disk) || out d)
+goes_out out given reply disk e = λ d. sym (ap (λ (fault : Option DueCall). is_fault_on fault d || out d) e.1 ∙ ap (λ (on : ℕ). (d == on) || out d) e.2)
 
 -- a property of steps, proved of each way to go on
 pub record EachMove (P : View → Given → Step → Reply → View → Type 0) : Type 0 where
@@ -54,7 +54,11 @@ pub record EachMove (P : View → Given → Step → Reply → View → Type 0) 
   pub again : (v : View) (given : Given) (timestamp : ℕ) (cause : Refusal) → IsPlanFault cause → P (record v { sync = Unplanned }) given (Plan timestamp) (Refused cause) (record v { sync = Unplanned })
   pub failed : (v : View) (given : Given) (disk : ℕ) (left : List DueCall) → IsFaultOn given disk → P (record v { sync = Due left }) given Device (Refused Suspended) (dropped (record v { sync = Due left }) disk)
   pub replanned : (v : View) (given : Given) (disk : ℕ) (left : List DueCall) → IsFaultOn given disk → P (record v { sync = Due left }) given Device (Replan disk) (dropped (record v { sync = Due left }) disk)
-  pub moved : (v : View) (given : Given) (phase : Phase) (left rest : List DueCall) (out : ℕ → Bool) → OutsBy v.out Device given out → P (record v { sync = Due left }) given Device (Moved phase) (record v { sync = Due rest; out = out })
+  pub out_unplanned : (v : View) (given : Given) (disk : ℕ) → is_planned v.sync ≡ false → P v given (DiskOut disk) Out (without_disk v disk)
+  pub out_early : (v : View) (given : Given) (disk : ℕ) (left : List DueCall) → P (record v { sync = Due left }) given (DiskOut disk) Out (dropped (record v { sync = Due left }) disk)
+  pub out_late : (v : View) (given : Given) (disk : ℕ) (left : List DueCall)
+      → P (record v { sync = Due left }) given (DiskOut disk) Out (record (without_disk v disk) { sync = Due (filter (λ call. not (call.disk == disk)) left) })
+  pub moved : (v : View) (given : Given) (phase : Phase) (left rest : List DueCall) (out : ℕ → Bool) → OutsBy v.out Device given (Moved phase) out → P (record v { sync = Due left }) given Device (Moved phase) (record v { sync = Due rest; out = out })
   pub read : (v : View) (given : Given) (name : List ℕ) (offset len : ℕ) (bytes : List ℕ) → (given.trusted ≡ true → AreBytesOf (now_of v) name offset len bytes) → P v given (Read name offset len) (Bytes bytes) v
   pub read_under : (v : View) (given : Given) (group : ℕ) (name : List ℕ) (offset len : ℕ) (bytes : List ℕ) → is_kept v group ≡ true → (given.trusted ≡ true → AreBytesOf (v.pools group) name offset len bytes) → P v given (ReadUnder group name offset len) (Bytes bytes) v
   pub held : (v : View) (given : Given) (writer : ℕ) → hold_group writer v.holds ≡ None → P v given (Hold writer) (Held (open_group v)) (with_flow v (with_hold (flow_of v) writer (open_group v)))
@@ -65,7 +69,7 @@ pub record EachMove (P : View → Given → Step → Reply → View → Type 0) 
   pub quiesced : (v : View) (given : Given) → is_held (waiting_group v) v.holds ≡ false → P (record v { waiting = Some Quiescing }) given Quiesce (Quiesced (waiting_group v)) (record v { waiting = Some QuiescedStage })
   pub planned : (v : View) (given : Given) (timestamp : ℕ) (calls : List DueCall) → P (record v { sync = Idle; waiting = Some QuiescedStage }) given (Plan timestamp) (Planned (suc v.committed)) (record v { sync = Due calls; waiting = None })
   pub replanned_group : (v : View) (given : Given) (timestamp : ℕ) (calls : List DueCall) → P (record v { sync = Unplanned }) given (Plan timestamp) (Planned (suc v.committed)) (record v { sync = Due calls })
-  pub committed : (v : View) (given : Given) (left : List DueCall) (out : ℕ → Bool) → OutsBy v.out Device given out → P (record v { sync = Due left }) given Device (Committed (suc v.committed)) (committed_next (record v { out = out }))
+  pub committed : (v : View) (given : Given) (left : List DueCall) (out : ℕ → Bool) → OutsBy v.out Device given (Committed (suc v.committed)) out → P (record v { sync = Due left }) given Device (Committed (suc v.committed)) (committed_next (record v { out = out }))
 
 -- where nothing speaks against planning, there is a group to be planned
 pub plan_none : (v : View) (timestamp : ℕ) → refusal_of v (Plan timestamp) ≡ None → may_plan v ≡ true
@@ -156,24 +160,41 @@ on_fault v given disk fails = (fails.call, fails.fault, fails.on)
 moves_well : (P : View → Given → Step → Reply → View → Type 0) → EachMove P → (v : View) (given : Given) (phase : Phase) (rest : List DueCall) (w : View) → GoesWell v given phase rest w → P v given Device (Moved phase) w
 moves_well P m v given phase rest w g =
     subst (P v given Device (Moved phase)) (sym g.after)
-    (at_left P v given Device (Moved phase) (record v { sync = Due rest }) g.left g.planned (m.moved v given phase g.left rest v.out (none_out v.out given g.fault)))
+    (at_left P v given Device (Moved phase) (record v { sync = Due rest }) g.left g.planned (m.moved v given phase g.left rest v.out (none_out v.out given (Moved phase) g.fault)))
 
 moves_without : (P : View → Given → Step → Reply → View → Type 0) → EachMove P → (v : View) (given : Given) (phase : Phase) (rest : List DueCall) (w : View) → GoesWithout v given phase rest w → P v given Device (Moved phase) w
 moves_without P m v given phase rest w g =
     subst (P v given Device (Moved phase)) (sym g.after)
     (at_left P v given Device (Moved phase) (record (without_disk v g.disk) { sync = Due rest }) g.fails.left g.fails.planned
-    (m.moved v given phase g.fails.left rest (without_disk v g.disk).out (goes_out v.out given g.disk (on_fault v given g.disk g.fails))))
+    (m.moved v given phase g.fails.left rest (without_disk v g.disk).out (goes_out v.out given (Moved phase) g.disk (on_fault v given g.disk g.fails))))
 
 commits_well : (P : View → Given → Step → Reply → View → Type 0) → EachMove P → (v : View) (given : Given) (done : View) → IsDone v given → done ≡ v → P v given Device (Committed (suc v.committed)) (committed_next done)
 commits_well P m v given done g same =
     subst (λ (w : View). P v given Device (Committed (suc v.committed)) (committed_next w)) (sym same)
-    (at_left P v given Device (Committed (suc v.committed)) (committed_next v) g.left g.planned (m.committed v given g.left v.out (none_out v.out given g.fault)))
+    (at_left P v given Device (Committed (suc v.committed)) (committed_next v) g.left g.planned (m.committed v given g.left v.out (none_out v.out given (Committed (suc v.committed)) g.fault)))
 
 commits_without : (P : View → Given → Step → Reply → View → Type 0) → EachMove P → (v : View) (given : Given) (phase : Phase) (done : View) → GoesWithout v given phase [] done → P v given Device (Committed (suc v.committed)) (committed_next done)
 commits_without P m v given phase done g =
     subst (λ (w : View). P v given Device (Committed (suc v.committed)) (committed_next w)) (sym g.after)
     (at_left P v given Device (Committed (suc v.committed)) (committed_next (without_disk v g.disk)) g.fails.left g.fails.planned
-    (m.committed v given g.fails.left (without_disk v g.disk).out (goes_out v.out given g.disk (on_fault v given g.disk g.fails))))
+    (m.committed v given g.fails.left (without_disk v g.disk).out (goes_out v.out given (Committed (suc v.committed)) g.disk (on_fault v given g.disk g.fails))))
+
+-- a disk is taken out: where there is no plan, before the slots, and from the slots on
+takes_out : (P : View → Given → Step → Reply → View → Type 0) → EachMove P → (v : View) (given : Given) (disk : ℕ) → P v given (DiskOut disk) Out (gone_out v disk)
+takes_out P m v given disk = by_sync v.sync refl
+  where
+    at_sync : (s : Sync) → v.sync ≡ s → P (record v { sync = s }) given (DiskOut disk) Out (gone_out (record v { sync = s }) disk) → P v given (DiskOut disk) Out (gone_out v disk)
+    at_sync s e p = subst (λ (x : Sync). P (record v { sync = x }) given (DiskOut disk) Out (gone_out (record v { sync = x }) disk)) (sym e) p
+
+    by_late : (left : List DueCall) (b : Bool) → P (record v { sync = Due left }) given (DiskOut disk) Out
+        (if b then record (without_disk (record v { sync = Due left }) disk) { sync = calls_without (Due left) disk } else dropped (record v { sync = Due left }) disk)
+    by_late left true = m.out_late v given disk left
+    by_late left false = m.out_early v given disk left
+
+    by_sync : (s : Sync) → v.sync ≡ s → P v given (DiskOut disk) Out (gone_out v disk)
+    by_sync Idle e = at_sync Idle e (m.out_unplanned (record v { sync = Idle }) given disk refl)
+    by_sync Unplanned e = at_sync Unplanned e (m.out_unplanned (record v { sync = Unplanned }) given disk refl)
+    by_sync (Due left) e = at_sync (Due left) e (by_late left (is_late_sync (Due left)))
 
 answers_by : (P : View → Given → Step → Reply → View → Type 0) → EachMove P → (v : View) (given : Given) (step : Step) (reply : Reply) (w : View) → refusal_of v step ≡ None → MayAnswer v given step reply w → P v given step reply w
 answers_by P m v given (Hold writer) (Held group) w n g =
@@ -205,6 +226,7 @@ answers_by P m v given Device (Replan disk) w n g =
 answers_by P m v given Device (Refused cause) w n g =
     subst (λ c. P v given Device (Refused c) w) (sym g.0)
     (subst (P v given Device (Refused Suspended)) (sym g.4) (at_dropped P v given (Refused Suspended) g.1 g.2.left g.2.planned (m.failed v given g.1 g.2.left (on_fault v given g.1 g.2))))
+answers_by P m v given (DiskOut disk) Out w n g = subst (P v given (DiskOut disk) Out) (sym g) (takes_out P m v given disk)
 answers_by P m v given (Read name offset len) (Bytes bytes) w n g = subst (P v given (Read name offset len) (Bytes bytes)) (sym g.1) (m.read v given name offset len bytes g.0)
 answers_by P m v given (Read name offset len) (Refused cause) w n g = subst (P v given (Read name offset len) (Refused cause)) (sym g.1) (m.stays v given (Read name offset len) cause tt tt)
 answers_by P m v given (ReadUnder group name offset len) (Bytes bytes) w n g =

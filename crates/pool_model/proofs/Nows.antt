@@ -80,6 +80,9 @@ now_moves = record {
   again = λ v given t cause is c pool ledger steps givens replies s b f. let d = based_on _ c pool ledger b in f (ledger_with ledger []) (record { below = d.below; same = d.same; made = d.made });
   failed = λ v given disk left e c pool ledger steps givens replies s b f. let d = based_on _ c pool ledger b in f (ledger_with ledger []) (record { below = d.below; same = d.same; made = d.made });
   replanned = λ v given disk left e c pool ledger steps givens replies s b f. let d = based_on _ c pool ledger b in f (ledger_with ledger []) (record { below = d.below; same = d.same; made = d.made });
+  out_unplanned = λ v given disk e c pool ledger steps givens replies s b f. let d = based_on _ c pool ledger b in f (ledger_with ledger []) (record { below = d.below; same = d.same; made = d.made });
+  out_early = λ v given disk left c pool ledger steps givens replies s b f. let d = based_on _ c pool ledger b in f (ledger_with ledger []) (record { below = d.below; same = d.same; made = d.made });
+  out_late = λ v given disk left c pool ledger steps givens replies s b f. let d = based_on _ c pool ledger b in f (ledger_with ledger []) (record { below = d.below; same = d.same; made = d.made });
   moved = λ v given phase left rest out e c pool ledger steps givens replies s b f. let d = based_on _ c pool ledger b in f (ledger_with ledger []) (record { below = d.below; same = d.same; made = d.made });
   read = λ v given name offset len bytes a c pool ledger steps givens replies s b f. ((λ trusted. let x = a trusted in (x.0, ap (volume_at name) (now_from v c pool ledger b) ∙ x.1, x.2)), f ledger b);
   read_under = λ v given g name offset len bytes k a c pool ledger steps givens replies s b f. f (ledger_with ledger []) (based_on v c pool ledger b);

@@ -71,6 +71,7 @@ sound_flows = record {
   stays = λ v step cause s. s;
   begun = λ v t cause s. record { holds = all_map (λ h. h.group ≡ suc (suc v.committed)) (λ h. Takes (record v { syncing = true; waiting = None }) h.group) (λ h e. inl e) v.holds (from_quiesced v s); beyond = s.beyond; groups = s.groups; numbers = s.numbers };
   replanned = λ v disk s. s;
+  out = λ v disk s. s;
   moved = λ v phase s. s;
   read = λ v name offset len bytes s. s;
   read_under = λ v group name offset len bytes s. s;

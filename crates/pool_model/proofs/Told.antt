@@ -35,6 +35,7 @@ ledger_moves = record {
   stays = λ v step cause items group. ap (λ xs. ledger_with v.ledger xs group) (sym (refused_item step cause items));
   begun = λ v t cause items group. refl;
   replanned = λ v disk items group. refl;
+  out = λ v disk items group. refl;
   moved = λ v phase items group. refl;
   read = λ v name offset len bytes items group. refl;
   read_under = λ v g name offset len bytes items group. refl;
@@ -79,6 +80,7 @@ number_moves = record {
   stays = λ v step cause writer items h. subst (λ xs. CountsFrom (v.next writer) (numbers_of writer xs)) (sym (refused_item step cause items)) h;
   begun = λ v t cause writer items h. h;
   replanned = λ v disk writer items h. h;
+  out = λ v disk writer items h. h;
   moved = λ v phase writer items h. h;
   read = λ v name offset len bytes writer items h. h;
   read_under = λ v g name offset len bytes writer items h. h;
@@ -128,6 +130,7 @@ hold_moves = record {
   stays = λ v step cause writer. for_refused writer (hold_group writer v.holds) step cause;
   begun = λ v t cause writer. (tt, refl);
   replanned = λ v disk writer. (tt, refl);
+  out = λ v disk writer. (tt, refl);
   moved = λ v phase writer. (tt, refl);
   read = λ v name offset len bytes writer. (tt, refl);
   read_under = λ v g name offset len bytes writer. (tt, refl);
@@ -182,6 +185,7 @@ shut_moves = record {
   stays = λ v step cause group s. ((λ e. cc), (refl, s));
   begun = λ v t cause group s. ((λ e. cc), (refl, record { below = s.below; free = s.free }));
   replanned = λ v disk group s. ((λ e. cc), (refl, record { below = s.below; free = s.free }));
+  out = λ v disk group s. ((λ e. cc), (refl, record { below = s.below; free = s.free }));
   moved = λ v phase group s. ((λ e. cc), (refl, record { below = s.below; free = s.free }));
   read = λ v name offset len bytes group s. ((λ e. cc), (refl, s));
   read_under = λ v g name offset len bytes group s. ((λ e. cc), (refl, s));
@@ -211,6 +215,7 @@ quiesced_moves = record {
   stays = λ v step cause replies f h. h;
   begun = λ v t cause replies f h. h;
   replanned = λ v disk replies f h. h;
+  out = λ v disk replies f h. h;
   moved = λ v phase replies f h. h;
   read = λ v name offset len bytes replies f h. h;
   read_under = λ v g name offset len bytes replies f h. h;

@@ -8,9 +8,9 @@ use Rattle.pool_model.specs.declared.item.Item.{Item}
 use Rattle.pool_model.specs.declared.item.Item.TheVariants.{Write as WriteItem, Action as ActionItem}
 use Rattle.pool_model.specs.declared.refusal.Refusal.TheVariants.{Suspended, NotNow}
 use Rattle.pool_model.specs.declared.step.Step.{Step}
-use Rattle.pool_model.specs.declared.step.Step.TheVariants.{Hold, Write as WriteStep, Act, Release, Close, Quiesce, Plan, Device, Read, ReadUnder}
+use Rattle.pool_model.specs.declared.step.Step.TheVariants.{Hold, Write as WriteStep, Act, Release, Close, Quiesce, Plan, Device, DiskOut, Read, ReadUnder}
 use Rattle.pool_model.specs.declared.step.Reply.{Reply}
-use Rattle.pool_model.specs.declared.step.Reply.TheVariants.{Held, Receipt, Released, Closed, Quiesced, Planned, Moved, Replan, Committed, Bytes, Refused}
+use Rattle.pool_model.specs.declared.step.Reply.TheVariants.{Held, Receipt, Released, Closed, Quiesced, Planned, Moved, Replan, Committed, Out, Bytes, Refused}
 use Rattle.pool_model.specs.Pools.{Entry, Ledger, no_items}
 use Rattle.pool_model.specs.View.{View, is_syncing, waiting_after, open_after, hold_group, is_held}
 use Rattle.pool_model.specs.Refusals.{greatest}
@@ -89,6 +89,7 @@ FlowStep f (Plan timestamp) (Refused cause) g = TakesGroup f g
 FlowStep f Device (Committed group) g = (f.syncing ≡ true) × (group ≡ suc f.committed) × (g ≡ with_committed f)
 FlowStep f Device (Moved phase) g = g ≡ f
 FlowStep f Device (Replan disk) g = g ≡ f
+FlowStep f (DiskOut disk) Out g = g ≡ f
 FlowStep f (Read name offset len) (Bytes bytes) g = g ≡ f
 FlowStep f (ReadUnder group name offset len) (Bytes bytes) g = g ≡ f
 FlowStep f step (Refused cause) g = g ≡ f

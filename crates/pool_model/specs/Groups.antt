@@ -2,11 +2,11 @@
 -- from what Machine and Flow say of it.
 use Rattle.std.specs.Prelude.{◌≡◌, ◌⊎◌, ℕ, suc, ◌≤◌, List, [], ◌∷◌, Bool, true, false, is_some, if◌then◌else◌}
 use Rattle.pool_model.specs.declared.step.Step.{Step}
-use Rattle.pool_model.specs.declared.step.Step.TheVariants.{Plan, Device}
+use Rattle.pool_model.specs.declared.step.Step.TheVariants.{Plan, Device, DiskOut}
 use Rattle.pool_model.specs.declared.refusal.Refusal.{Refusal}
 use Rattle.pool_model.specs.declared.refusal.Refusal.TheVariants.{Suspended, NotNow}
 use Rattle.pool_model.specs.declared.step.Reply.{Reply}
-use Rattle.pool_model.specs.declared.step.Reply.TheVariants.{Held, Closed, Quiesced, Planned, Moved, Replan, Committed, Refused}
+use Rattle.pool_model.specs.declared.step.Reply.TheVariants.{Out, Held, Closed, Quiesced, Planned, Moved, Replan, Committed, Refused}
 use Rattle.pool_model.specs.View.{View, is_syncing, is_planned, is_quiesced}
 
 -- The groups up to each of these were committed, taken to be synced, quiesced, closed. The open group is the one after
@@ -51,6 +51,10 @@ MovesRefused c (Plan timestamp) cause d = TakesNext c d
 MovesRefused c Device Suspended d = (d ≡ c) ⊎ ((c.planned ≡ true) × (d ≡ record c { planned = false }))
 MovesRefused c step cause d = d ≡ c
 
+-- a disk goes out: a plan stays, or is dropped
+abbrev pub MayUnplan : Counters → Counters → Type 0
+MayUnplan c d = (d ≡ c) ⊎ (d ≡ record c { planned = false })
+
 -- what a reply says of the groups, and how it moves them
 abbrev pub MovesBy : Counters → Step → Reply → Counters → Type 0
 MovesBy c step (Held group) d = (group ≡ suc c.closed) × (d ≡ c)
@@ -60,6 +64,7 @@ MovesBy c step (Planned group) d = (group ≡ suc c.committed) × (group ≤ c.q
 MovesBy c step (Moved phase) d = (c.planned ≡ true) × (d ≡ c)
 MovesBy c step (Replan disk) d = (c.planned ≡ true) × (d ≡ record c { planned = false })
 MovesBy c step (Committed group) d = (group ≡ suc c.committed) × (group ≡ c.taken) × (c.planned ≡ true) × (d ≡ record c { committed = group; planned = false })
+MovesBy c (DiskOut disk) Out d = MayUnplan c d
 MovesBy c step (Refused cause) d = MovesRefused c step cause d
 MovesBy c step reply d = d ≡ c
 

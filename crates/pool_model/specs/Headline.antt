@@ -1,10 +1,10 @@
 -- What a run of the machine is, in words of what was accepted, committed and read.
-use Rattle.std.specs.Prelude.{◌≡◌, ◌⊎◌, ℕ, suc, ◌+◌, ◌≤◌, ◌||◌, List, [], ◌∷◌, length, Bool, true, Some, None, nat_le, if◌then◌else◌}
+use Rattle.std.specs.Prelude.{◌≡◌, ◌⊎◌, ℕ, suc, ◌+◌, ◌≤◌, ◌||◌, ◌==◌, List, [], ◌∷◌, length, Bool, true, Some, None, nat_le, if◌then◌else◌}
 use Rattle.pool_model.specs.declared.refusal.Refusal.TheVariants.{NoMemory}
 use Rattle.pool_model.specs.declared.step.Step.{Step}
-use Rattle.pool_model.specs.declared.step.Step.TheVariants.{Device, Read, ReadUnder}
+use Rattle.pool_model.specs.declared.step.Step.TheVariants.{Device, DiskOut, Read, ReadUnder}
 use Rattle.pool_model.specs.declared.step.Reply.{Reply}
-use Rattle.pool_model.specs.declared.step.Reply.TheVariants.{Closed, Bytes, Refused}
+use Rattle.pool_model.specs.declared.step.Reply.TheVariants.{Closed, Out, Bytes, Refused}
 use Rattle.pool_model.specs.Pools.{PlainPool, Ledger, upto}
 use Rattle.pool_model.specs.View.{View, Given, open_group, is_fault_on}
 use Rattle.pool_model.specs.Refusals.{refusal_of}
@@ -56,15 +56,16 @@ RightlyAnswered v steps givens replies w = ⊥
 
 -- ---- disks that are out
 
--- a write or flush of a Device step that fails takes its disk out, and nothing else does
-abbrev pub OutsBy : (ℕ → Bool) → Step → Given → (ℕ → Bool) → Type 0
-OutsBy out Device given after = (disk : ℕ) → after disk ≡ (is_fault_on given.fault disk || out disk)
-OutsBy out step given after = (disk : ℕ) → after disk ≡ out disk
+-- a disk goes out by a write or flush of a Device step that fails, and by DiskOut, and by nothing else
+abbrev pub OutsBy : (ℕ → Bool) → Step → Given → Reply → (ℕ → Bool) → Type 0
+OutsBy out Device given reply after = (disk : ℕ) → after disk ≡ (is_fault_on given.fault disk || out disk)
+OutsBy out (DiskOut gone) given Out after = (disk : ℕ) → after disk ≡ ((disk == gone) || out disk)
+OutsBy out step given reply after = (disk : ℕ) → after disk ≡ out disk
 
-abbrev pub OutsMove : (ℕ → Bool) → List Step → List Given → (ℕ → Bool) → Type 0
-OutsMove out [] [] after = (disk : ℕ) → after disk ≡ out disk
-OutsMove out (step ∷ steps) (given ∷ givens) after = (mid : ℕ → Bool) × OutsBy out step given mid × OutsMove mid steps givens after
-OutsMove out steps givens after = ⊥
+abbrev pub OutsMove : (ℕ → Bool) → List Step → List Given → List Reply → (ℕ → Bool) → Type 0
+OutsMove out [] [] [] after = (disk : ℕ) → after disk ≡ out disk
+OutsMove out (step ∷ steps) (given ∷ givens) (reply ∷ replies) after = (mid : ℕ → Bool) × OutsBy out step given reply mid × OutsMove mid steps givens replies after
+OutsMove out steps givens replies after = ⊥
 
 -- ---- the whole
 
@@ -83,8 +84,8 @@ pub record Headline (v : View) (steps : List Step) (givens : List Given) (replie
   pub reads_now : ReadsNow v.committed (v.pools v.committed) v.ledger (open_group v) steps givens replies
   -- each refusal has its cause, and nothing without a cause is refused
   pub refusals : RightlyAnswered v steps givens replies w
-  -- a disk goes out by a failed write or flush of a Device step, and by nothing else
-  pub outs : OutsMove v.out steps givens w.out
+  -- a disk goes out by a failed write or flush of a Device step, or by DiskOut, and by nothing else
+  pub outs : OutsMove v.out steps givens replies w.out
   -- whether commits end in slots never changes
   pub slots : w.slots ≡ v.slots
   pub sound : IsSound w

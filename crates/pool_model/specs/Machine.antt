@@ -1,12 +1,12 @@
 -- The machine: what each step is answered, and what it changes. What becomes of groups, holds and items is said in Flow.
 use Rattle.std.specs.Prelude.{◌≡◌, ◌⊎◌, ℕ, suc, ◌+◌, ◌≤◌, ◌<◌, List, [], ◌∷◌, ◌++◌, length, map, slice_range, Contains, Bool, true, false, IsTrue, Some, None, filter, flat_map, replicate, not, IsPermutation, nat_le, ◌==◌, ◌&&◌, ◌||◌, if◌then◌else◌}
-use Rattle.std.specs.List.{AllByRecursion}
+use Rattle.std.specs.List.{AllByRecursion, list_all}
 use Rattle.pool_model.specs.declared.step.Phase.{Phase}
 use Rattle.pool_model.specs.declared.step.Phase.TheVariants.{Blocks, BlocksFlush, Slots, SlotsFlush}
 use Rattle.pool_model.specs.declared.step.Step.{Step}
-use Rattle.pool_model.specs.declared.step.Step.TheVariants.{Hold, Write as WriteStep, Act, Release, Close, Quiesce, Plan, Device, Read, ReadUnder}
+use Rattle.pool_model.specs.declared.step.Step.TheVariants.{Hold, Write as WriteStep, Act, Release, Close, Quiesce, Plan, Device, DiskOut, Read, ReadUnder}
 use Rattle.pool_model.specs.declared.step.Reply.{Reply}
-use Rattle.pool_model.specs.declared.step.Reply.TheVariants.{Held, Receipt, Released, Closed, Quiesced, Planned, Moved, Replan, Committed, Bytes, Refused}
+use Rattle.pool_model.specs.declared.step.Reply.TheVariants.{Held, Receipt, Released, Closed, Quiesced, Planned, Moved, Replan, Committed, Out, Bytes, Refused}
 use Rattle.pool_model.specs.declared.refusal.Refusal.{Refusal}
 use Rattle.pool_model.specs.declared.refusal.Refusal.TheVariants.{NoMemory, DiskFault, NoSpace, Suspended, BadPointer, BadDigest, BadMap}
 use Rattle.pool_model.specs.declared.volume.PlainVolume.{PlainVolume}
@@ -14,6 +14,25 @@ use Rattle.pool_model.specs.Pools.{PlainPool, volume_at, applied}
 use Rattle.pool_model.specs.View.{View, Vdev, Given, DueCall, Sync, Idle, Unplanned, Due, now_of, is_suspended, is_missing, lost_in, counted, disks_in_use}
 use Rattle.pool_model.specs.Refusals.{refusal_of, takes_memory}
 use Rattle.pool_model.specs.Flow.{Flow, flow_of, with_taken, with_committed, FlowStep}
+
+-- ---- phases
+
+-- phases follow one another
+abbrev pub rank : Phase → ℕ
+rank Blocks = 0
+rank BlocksFlush = 1
+rank Slots = 2
+rank SlotsFlush = 3
+
+-- from the slots on
+abbrev pub is_late : Phase → Bool
+is_late phase = nat_le (rank Slots) (rank phase)
+
+-- of a plan nothing is left before the slots
+abbrev pub is_late_sync : Sync → Bool
+is_late_sync Idle = false
+is_late_sync Unplanned = false
+is_late_sync (Due calls) = list_all (λ call. is_late call.phase) calls
 
 -- ---- what a step changes
 
@@ -43,6 +62,16 @@ without_disk v disk = record v { out = λ d. (d == disk) || v.out d }
 abbrev pub dropped : View → ℕ → View
 dropped v disk = record (without_disk v disk) { sync = without_plan v.sync }
 
+-- what is left of a plan on other disks
+abbrev pub calls_without : Sync → ℕ → Sync
+calls_without Idle disk = Idle
+calls_without Unplanned disk = Unplanned
+calls_without (Due calls) disk = Due (filter (λ call. not (call.disk == disk)) calls)
+
+-- a disk is taken out: where something is left of a plan before the slots it is dropped, and from the slots on it goes on without the disk
+abbrev pub gone_out : View → ℕ → View
+gone_out v disk = if is_late_sync v.sync then record (without_disk v disk) { sync = calls_without v.sync disk } else dropped v disk
+
 -- the group after the committed one is committed: what it accepted has taken effect
 abbrev pub committed_next : View → View
 committed_next v = record (with_flow v (with_committed (flow_of v))) {
@@ -57,17 +86,6 @@ due_write disk number = record { disk = disk; phase = Blocks; number = number }
 
 abbrev pub due_flush : ℕ → DueCall
 due_flush disk = record { disk = disk; phase = BlocksFlush; number = 0 }
-
--- phases follow one another
-abbrev pub rank : Phase → ℕ
-rank Blocks = 0
-rank BlocksFlush = 1
-rank Slots = 2
-rank SlotsFlush = 3
-
--- from the slots on
-abbrev pub is_late : Phase → Bool
-is_late phase = nat_le (rank Slots) (rank phase)
 
 abbrev pub in_phase : Phase → DueCall → Bool
 in_phase phase call = rank call.phase == rank phase
@@ -206,6 +224,7 @@ MayAnswer v given Device (Moved phase) w = (rest : List DueCall) × (0 < length 
 MayAnswer v given Device (Committed group) w = FlowStep (flow_of v) Device (Committed group) (flow_of w) × (done : View) × Ends v given done × (w ≡ committed_next done)
 MayAnswer v given Device (Replan disk) w = (fails : FailsOn v given disk) × (is_late fails.call.phase ≡ false) × (is_suspended (dropped v disk) ≡ false) × (w ≡ dropped v disk)
 MayAnswer v given Device (Refused cause) w = (cause ≡ Suspended) × (disk : ℕ) × FailsOn v given disk × (is_suspended (dropped v disk) ≡ true) × (w ≡ dropped v disk)
+MayAnswer v given (DiskOut disk) Out w = w ≡ gone_out v disk
 MayAnswer v given (Read name offset len) (Bytes bytes) w = (given.trusted ≡ true → AreBytesOf (now_of v) name offset len bytes) × (w ≡ v)
 MayAnswer v given (Read name offset len) (Refused cause) w = IsUnreadable v given cause × (w ≡ v)
 MayAnswer v given (ReadUnder group name offset len) (Bytes bytes) w = (given.trusted ≡ true → AreBytesOf (v.pools group) name offset len bytes) × (w ≡ v)

@@ -5,13 +5,14 @@ use Rattle.pool_model.specs.declared.item.Change.{Change}
 use Rattle.pool_model.specs.declared.item.Change.TheVariants.{Clone, Create, Destroy, Snapshot}
 use Rattle.pool_model.specs.declared.item.Write.{Write}
 use Rattle.pool_model.specs.declared.step.Step.{Step}
-use Rattle.pool_model.specs.declared.step.Step.TheVariants.{Hold, Write as WriteStep, Act, Release, Close, Quiesce, Plan, Device, Read, ReadUnder}
+use Rattle.pool_model.specs.declared.step.Step.TheVariants.{Hold, Write as WriteStep, Act, Release, Close, Quiesce, Plan, Device, DiskOut, Read, ReadUnder}
 use Rattle.pool_model.specs.declared.refusal.Refusal.{Refusal}
 use Rattle.pool_model.specs.declared.refusal.Refusal.TheVariants.{Suspended, AlreadyHeld, NoHold, OutOfOrder, NoSuchName, NotYet, Misaligned, OutOfRange, NotNow, HasClones, HasSnapshots, BadName, Exists, GroupGone}
 use Rattle.pool_model.specs.declared.volume.PlainVolume.{PlainVolume}
 use Rattle.pool_model.specs.Names.{is_name, is_whole_name, is_block_size, snapshot_name}
 use Rattle.pool_model.specs.Pools.{PlainPool, has_clones, has_snapshots, is_snapshot, volume_at}
-use Rattle.pool_model.specs.View.{View, is_syncing, is_planned, is_quiescing, is_quiesced, is_suspended, waiting_group, open_group, is_kept, hold_group, is_held, now_of}
+use Rattle.std.specs.List.{list_any}
+use Rattle.pool_model.specs.View.{View, disks_of, is_syncing, is_planned, is_quiescing, is_quiesced, is_suspended, waiting_group, open_group, is_kept, hold_group, is_held, now_of}
 
 -- the first cause whose test holds
 abbrev pub first_cause : List (Bool × Refusal) → Option Refusal
@@ -75,6 +76,10 @@ read_refusal offset len (Some volume) = first_cause ((not (is_in_range offset le
 abbrev pub may_plan : View → Bool
 may_plan v = not (is_planned v.sync) && (is_syncing v.sync || is_quiesced v.waiting)
 
+-- there is no such disk
+abbrev pub is_no_disk : View → ℕ → Bool
+is_no_disk v disk = not (list_any (λ d. d == disk) (disks_of v.vdevs))
+
 -- the first cause that the view tells. Want of memory, missing disks and want of room are not among these.
 abbrev pub refusal_of : View → Step → Option Refusal
 refusal_of v (Hold writer) = first_cause ((is_suspended v, Suspended) ∷ (is_some (hold_group writer v.holds), AlreadyHeld) ∷ [])
@@ -85,6 +90,7 @@ refusal_of v Close = first_cause ((is_suspended v, Suspended) ∷ (is_some v.wai
 refusal_of v Quiesce = first_cause ((is_suspended v, Suspended) ∷ (not (is_quiescing v.waiting), NotNow) ∷ (is_held (waiting_group v) v.holds, NotNow) ∷ [])
 refusal_of v (Plan timestamp) = first_cause ((is_suspended v, Suspended) ∷ (not (may_plan v), NotNow) ∷ [])
 refusal_of v Device = first_cause ((is_suspended v, Suspended) ∷ (not (is_planned v.sync), NotNow) ∷ [])
+refusal_of v (DiskOut disk) = first_cause ((is_no_disk v disk, OutOfRange) ∷ (v.out disk, NotNow) ∷ [])
 refusal_of v (Read name offset len) = read_refusal offset len (volume_at name (now_of v))
 refusal_of v (ReadUnder group name offset len) = or_else (first_cause ((not (is_kept v group), GroupGone) ∷ [])) (read_refusal offset len (volume_at name (v.pools group)))
 
@@ -100,3 +106,4 @@ takes_memory (Release writer) = false
 takes_memory Close = false
 takes_memory Quiesce = false
 takes_memory Device = false
+takes_memory (DiskOut disk) = false

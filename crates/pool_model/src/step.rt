@@ -21,8 +21,11 @@ pub enum Step {
         /// As it goes into the uberblock.
         timestamp: u64,
     },
-    /// Makes the next device calls of the plan: one to four, in one phase.
+    /// Makes the next device calls of the plan: one to four, in one phase. Where a disk went out and none is left, none is made.
     Device,
+    /// Takes the disk of this number out of use: no call is made on it from then on. A plan of which something before the slots is left
+    /// is dropped; from the slots on the commit goes on without the disk.
+    DiskOut(usize),
     /// Reads what all accepted groups make.
     Read {
         name: Name,
@@ -67,6 +70,8 @@ pub enum Reply {
     Replan(usize),
     /// No device call is left. From the slots on the last one may have failed: its disk is out.
     Committed(u64),
+    /// The disk is out.
+    Out,
     Bytes(Bytes),
     Refused(Refusal),
 }

@@ -237,7 +237,7 @@ fn is_writers_step(step: &Step) -> bool
 {
     !matches!(
         step,
-        Step::Close | Step::Quiesce | Step::Plan { .. } | Step::Device
+        Step::Close | Step::Quiesce | Step::Plan { .. } | Step::Device | Step::DiskOut(_)
     )
 }
 

@@ -1,8 +1,8 @@
 use Rattle.std.proofs.Common.{ℕ, Bool, true, ◌∙◌, arith}
 use Rattle.std.proofs.Math.ListN.{length-set}
 use Rattle.disk_set.proofs.Spans.{set_reached}
-use Rattle.disk_set.proofs.set.DiskSet.note.Goals as goal
-use Rattle.disk_set.proofs.set.DiskSet.note.Goals.{then-not-index, else-not-index}
+use Rattle.disk_set.proofs.set.DiskSet.put_out.Goals as goal
+use Rattle.disk_set.proofs.set.DiskSet.put_out.Goals.{then-not-index, else-not-index}
 
 pub invariant_of-self : goal.invariant_of-self
 invariant_of-self g c =
