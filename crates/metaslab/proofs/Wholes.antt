@@ -142,6 +142,48 @@ none_has to rs count s d between front back few last =
           ]
     ]
 
+pub is_in_one : (rs : List Run) (i s : ℕ) (d : Run) → i < length rs → names (get_or rs i d) s ≡ true → contains rs s ≡ true
+is_in_one [] i s d below is = absurd (omega arith)
+is_in_one (r ∷ rs) zero s d below is = rw is refl
+is_in_one (r ∷ rs) (suc i) s d below is = let rest = is_in_one rs i s d (omega arith) is in elim (cases (names r s)) [ inl here ↦ rw here refl | inr other ↦ rw other rest ]
+
+later_shares : (to : ℕ) (rs : List Run) (count i : ℕ) (run d : Run) → AreBetween 0 to rs → ((k : ℕ) → k < count → (get_or rs k d).start < run.start + run.len) → count ≤ length rs → i + 1 < count
+    → ((k : ℕ) → k + 1 ≡ count → (s : ℕ) → names run s ≡ true → names (get_or rs k d) s ≡ false) → (s : ℕ)
+    → ((get_or rs i d).start ≤ s) × (s < (get_or rs i d).start + (get_or rs i d).len) → (run.start ≤ s) × (s < run.start + run.len) → ⊥
+later_shares to rs zero i run d between front few early last s has in_run = omega arith
+later_shares to rs (suc n) i run d between front few early last s has in_run =
+    let other = get_or rs n d in
+    let ends = ends_first 0 to rs i n d between (omega arith) (omega arith) in
+    let starts = front n (omega arith) in
+    let inside = has.1 in
+    let from = in_run.0 in
+    let whole = whole_at_index 0 to rs n d between (omega arith) in
+    let some = whole.some in
+    let of_other = is_named other other.start (omega arith) (omega arith) in
+    let of_run = is_named run other.start (omega arith) starts in
+    let out = last n (omega arith) other.start of_run in
+    absurd cc
+
+-- the runs up to a number start no later than a run ends, and the rest behind it: where the last of them doesn't share a sector with it none does
+pub none_shares : (to : ℕ) (rs : List Run) (count : ℕ) (run d : Run) → AreBetween 0 to rs
+    → ((k : ℕ) → k < count → (get_or rs k d).start < run.start + run.len) → ((k : ℕ) → count ≤ k → k < length rs → run.start + run.len ≤ (get_or rs k d).start) → count ≤ length rs
+    → ((k : ℕ) → k + 1 ≡ count → (s : ℕ) → names run s ≡ true → names (get_or rs k d) s ≡ false) → (s : ℕ) → names run s ≡ true → contains rs s ≡ false
+none_shares to rs count run d between front back few last s of_run =
+    elim (cases (contains rs s)) [
+      | inr out ↦ out
+      | inl inside ↦
+          let at = has_index rs s d inside in
+          let has = named (get_or rs at.0 d) s at.2 in
+          let in_run = named run s of_run in
+          elim (cases_lt at.0 count) [
+            | inr behind ↦ let later = back at.0 behind at.1 in absurd (omega (arith, has.0, in_run.1))
+            | inl within ↦ elim (cases_lt (at.0 + 1) count) [
+              | inl early ↦ absurd (later_shares to rs count at.0 run d between front few early last s has in_run)
+              | inr final ↦ let out = last at.0 (omega arith) s of_run in let is_in = at.2 in absurd cc
+            ]
+          ]
+    ]
+
 -- ---- where a run is taken out of one, or given back to it
 
 -- a run lies in one as long as it can be, and the small set lacks just that run of the big one
