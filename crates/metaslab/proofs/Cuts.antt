@@ -1,5 +1,5 @@
 -- The set by size where a run is allocated or freed.
-use Rattle.std.proofs.Common.{ℕ, zero, suc, ◌≡◌, ◌≢◌, ◌⊎◌, inl, inr, ◌+◌, ◌-◌, ◌<◌, ◌≤◌, Bool, true, false, Some, None, Option, List, get_or, ◌^◌, refl, sym, ap, subst, ◌∙◌, arith}
+use Rattle.std.proofs.Common.{ℕ, zero, suc, ◌≡◌, ◌≢◌, ◌⊎◌, inl, inr, ◌+◌, ◌-◌, ◌<◌, ◌≤◌, Bool, true, Some, None, Option, List, get_or, ◌^◌, refl, sym, ap, subst, ◌∙◌, arith}
 use Rattle.std.specs.Prelude.{IfSome, IfNone, IsSomeAnd, is_some, ◌↔◌}
 use Rattle.std.specs.BTreeSet.{BTreeSet}
 use Rattle.std.proofs.lemmas.Bool.{cases_lt, cases_eq}
@@ -7,10 +7,9 @@ use Rattle.space_map.specs.declared.entry.Run.{Run}
 use Rattle.space_map.specs.declared.entry.Kind.TheVariants.{Allocated, Freed}
 use Rattle.space_map.specs.FreeRuns.{FreeRuns, AreFree, entry_of, CanEnter, IsEntered, HasRoom}
 use Rattle.space_map.specs.Sectors.{names, contains, AreBetween}
-use Rattle.space_map.proofs.RunLemmas.{named, not_named, is_named, is_before, is_past, none_past}
-use Rattle.metaslab.specs.Fits.{HasRun, HasGainedRun, HasLostRun, HasGainedPart, HasLostPart, AreSizesOf, IsStepOf, IsWhole, IsRaised, raised}
-use Rattle.metaslab.proofs.Holding.{cases}
-use Rattle.metaslab.proofs.Wholes.{IsCut, left_part, right_part, others_stay, parts_or_others, one_start, one_end, whole_at_index, has_index}
+use Rattle.space_map.proofs.RunLemmas.{named, is_named, is_before, is_past, none_past}
+use Rattle.metaslab.specs.Fits.{HasRun, HasGainedPart, HasLostPart, AreSizesOf, IsStepOf, IsWhole, IsRaised, raised}
+use Rattle.metaslab.proofs.Wholes.{IsCut, left_part, right_part, others_stay, parts_or_others, one_end, whole_at_index, has_index}
 
 record IsGained (start end : ℕ) (old new : BTreeSet (ℕ × ℕ)) : Type 0 where
   has : (k : ℕ) → 0 < k → start + k ≡ end → HasRun new start k

@@ -1,11 +1,11 @@
 -- Runs in a set by size.
-use Rattle.std.proofs.Common.{ℕ, ◌≡◌, ◌≢◌, ◌⊎◌, inl, inr, ◌+◌, ◌<◌, ◌≤◌, Bool, true, false, cond, ltb, eqb, refl, sym, ap, subst, ◌∙◌, arith}
+use Rattle.std.proofs.Common.{ℕ, ◌≡◌, ◌≢◌, ◌⊎◌, inl, inr, ◌<◌, ◌≤◌, true, false, cond, ltb, eqb, refl, sym, ◌∙◌, arith}
 use Rattle.std.specs.declared.cmp.Ordering.TheVariants.{Less, Equal, Greater}
-use Rattle.std.specs.Ordering.{nat_cmp, ordering_then, is_eq, is_gt}
+use Rattle.std.specs.Ordering.{nat_cmp, is_eq, is_gt}
 use Rattle.std.specs.BTreeSet.{BTreeSet, contains, Updates}
 use Rattle.std.proofs.lemmas.Bool.{cases_lt, cases_eq}
 use Rattle.std.proofs.lemmas.Bool.Decides.{nat_tests}
-use Rattle.metaslab.specs.Fits.{by_size, HasRun, HasGainedRun, HasLostRun}
+use Rattle.metaslab.specs.Fits.{by_size, HasGainedRun, HasLostRun}
 
 less : (x y : ℕ) → x < y → nat_cmp x y ≡ Less
 less x y h = let t : ltb x y ≡ true = grind (arith, nat_tests) in rw t refl

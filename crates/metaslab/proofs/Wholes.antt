@@ -1,9 +1,9 @@
 -- Runs as long as they can be: those of a list that ascends, and what becomes of them where a run is taken or given.
-use Rattle.std.proofs.Common.{ℕ, zero, suc, ◌≡◌, ◌≢◌, ◌⊎◌, inl, inr, ◌+◌, ◌<◌, ◌≤◌, Bool, true, false, ◌||◌, cond, List, [], ◌∷◌, length, get_or, refl, sym, ap, subst, ◌∙◌, arith}
-use Rattle.std.proofs.lemmas.Bool.{cases_lt, cases_eq}
+use Rattle.std.proofs.Common.{ℕ, zero, suc, ◌≡◌, ◌≢◌, ◌⊎◌, inl, inr, ◌+◌, ◌<◌, ◌≤◌, Bool, true, false, List, [], ◌∷◌, length, get_or, refl, sym, ap, subst, ◌∙◌, arith}
+use Rattle.std.proofs.lemmas.Bool.{cases_lt}
 use Rattle.space_map.specs.declared.entry.Run.{Run}
-use Rattle.space_map.specs.Sectors.{names, contains, changed, AreBetween}
-use Rattle.space_map.proofs.RunLemmas.{none_before, named, not_named, is_named, is_before, is_past}
+use Rattle.space_map.specs.Sectors.{names, contains, AreBetween}
+use Rattle.space_map.proofs.RunLemmas.{none_before, named, is_named, is_before, is_past}
 use Rattle.metaslab.specs.Fits.{IsWhole}
 use Rattle.metaslab.proofs.Holding.{cases}
 

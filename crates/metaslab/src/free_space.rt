@@ -1,6 +1,6 @@
 //! The free sectors of a metaslab, which keep their runs by place and by size.
 ghost use Rattle.std.specs.Prelude.{◌≡◌, ◌⊎◌, ℕ, ◌+◌, ◌^◌, ◌<◌, ◌≤◌, ◌↔◌, IsTrue, OnOk, OnErr, IfOk, IfSome, IfNone, IsErrOf};
-ghost use Rattle.space_map.specs.FreeRuns.{AreFree, entry_of, CanEnter, IsEntered, HasRoom};
+ghost use Rattle.space_map.specs.FreeRuns.{entry_of, CanEnter, IsEntered, HasRoom};
 ghost use Rattle.space_map.specs.Sectors.{contains};
 ghost use Rattle.space_map.specs.declared.refusal.Refusal.TheVariants as MapRefusal;
 ghost use Rattle.metaslab.specs.Fits.{AreSorted, IsBestFit, IsRaised, IsWhole};
@@ -127,7 +127,8 @@ impl FreeSpace {
         requires { 0 < sectors }
         ensures whole { IfOk result (λ found. IfSome found (λ run.
             IsWhole (contains self.old.free.runs) run.start run.len)) }
-        ensures end { IfOk result (λ found. IfSome found (λ run. run.start + run.len ≤ self.old.free.sectors)) }
+        ensures end { IfOk result (λ found. IfSome found (λ run.
+            run.start + run.len ≤ self.old.free.sectors)) }
         ensures fits { IfOk result (λ found. IfSome found (λ run. sectors ≤ run.len)) }
         ensures best { IfOk result (λ found. IfSome found (λ run.
             IsBestFit (contains self.old.free.runs) sectors run.start)) }

@@ -1,4 +1,3 @@
-use Rattle.std.proofs.Common.{◌≡◌, ◌+◌, ◌≤◌, sym}
 use Rattle.std.specs.Prelude.{IfSome}
 use Rattle.space_map.specs.Sectors.{contains}
 use Rattle.metaslab.specs.Fits.{AreSizesOf}
