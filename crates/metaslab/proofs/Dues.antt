@@ -1,10 +1,11 @@
 -- What is due is given to the free sectors.
-use Rattle.std.proofs.Common.{◌≡◌, ℕ, inl, inr, Bool, true, false, ◌||◌, ◌&&◌, not, Some, None, List, [], ◌∷◌, refl, sym, ap, ◌∙◌}
+use Rattle.std.proofs.Common.{◌≡◌, ℕ, suc, ◌+◌, ◌*◌, ◌≤◌, inl, inr, Bool, true, false, ◌||◌, ◌&&◌, not, Some, None, List, [], ◌∷◌, refl, sym, ap, ◌∙◌, arith}
 use Rattle.std.specs.Prelude.{Option}
 use Rattle.std.specs.List.{list_any}
 use Rattle.space_map.specs.Sectors.{names, contains, changed}
 use Rattle.metaslab.specs.declared.settling.Release.{Release}
-use Rattle.metaslab.specs.Released.{released_by, frees, kept, AreHeldBack, IsHeldBack}
+use Rattle.metaslab.specs.Fits.{IsRaised}
+use Rattle.metaslab.specs.Released.{count_of, released_by, frees, kept, AreHeldBack, IsHeldBack}
 use Rattle.metaslab.specs.Space.{Space, state_of}
 use Rattle.metaslab.specs.Calls.{SettlesUnder}
 use Rattle.metaslab.specs.State.{is_due, is_in_use, settled}
@@ -142,4 +143,24 @@ unused_state free (r ∷ rs) s =
     elim (cases (names r.run s)) [
       | inl named ↦ elim (cases (free s)) [ inl here ↦ rw here refl | inr not_here ↦ rw (not_here, named) refl ]
       | inr other ↦ rw other (unused_state free rs s)
+    ]
+
+-- ---- how many calls that takes
+
+pub counted : (due : ℕ → Bool) (r : Release) (rs : List Release) (a b most : ℕ) → due r.group ≡ true → IsRaised 8 a b → a + 8 * count_of due (r ∷ rs) ≤ most → b + 8 * count_of due rs ≤ most
+counted due r rs a b most now raised enough =
+    let few = raised.few in
+    let one : a + 8 * suc (count_of due rs) ≤ most = rw now at enough in
+    omega arith
+
+pub not_counted : (due : ℕ → Bool) (r : Release) (rs : List Release) (a most : ℕ) → due r.group ≡ false → a + 8 * count_of due (r ∷ rs) ≤ most → a + 8 * count_of due rs ≤ most
+not_counted due r rs a most later enough = rw later at enough
+
+-- where nothing is due no extent is counted
+pub none_counted : (under : List ℕ) (g : ℕ) (rs : List Release) → list_any (λ (r : Release). is_due under g r.group) rs ≡ false → count_of (is_due under g) rs ≡ 0
+none_counted under g [] none = refl
+none_counted under g (r ∷ rs) none =
+    elim (cases (is_due under g r.group)) [
+      | inl now ↦ let some : true ≡ false = rw now at none in absurd cc
+      | inr later ↦ let rest : list_any (λ (it : Release). is_due under g it.group) rs ≡ false = rw later at none in rw later (none_counted under g rs rest)
     ]

@@ -4,7 +4,7 @@ use Rattle.std.specs.Prelude.{Option, All, not, ◌≢◌}
 use Rattle.std.specs.List.{AllByRecursion}
 use Rattle.std.proofs.lemmas.List.Elements.{All-from_recursion}
 use Rattle.space_map.specs.declared.entry.Run.{Run}
-use Rattle.space_map.specs.Sectors.{names, contains, AreBetween}
+use Rattle.space_map.specs.Sectors.{names, contains}
 use Rattle.metaslab.specs.declared.settling.Release.{Release}
 use Rattle.metaslab.specs.Released.{released_by, AreHeldBack}
 use Rattle.metaslab.specs.Space.{Space, sectors_of, state_of}
@@ -12,16 +12,9 @@ use Rattle.metaslab.specs.Calls.{IsRunOf}
 use Rattle.metaslab.specs.State.{InUse}
 use Rattle.metaslab.proofs.Holding.{in_use_parts}
 
-runs_are_some : (from to : ℕ) (rs : List Run) → AreBetween from to rs → AllByRecursion (λ (r : Run). 0 < r.len) rs
-runs_are_some from to [] h = tt
-runs_are_some from to (r ∷ rs) h = (h.1, runs_are_some (r.start + r.len + 1) to rs h.2)
-
 releases_are_some : (n : ℕ) (free : ℕ → Bool) (rs : List Release) → AreHeldBack n free rs → AllByRecursion (λ (r : Release). 0 < r.run.len) rs
 releases_are_some n free [] h = tt
 releases_are_some n free (r ∷ rs) h = (h.0, releases_are_some n free rs h.3)
-
-pub runs_have_sectors : (from to : ℕ) (rs : List Run) → AreBetween from to rs → All (λ (r : Run). 0 < r.len) rs
-runs_have_sectors from to rs h = All-from_recursion (λ (r : Run). 0 < r.len) rs (runs_are_some from to rs h)
 
 pub releases_have_sectors : (n : ℕ) (free : ℕ → Bool) (rs : List Release) → AreHeldBack n free rs → All (λ (r : Release). 0 < r.run.len) rs
 releases_have_sectors n free rs h = All-from_recursion (λ (r : Release). 0 < r.run.len) rs (releases_are_some n free rs h)

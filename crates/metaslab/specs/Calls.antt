@@ -1,10 +1,11 @@
 -- What the calls of a metaslab do, by the states of its sectors.
-use Rattle.std.specs.Prelude.{ℕ, ◌≡◌, ◌+◌, ◌<◌, ◌≤◌, ◌==◌, not, if◌then◌else◌, List, [], ◌∷◌, ◌++◌, filter, IsTrue}
+use Rattle.std.specs.Prelude.{ℕ, ◌≡◌, ◌+◌, ◌*◌, ◌<◌, ◌≤◌, ◌==◌, not, if◌then◌else◌, List, [], ◌∷◌, ◌++◌, filter, IsTrue}
 use Rattle.space_map.specs.declared.entry.Run.{Run}
 use Rattle.space_map.specs.FreeRuns.{FreeRuns}
 use Rattle.space_map.specs.Sectors.{names, contains}
 use Rattle.metaslab.specs.Space.{Space, state, sectors_of}
-use Rattle.metaslab.specs.State.{State, Free, InUse, is_in_use, settled}
+use Rattle.metaslab.specs.Released.{count_of}
+use Rattle.metaslab.specs.State.{State, Free, InUse, is_in_use, is_due, settled}
 
 -- the run lies in the metaslab, and all its sectors are used for this
 pub record IsRunOf (space : Space) (run : Run) (is : State) : Type 0 where
@@ -26,6 +27,10 @@ pub record SettlesUnder (under : List ℕ) (old new : Space) (group : ℕ) : Typ
   pub states : (s : ℕ) → state new s ≡ settled under group (state old s)
   pub sectors : sectors_of new ≡ sectors_of old
   pub pins : new.pins ≡ old.pins
+
+-- the count of calls on the free runs rose by so many at most for each extent that became free
+abbrev pub IsSettledWithin : ℕ → List ℕ → Space → Space → ℕ → Type 0
+IsSettledWithin most under old new group = new.ticks ≤ old.ticks + most * count_of (is_due under group) old.released
 
 -- the same under the metaslab's own pins
 abbrev pub Settles : Space → Space → ℕ → Type 0

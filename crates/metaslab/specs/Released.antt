@@ -1,5 +1,5 @@
 -- Runs that groups released.
-use Rattle.std.specs.Prelude.{ℕ, ◌≡◌, ◌+◌, ◌<◌, ◌≤◌, Bool, false, not, ◌&&◌, ◌||◌, Option, Some, None, if◌then◌else◌, List, [], ◌∷◌, filter, IsTrue}
+use Rattle.std.specs.Prelude.{ℕ, suc, ◌≡◌, ◌+◌, ◌<◌, ◌≤◌, Bool, false, not, ◌&&◌, ◌||◌, Option, Some, None, if◌then◌else◌, List, [], ◌∷◌, filter, IsTrue}
 use Rattle.space_map.specs.FreeRuns.{FreeRuns, IsSet}
 use Rattle.space_map.specs.Sectors.{names, contains}
 use Rattle.metaslab.specs.declared.settling.Release.{Release}
@@ -31,3 +31,8 @@ HasGained passes rs old new = IsSet new old.sectors (λ s. contains old.runs s |
 -- what the groups that do not pass released
 abbrev pub kept : (ℕ → Bool) → List Release → List Release
 kept passes rs = filter (λ release. not (passes release.group)) rs
+
+-- how many extents the groups that pass released
+abbrev pub count_of : (ℕ → Bool) → List Release → ℕ
+count_of passes [] = 0
+count_of passes (r ∷ rs) = if passes r.group then suc (count_of passes rs) else count_of passes rs

@@ -10,6 +10,7 @@ pub record Space : Type 0 where
   pub free : FreeRuns
   pub released : List Release
   pub pins : List ℕ  -- the groups that are pinned
+  pub ticks : ℕ  -- how many calls on the free runs led to this
 
 abbrev pub state_of : Bool → Option ℕ → State
 state_of true releasing = Free

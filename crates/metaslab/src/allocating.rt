@@ -1,9 +1,10 @@
 //! A metaslab.
-ghost use Rattle.std.specs.Prelude.{◌≡◌, ◌<◌, [], ◌↔◌, IsTrue, OnOk, OnErr, IfOk};
+ghost use Rattle.std.specs.Prelude.{◌≡◌, ◌^◌, ◌<◌, ◌≤◌, [], ◌↔◌, IsTrue, OnOk, OnErr, IfOk};
 ghost use Rattle.std.specs.Bool.{OnTrue, OnFalse};
 
+use crate::free_space::FreeSpace;
 use crate::refusal::Refusal;
-use crate::settling::{Release, change, drop_due, give_all, give_due, holds_due};
+use crate::settling::{Release, drop_due, give_all, give_due, holds_due};
 use crate::sharing::{shares_released, shares_sector};
 use space_map::{FreeSet, Kind, Run};
 use std::alloc::{AllocError, Global};
@@ -18,7 +19,7 @@ use std::marker::Model;
 /// drops the clone, which takes no memory.
 #[derive(Drop)]
 pub struct Metaslab {
-    free: FreeSet,
+    free: FreeSpace,
     released: Vec<Release>,
     pins: Vec<u64>,
 }
@@ -29,15 +30,22 @@ impl Model for Metaslab {
 
     ghost Value = { Space };
 
-    ghost view = { λ m. record { free = m.free; released = m.released.items; pins = m.pins.items } };
+    ghost view = { λ m. record {
+      free = m.free.free;
+      released = m.released.items;
+      pins = m.pins.items;
+      ticks = m.free.ticks;
+    } };
 
-    ghost invariant = { λ m. IsHeldBack m.free m.released.items };
+    ghost invariant = { λ m. IsHeldBack m.free.free m.released.items };
 }
 
 impl Metaslab {
     ghost use Rattle.metaslab.specs.State.{Free, InUse, Released};
     ghost use Rattle.metaslab.specs.Space.{sectors_of};
-    ghost use Rattle.metaslab.specs.Calls.{IsRunOf, Changes, HasFreeRun, Settles, SettlesUnder, IsOf, AreUnused};
+    ghost use Rattle.space_map.specs.Sectors.{contains};
+    ghost use Rattle.metaslab.specs.Fits.{IsBestFit, IsRaised};
+    ghost use Rattle.metaslab.specs.Calls.{IsRunOf, Changes, HasFreeRun, Settles, SettlesUnder, IsSettledWithin, IsOf, AreUnused};
     ghost use Rattle.metaslab.specs.Calls.{pinned, unpinned};
     ghost use Rattle.metaslab.specs.Unused.{IsAllFree};
 
@@ -48,7 +56,7 @@ impl Metaslab {
         ensures pins { result.pins ≡ [] }
     {
         Metaslab {
-            free,
+            free: FreeSpace::new(free),
             released: Vec::new(alloc),
             pins: Vec::new(alloc),
         }
@@ -58,15 +66,24 @@ impl Metaslab {
     pub fn sectors(&self) -> u64
         ensures { result ≡ sectors_of self.now }
     {
-        self.free.sectors()
+        self.free.by_place().sectors()
+    }
+
+    /// How many calls on the free runs led to what is there, up to 2^62. What came to nothing isn't counted.
+    pub fn ticks(&self) -> u64
+        ensures value { result ≡ self.now.ticks }
+        ensures few { result ≤ 2 ^ 62 }
+    {
+        self.free.ticks()
     }
 
     /// Whether all sectors are free.
     pub fn is_all_free(&self) -> bool
         ensures { IsTrue result ↔ IsAllFree self.now }
     {
-        let sectors = self.free.sectors();
-        sectors == 0 || self.free.find(sectors).is_some()
+        let free = self.free.by_place();
+        let sectors = free.sectors();
+        sectors == 0 || free.find(sectors).is_some()
     }
 
     /// Takes in a free set, as the replay of the metaslab's space map gives it, in place of what was known: all other
@@ -75,7 +92,7 @@ impl Metaslab {
         ensures states { IsOf self.new free }
         ensures pins { self.new.pins ≡ self.old.pins }
     {
-        self.free = free;
+        self.free.load(free);
         self.released.clear();
     }
 
@@ -84,7 +101,7 @@ impl Metaslab {
         requires { 0 < sectors }
         ensures { IsTrue result ↔ HasFreeRun self.now sectors }
     {
-        self.free.find(sectors).is_some()
+        self.free.has_room(sectors)
     }
 
     /// Whether all sectors of a run are in use: it lies in the metaslab, and none of them is free or released.
@@ -92,14 +109,15 @@ impl Metaslab {
         requires { 0 < run.len }
         ensures { IsTrue result ↔ IsRunOf self.now run InUse }
     {
-        let sectors = self.free.sectors();
+        let sectors = self.sectors();
         if run.len > sectors || run.start > sectors - run.len {
             return false;
         }
-        !shares_sector(self.free.runs(), run) && !shares_released(&self.released, run)
+        !shares_sector(self.free.by_place().runs(), run) && !shares_released(&self.released, run)
     }
 
-    /// Takes so many free sectors in a row, any, and hands them out. `NoSpace` comes only where no so many
+    /// Takes so many free sectors in a row, from the front of the shortest free run that has as many and of those as short
+    /// the first, and hands them out. `NoSpace` comes only where no so many
     /// are free in a row, and `NoMemory` may come in its place. An error leaves the metaslab as it was.
     pub fn allocate(&mut self, sectors: u64) -> Result<Run, Refusal>
         requires { 0 < sectors }
@@ -108,11 +126,12 @@ impl Metaslab {
         ensures taken { IfOk result (λ run. Changes self.old self.new run InUse) }
         ensures no_space { result ≡ Err Refusal.NoSpace → ¬ HasFreeRun self.old sectors }
         ensures err { OnErr result (self.new ≡ self.old) }
+        ensures best { IfOk result (λ run.
+            IsBestFit (contains self.old.free.runs) sectors run.start) }
+        ensures ticks { OnOk result (IsRaised 6 self.old.ticks self.new.ticks) }
     {
-        let Some(run) = self.free.find(sectors) else {
-            return Err(Refusal::NoSpace);
-        };
-        change(&mut self.free, Kind::Allocated, run)?;
+        let alloc = *self.released.allocator();
+        let run = self.free.allocate(alloc, sectors)?;
         Ok(run)
     }
 
@@ -127,7 +146,7 @@ impl Metaslab {
         ensures left { IfOk result (λ is_free. OnFalse is_free (self.new ≡ self.old)) }
         ensures err { OnErr result (self.new ≡ self.old) }
     {
-        let sectors = self.free.sectors();
+        let sectors = self.sectors();
         if run.len > sectors || run.start > sectors - run.len {
             return Ok(false);
         }
@@ -156,8 +175,9 @@ impl Metaslab {
     pub fn settle(&mut self, group: u64) -> Result<(), AllocError>
         ensures settled { OnOk result (Settles self.old self.new group) }
         ensures err { OnErr result (self.new ≡ self.old) }
+        ensures ticks { OnOk result (IsSettledWithin 8 self.old.pins self.old self.new group) }
     {
-        let mut free = self.free.clone()?;
+        let mut free = self.free.hand_over()?;
         give_due(&mut free, &self.released, &self.pins, group)?;
         drop_due(&mut self.released, &self.pins, group);
         self.free = free;
@@ -169,15 +189,31 @@ impl Metaslab {
     pub fn settle_under(&mut self, pins: &[u64], group: u64) -> Result<(), AllocError>
         ensures settled { OnOk result (SettlesUnder pins.now self.old self.new group) }
         ensures err { OnErr result (self.new ≡ self.old) }
+        ensures ticks { OnOk result (IsSettledWithin 8 pins.now self.old self.new group) }
     {
         if !holds_due(&self.released, pins, group) {
             return Ok(());
         }
-        let mut free = self.free.clone()?;
+        let mut free = self.free.hand_over()?;
         give_due(&mut free, &self.released, pins, group)?;
         drop_due(&mut self.released, pins, group);
         self.free = free;
         Ok(())
+    }
+
+    /// A copy for a plan, which takes with it what speeds up the search for free runs: the metaslab makes that anew where it
+    /// is asked while the copy is there, and when the copy was dropped.
+    pub(crate) fn hand_over(&mut self) -> Result<Metaslab, AllocError>
+        ensures ok { IfOk result (λ copy. copy ≡ self.old) }
+        ensures rest { self.new ≡ self.old }
+    {
+        let released = Vec::from_slice(*self.released.allocator(), &self.released)?;
+        let pins = Vec::from_slice(*self.pins.allocator(), &self.pins)?;
+        Ok(Metaslab {
+            free: self.free.hand_over()?,
+            released,
+            pins,
+        })
     }
 
     /// All sectors that are not in use, those too that were released and are not free yet: what the
@@ -185,7 +221,7 @@ impl Metaslab {
     pub fn unused(&self) -> Result<FreeSet, AllocError>
         ensures { IfOk result (AreUnused self.now) }
     {
-        let mut unused = self.free.clone()?;
+        let mut unused = self.free.by_place().clone()?;
         give_all(&mut unused, &self.released)?;
         Ok(unused)
     }

@@ -5,6 +5,9 @@
 #![tactic(auto)]
 
 mod allocating;
+mod by_size;
+mod free_runs;
+mod free_space;
 mod group;
 mod laws;
 mod planned;

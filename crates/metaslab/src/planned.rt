@@ -31,7 +31,9 @@ impl PlannedMetaslab {
     ghost use Rattle.std.specs.Prelude.{[]};
     ghost use Rattle.std.specs.Bool.{OnTrue, OnFalse};
     ghost use Rattle.metaslab.specs.State.{Free, InUse, Released};
-    ghost use Rattle.metaslab.specs.Calls.{IsRunOf, Changes, HasFreeRun, SettlesUnder, IsOf};
+    ghost use Rattle.space_map.specs.Sectors.{contains};
+    ghost use Rattle.metaslab.specs.Fits.{IsBestFit, IsRaised};
+    ghost use Rattle.metaslab.specs.Calls.{IsRunOf, Changes, HasFreeRun, SettlesUnder, IsSettledWithin, IsOf};
     ghost use Rattle.metaslab.specs.Calls.{AreUnused};
     ghost use Rattle.metaslab.specs.Maps.{AreLoaded, AreWhollyFreeOf};
 
@@ -69,7 +71,7 @@ impl PlannedMetaslab {
         }
     }
 
-    /// Takes so many free sectors in a row, any, for the plan. `NoSpace` comes only where no so many are free
+    /// Takes so many free sectors in a row for the plan, as `Metaslab::allocate` does. `NoSpace` comes only where no so many are free
     /// in a row, and `NoMemory` may come in its place. An error leaves both spaces as they were.
     pub fn allocate(&mut self, sectors: u64) -> Result<Run, Refusal>
         requires { 0 < sectors }
@@ -79,12 +81,21 @@ impl PlannedMetaslab {
         ensures no_space { result ≡ Err Refusal.NoSpace → ¬ HasFreeRun self.old.planned sectors }
         ensures err { OnErr result (self.new ≡ self.old) }
         ensures kept { self.new.kept ≡ self.old.kept }
+        ensures best { IfOk result (λ run.
+            IsBestFit (contains self.old.planned.free.runs) sectors run.start) }
+        ensures ticks { OnOk result (IsRaised 6 self.old.planned.ticks self.new.planned.ticks) }
     {
         if let Some(copy) = &mut self.copy {
             return copy.allocate(sectors);
         }
-        let mut copy = self.kept.clone()?;
-        let run = copy.allocate(sectors)?;
+        if !self.kept.has_room(sectors) {
+            return Err(Refusal::NoSpace);
+        }
+        let mut copy = self.kept.hand_over()?;
+        let Ok(run) = copy.allocate(sectors) else {
+            // There was room, so memory was short.
+            return Err(Refusal::NoMemory);
+        };
         self.copy = Some(copy);
         Ok(run)
     }
@@ -126,7 +137,7 @@ impl PlannedMetaslab {
         if let Some(copy) = &mut self.copy {
             return copy.release(run, group);
         }
-        let mut copy = self.kept.clone()?;
+        let mut copy = self.kept.hand_over()?;
         copy.release(run, group)?;
         self.copy = Some(copy);
         Ok(())
@@ -138,6 +149,8 @@ impl PlannedMetaslab {
         ensures settled { OnOk result (SettlesUnder pins.now self.old.kept self.new.kept group) }
         ensures err { OnErr result (self.new.kept ≡ self.old.kept) }
         ensures planned { self.new.planned ≡ self.new.kept }
+        ensures ticks { OnOk result
+            (IsSettledWithin 8 pins.now self.old.kept self.new.kept group) }
     {
         self.copy = None;
         self.kept.settle_under(pins, group)

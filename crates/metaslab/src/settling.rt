@@ -1,10 +1,12 @@
 //! What was released, and when it may be handed out again.
-ghost use Rattle.std.specs.Prelude.{◌≡◌, ◌<◌, nat_le, true, OnOk, OnErr};
+ghost use Rattle.std.specs.Prelude.{◌≡◌, ◌+◌, ◌*◌, ◌<◌, ◌≤◌, nat_le, true, OnOk, OnErr};
 ghost use Rattle.std.specs.List.{list_all, list_any};
 ghost use Rattle.space_map.specs.FreeRuns.{entry_of, CanEnter, IsEntered};
 ghost use Rattle.metaslab.specs.State.{is_due};
-ghost use Rattle.metaslab.specs.Released.{kept, IsHeldBack, HasGained};
+ghost use Rattle.metaslab.specs.Released.{count_of, kept, IsHeldBack, HasGained};
+ghost use Rattle.metaslab.specs.Fits.{IsRaised};
 
+use crate::free_space::FreeSpace;
 use space_map::{FreeSet, Kind, Run};
 use std::alloc::AllocError;
 
@@ -40,20 +42,38 @@ pub(crate) fn holds_due(released: &[Release], pins: &[u64], group: u64) -> bool
 
 /// Gives what is due to the free sectors.
 pub(crate) fn give_due(
-    free: &mut FreeSet,
+    free: &mut FreeSpace,
     released: &[Release],
     pins: &[u64],
     group: u64,
 ) -> Result<(), AllocError>
-    requires { IsHeldBack free.old released.now }
-    ensures { OnOk result (HasGained (is_due pins.now group) released.now free.old free.new) }
+    requires { IsHeldBack free.old.free released.now }
+    ensures gained { OnOk result
+        (HasGained (is_due pins.now group) released.now free.old.free free.new.free) }
+    ensures ticks { OnOk result
+        (free.new.ticks ≤ free.old.ticks + 8 * count_of (is_due pins.now group) released.now) }
 {
     for release in released {
         if is_due(pins, group, release.group) {
-            change(free, Kind::Freed, release.run)?;
+            give(free, release.run)?;
         }
     }
     Ok(())
+}
+
+/// Gives a run to the free sectors, none of which is free before.
+fn give(free: &mut FreeSpace, run: Run) -> Result<(), AllocError>
+    requires changes { CanEnter free.old.free (entry_of Kind.Freed run) }
+    requires not_empty { 0 < run.len }
+    ensures ok { OnOk result (IsEntered free.old.free free.new.free (entry_of Kind.Freed run)) }
+    ensures ticks { OnOk result (IsRaised 8 free.old.ticks free.new.ticks) }
+    ensures err { OnErr result (free.new ≡ free.old) }
+{
+    match free.change(Kind::Freed, run) {
+        Ok(()) => Ok(()),
+        Err(space_map::Refusal::NoMemory) => Err(AllocError),
+        Err(space_map::Refusal::BadMap) => unreachable!(),
+    }
 }
 
 /// Gives all that was released to the free sectors.
@@ -68,7 +88,7 @@ pub(crate) fn give_all(free: &mut FreeSet, released: &[Release]) -> Result<(), A
 }
 
 /// Allocates or frees a run, all of whose sectors are free or allocated before.
-pub(crate) fn change(free: &mut FreeSet, kind: Kind, run: Run) -> Result<(), AllocError>
+fn change(free: &mut FreeSet, kind: Kind, run: Run) -> Result<(), AllocError>
     requires changes { CanEnter free.old (entry_of kind run) }
     requires not_empty { 0 < run.len }
     ensures ok { OnOk result (IsEntered free.old free.new (entry_of kind run)) }

@@ -1,6 +1,6 @@
 //! Runs that share sectors.
-ghost use Rattle.std.specs.Prelude.{◌≡◌, ◌≢◌, ◌<◌, ℕ, true, false, None, All, IsTrue};
-ghost use Rattle.space_map.specs.Sectors.{names, contains};
+ghost use Rattle.std.specs.Prelude.{◌≡◌, ◌≢◌, ◌+◌, ◌^◌, ◌<◌, ℕ, true, false, None, All, IsTrue};
+ghost use Rattle.space_map.specs.Sectors.{names, contains, AreBetween};
 ghost use Rattle.metaslab.specs.Released.{released_by};
 
 use crate::settling::Release;
@@ -19,18 +19,21 @@ fn overlaps(one: Run, other: Run) -> bool
     }
 }
 
-/// Whether a run shares a sector with one of these.
+/// Whether a run shares a sector with one of these, which ascend: the last that starts no later than it ends is asked.
 pub(crate) fn shares_sector(runs: &[Run], run: Run) -> bool
-    ensures no { result ≡ false → (s : ℕ) → IsTrue (names run s) → contains runs.now s ≡ false }
-    ensures yes { result ≡ true → 0 < run.len → All (λ (r : Run). 0 < r.len) runs.now
+    requires some { 0 < run.len }
+    requires fits { run.start + run.len < 2 ^ 64 }
+    ensures no { result ≡ false → (to : ℕ) → AreBetween 0 to runs.now
+        → (s : ℕ) → IsTrue (names run s) → contains runs.now s ≡ false }
+    ensures yes { result ≡ true → (to : ℕ) → AreBetween 0 to runs.now
         → (s : ℕ) × IsTrue (names run s) × (contains runs.now s ≡ true) }
 {
-    for other in runs {
-        if overlaps(*other, run) {
-            return true;
-        }
+    let last = run.start + (run.len - 1);
+    let count = runs.partition_point(|other| other.start <= last);
+    if count == 0 {
+        return false;
     }
-    false
+    overlaps(runs[count - 1], run)
 }
 
 /// Whether a run shares a sector with one that was released.

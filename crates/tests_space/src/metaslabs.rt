@@ -1,7 +1,7 @@
-ghost use Rattle.std.specs.Prelude.{◌<◌};
+ghost use Rattle.std.specs.Prelude.{◌≡◌, ◌<◌};
 
 use metaslab::{Metaslab, Refusal};
-use space_map::{FreeSet, Run};
+use space_map::{Entry, FreeSet, Kind, Run};
 use std::alloc::Global;
 use std::test::*;
 
@@ -151,4 +151,72 @@ fn free_runs_are_taken_in(rt: HostRuntime) {
     assert!(rt; taken_in(rt.alloc(), 0, 4) == Ok([false, true, false]));
     assert!(rt; taken_in(rt.alloc(), 15, 2) == Ok([false, false, false]));
     assert!(rt; taken_in(rt.alloc(), u64::MAX, 1) == Ok([false, false, false]));
+}
+
+/// What allocates a run.
+fn in_use(start: u64, len: u64) -> Entry
+    ensures { result ≡ record { kind = Kind.Allocated; run = record { start = start; len = len } } }
+{
+    Entry {
+        kind: Kind::Allocated,
+        run: Run { start, len },
+    }
+}
+
+/// A metaslab of 40 sectors with free runs from 0 to 10, from 20 to 24 and from 30 to 36.
+fn with_three_runs(alloc: Global) -> Result<Metaslab, space_map::Refusal> {
+    let mut free = FreeSet::new(alloc, 40)?;
+    free.apply(in_use(10, 10))?;
+    free.apply(in_use(24, 6))?;
+    free.apply(in_use(36, 4))?;
+    Ok(Metaslab::new(alloc, free))
+}
+
+/// How many sectors are allocated in turn, and where the run starts, or why there is none.
+const FITS: [(u64, Result<u64, Refusal>, &str); 4] = [
+    (4, Ok(20), "the shortest run that fits, not the first"),
+    (5, Ok(30), "the shortest that is left"),
+    (11, Err(Refusal::NoSpace), "longer than any run"),
+    (1, Ok(35), "what was left behind it"),
+];
+
+#[test]
+fn the_shortest_run_that_fits_is_taken(rt: HostRuntime) {
+    let Ok(mut metaslab) = with_three_runs(rt.alloc()) else {
+        assert!(rt; false, "three runs");
+        return;
+    };
+    for &(sectors, start, why) in &FITS {
+        let before = metaslab.ticks();
+        let found = metaslab.allocate(sectors.max(1)).map(|run| run.start);
+        assert!(rt; found == start, "{why}");
+        assert!(rt; metaslab.ticks() <= before + 6, "at most six calls");
+        assert!(rt;
+            found.is_err() || metaslab.ticks() > before,
+            "calls are counted"
+        );
+    }
+    let free = [Run { start: 0, len: 10 }];
+    assert!(rt;
+        metaslab
+            .unused()
+            .is_ok_and(|unused| unused.runs() == free.as_slice())
+    );
+}
+
+/// How far the count goes where a run of 2 sectors is released with a group and settled with another, while the two runs
+/// beside it are free.
+fn settle_ticks(alloc: Global, group: u64) -> Result<u64, Refusal> {
+    let mut metaslab = Metaslab::new(alloc, FreeSet::new(alloc, 16)?);
+    let run = metaslab.allocate(2)?;
+    metaslab.release(run, 4)?;
+    let before = metaslab.ticks();
+    metaslab.settle(group)?;
+    Ok(metaslab.ticks().saturating_sub(before))
+}
+
+#[test]
+fn a_settle_counts_what_is_due(rt: HostRuntime) {
+    assert!(rt; settle_ticks(rt.alloc(), 6) == Ok(0));
+    assert!(rt; settle_ticks(rt.alloc(), 7).is_ok_and(|ticks| ticks > 0 && ticks <= 8));
 }

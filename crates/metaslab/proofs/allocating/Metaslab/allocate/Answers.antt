@@ -5,14 +5,14 @@ use Rattle.metaslab.proofs.allocating.Metaslab.allocate.Goals as goal
 
 pub invariant_of-self-2 : goal.invariant_of-self-2
 invariant_of-self-2 c =
-    let free = c.self.inside.free in
-    rw c.in_ok-change.ensures.ok.0 (held_after_taking free.sectors (contains free.runs) (contains c.change.new.free.runs) c.self.inside.released.items c.in-Some.run' c.self.invariant c.in_ok-change.ensures.ok.1)
+    let free = c.self.inside.free.free in
+    rw c.in_ok-run.ensures.taken.0 (held_after_taking free.sectors (contains free.runs) (contains c.allocate.new.self.free.runs) c.self.inside.released.items c.in_ok-run.run' c.self.invariant c.in_ok-run.ensures.taken.1)
 
 pub returns-clause-taken : goal.returns-clause-taken
 returns-clause-taken c =
-    let free = c.self.inside.free in
+    let free = c.self.inside.free.free in
     rw (← c.self.view_is) (record {
-      states = state_after_taking free.sectors (contains free.runs) (contains c.change.new.free.runs) c.self.inside.released.items c.in-Some.run' c.self.invariant c.in_ok-change.ensures.ok.1 c.in-Some.ensures.free.each;
-      sectors = c.in_ok-change.ensures.ok.0;
+      states = state_after_taking free.sectors (contains free.runs) (contains c.allocate.new.self.free.runs) c.self.inside.released.items c.in_ok-run.run' c.self.invariant c.in_ok-run.ensures.taken.1 c.in_ok-run.ensures.free.each;
+      sectors = c.in_ok-run.ensures.taken.0;
       pins = refl;
     })

@@ -4,6 +4,5 @@ use Rattle.metaslab.proofs.allocating.Metaslab.has_room.Goals as goal
 
 pub returns : goal.returns
 returns c =
-    let space : Space = record { free = c.self.inside.free; released = c.self.inside.released.items; pins = c.self.inside.pins.items } in
-    let both = room space c.args.sectors c.find.result c.find.ensures.len c.find.ensures.free c.find.ensures.none in
-    rw (c.is_some.ensures, ← c.self.view_is) both
+    let space : Space = record { free = c.self.inside.free.free; released = c.self.inside.released.items; pins = c.self.inside.pins.items; ticks = c.self.inside.free.ticks } in
+    rw (← c.self.view_is) (room space c.args.sectors c.has_room.result c.has_room.ensures)
