@@ -1,9 +1,11 @@
 # Prints a schedule that makes volumes of a pool of 4 + 1 disks and writes to the first, group by group; with snapshots=N then N groups that
 # take a snapshot of it each, with clones=N that make a clone of the first snapshot each, with after=N that make those writes once more, and with
-# destroys=N that destroy the last snapshots, one each; with reads=1 then a read of each place that was written. For example:
+# destroys=N that destroy the last snapshots, one each; with reads=1 then a read of each place that was written. The pool's own blocks have
+# meta=N metaslabs of 32 MiB, and 2 where that isn't given: what 5,000 volumes take there doesn't fit into 2. Where the plan that makes the volumes
+# is refused (`refused 3 NoSpace`) no later group is committed either, so look for that before a time is believed. For example:
 #   awk -v volumes=1 -v groups=100 -v writes=20 -v len=8192 -v size=67108864 -v block=8192 -v reads=0 -f docs/load.awk
 BEGIN {
-    print "pool 1 5 268435456 16 2"
+    print "pool 1 5 268435456 16 " (meta ? meta : 2)
     print "hold 1"
     for (v = 0; v < volumes; v++)
         printf "create 1 %d v%04d %d %d\n", v + 1, v, size, block

@@ -5,6 +5,7 @@ pub mod Records
 pub mod Rows
 pub mod Edits
 pub mod Ordered
+pub mod Searching
 pub mod Spans
 pub mod Maps
 pub mod Losses

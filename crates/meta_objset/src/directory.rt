@@ -132,8 +132,8 @@ impl Directory {
             Contains self.now (record { name = name.now; object = object })) }
         ensures none { result ≡ None → LacksName self.now name.now }
     {
-        let row = self.rows.iter().find(|row| row.name == *name)?;
-        Some(row.object)
+        let at = place_of(&self.rows, name)?;
+        Some(self.rows[at].object)
     }
 
     /// Adds a name, padded as in a row, and the number of its object. `false` where the name is there already; then nothing
@@ -263,25 +263,26 @@ impl Directory {
 
 /// How many rows have a name that stands before that one.
 fn count_before(rows: &[DirectoryRow], name: &[u8]) -> usize
+    requires { IsDirectory rows.now }
     ensures within { result ≤ length rows.now }
     ensures before { All (λ row. IsBefore row.name name.now) (take result rows.now) }
     ensures behind { (other : DirectoryRow) → result < length rows.now
         → ¬ IsBefore (slice_index_or rows.now result other).name name.now }
 {
-    for (i, row) in rows.iter().enumerate() {
-        if !is_before(&row.name, name) {
-            return i;
-        }
-    }
-    rows.len()
+    rows.partition_point(|row| row.name.as_slice().cmp(name).is_lt())
 }
 
-/// The place of the first row that has a name.
+/// The place of the row that has a name.
 fn place_of(rows: &[DirectoryRow], name: &[u8; 56]) -> Option<usize>
+    requires { IsDirectory rows.now }
     ensures { MatchOption result (LacksName rows.now name.now) (λ at. (at < length rows.now)
         × ((other : DirectoryRow) → (slice_index_or rows.now at other).name ≡ name.now)) }
 {
-    rows.iter().position(|row| row.name == *name)
+    let at = count_before(rows, name);
+    let Some(row) = rows.get(at) else {
+        return None;
+    };
+    if row.name == *name { Some(at) } else { None }
 }
 
 /// Whether the name of a row stands behind those of the rows so far.
