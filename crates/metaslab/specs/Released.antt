@@ -24,6 +24,11 @@ AreHeldBack sectors free (r ∷ rs) = (0 < r.run.len) × (r.run.start + r.run.le
 abbrev pub IsHeldBack : FreeRuns → List Release → Type 0
 IsHeldBack free rs = AreHeldBack free.sectors (contains free.runs) rs
 
+-- the runs stand in the order of their places, and none shares a sector with the next
+abbrev pub AreInOrder : ℕ → List Release → Type 0
+AreInOrder from [] = Unit {0}
+AreInOrder from (r ∷ rs) = (from ≤ r.run.start) × AreInOrder (r.run.start + r.run.len) rs
+
 -- a free set is another with what the groups that pass released
 abbrev pub HasGained : (ℕ → Bool) → List Release → FreeRuns → FreeRuns → Type 0
 HasGained passes rs old new = IsSet new old.sectors (λ s. contains old.runs s || frees passes rs s)

@@ -26,7 +26,7 @@ pub struct Metaslab {
 
 impl Model for Metaslab {
     ghost use Rattle.metaslab.specs.Space.{Space};
-    ghost use Rattle.metaslab.specs.Released.{IsHeldBack};
+    ghost use Rattle.metaslab.specs.Released.{IsHeldBack, AreInOrder};
 
     ghost Value = { Space };
 
@@ -37,7 +37,8 @@ impl Model for Metaslab {
       ticks = m.free.ticks;
     } };
 
-    ghost invariant = { λ m. IsHeldBack m.free.free m.released.items };
+    ghost invariant = { λ m.
+        IsHeldBack m.free.free m.released.items × AreInOrder 0 m.released.items };
 }
 
 impl Metaslab {
@@ -166,7 +167,10 @@ impl Metaslab {
         ensures released { OnOk result (Changes self.old self.new run (Released group)) }
         ensures err { OnErr result (self.new ≡ self.old) }
     {
-        self.released.push(Release { group, run })?;
+        let index = self
+            .released
+            .partition_point(|release| release.run.start <= run.start);
+        self.released.insert(index, Release { group, run })?;
         Ok(())
     }
 

@@ -13,11 +13,14 @@ returns-then-not-shares_sector c =
     let within : c.args.run.start + c.args.run.len ≤ c.self.inside.free.free.sectors = grind (arith, nat_tests) in
     let apart = c.if-not-shares_sector.true in
     let free = rw c.by_place.ensures at c.runs.ensures.apart in
+    let each = releases_have_sectors _ _ _ c.self.invariant.0 in
+    let no_released = rw c.deref.ensures.value at c.shares_released.ensures.no in
+    let some_released = rw c.deref.ensures.value at c.shares_released.ensures.yes in
     let no_free = rw (c.runs.ensures.runs, c.by_place.ensures) at (c.shares_sector.ensures.no apart) in
     rw (← c.self.view_is) (
-      (λ none. is_run_in_use space c.args.run within (no_free (space.free.sectors + 1) free.1) (rw c.deref.ensures.value at (c.shares_released.ensures.no (not_shared _ none)))),
+      (λ none. is_run_in_use space c.args.run within (no_free (space.free.sectors + 1) free.1) (no_released (not_shared _ none) c.self.invariant.1 each)),
       λ is. not_sharing _ (λ shares. shared_released space c.args.run
-          (rw c.deref.ensures.value at (c.shares_released.ensures.yes shares c.requires) (releases_have_sectors _ _ _ c.self.invariant)) is),
+          (some_released shares each) is),
     )
 
 pub returns-else-not-shares_sector : goal.returns-else-not-shares_sector

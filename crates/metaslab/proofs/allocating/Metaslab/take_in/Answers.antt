@@ -10,7 +10,7 @@ invariant_of-self c =
     let released = c.self.inside.released.items in
     elim c.match-change.branch [
       | in-Ok w ↦
-          rw w.in-Ok.ensures.ok.0 (held_after_taking free.sectors (contains free.runs) (contains c.change.new.self.free.runs) released c.args.run c.self.invariant w.in-Ok.ensures.ok.1)
+          (rw w.in-Ok.ensures.ok.0 (held_after_taking free.sectors (contains free.runs) (contains c.change.new.self.free.runs) released c.args.run c.self.invariant.0 w.in-Ok.ensures.ok.1), c.self.invariant.1)
       | in-Err-BadMap w ↦ rw w.in-Err-BadMap.ensures.err c.self.invariant
       | in-Err-NoMemory w ↦ rw w.in-Err-NoMemory.ensures.err c.self.invariant
     ]
@@ -21,7 +21,7 @@ returns-clause-taken c =
     elim c.match-change.branch [
       | in-Ok w ↦
           rw (w.result-is, ← c.self.view_is) (record {
-            states = state_after_taking free.sectors (contains free.runs) (contains c.change.new.self.free.runs) c.self.inside.released.items c.args.run c.self.invariant w.in-Ok.ensures.ok.1 w.in-Ok.ensures.changes.each;
+            states = state_after_taking free.sectors (contains free.runs) (contains c.change.new.self.free.runs) c.self.inside.released.items c.args.run c.self.invariant.0 w.in-Ok.ensures.ok.1 w.in-Ok.ensures.changes.each;
             sectors = w.in-Ok.ensures.ok.0;
             pins = refl;
           })
