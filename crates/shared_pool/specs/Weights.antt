@@ -1,17 +1,18 @@
 -- Which steps are counted.
 use Rattle.std.specs.Prelude.{◌≡◌, ℕ, ◌+◌, List, map, count_by, Bool, true, false, if◌then◌else◌, Result, OnOk, OnErr}
 use Rattle.pool_model.specs.declared.step.Step.{Step}
-use Rattle.pool_model.specs.declared.step.Step.TheVariants.{Close, Quiesce, Plan, Device}
+use Rattle.pool_model.specs.declared.step.Step.TheVariants.{Close, Quiesce, Plan, Device, DiskOut}
 use Rattle.pool_model.specs.declared.step.Reply.{Reply}
 use Rattle.shared_pool.specs.declared.recorded.Entry.{Entry}
 use Rattle.shared_pool.specs.declared.refusal.Refusal.{Refusal}
 
--- a writer takes holds, writes, acts, reads and releases; the rest are steps of the quiescer and the syncer
+-- a writer takes holds, writes, acts, reads and releases; the rest are steps of the quiescer and the syncer, and disks that are taken out
 abbrev pub is_writers : Step → Bool
 is_writers Close = false
 is_writers Quiesce = false
 is_writers (Plan timestamp) = false
 is_writers Device = false
+is_writers (DiskOut disk) = false
 is_writers step = true
 
 -- how many steps of writers the step is
