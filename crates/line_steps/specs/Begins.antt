@@ -8,7 +8,7 @@ use Rattle.pool_model.specs.declared.step.Step.TheVariants as step
 use Rattle.pool_model.specs.declared.step.Reply.{Reply}
 use Rattle.pool_model.specs.declared.step.Reply.TheVariants as reply
 use Rattle.schedule_lines.specs.declared.command.Command.{Command}
-use Rattle.schedule_lines.specs.declared.command.Command.TheVariants.{Pool, Hold, Release, Write as WriteCommand, Create, Snapshot, Clone, Destroy, Close, Quiesced, Plan, Device, Commit, Sync, Read, Under, Stop, Reopen}
+use Rattle.schedule_lines.specs.declared.command.Command.TheVariants.{Pool, Hold, Release, Write as WriteCommand, Create, Snapshot, Clone, Destroy, Close, Quiesced, Plan, Device, Commit, Sync, Read, Under, Out, Stop, Reopen}
 use Rattle.schedule_lines.specs.declared.command.WriteLine.{WriteLine}
 use Rattle.schedule_lines.specs.declared.command.CreateLine.{CreateLine}
 use Rattle.schedule_lines.specs.declared.command.SnapshotLine.{SnapshotLine}
@@ -54,6 +54,7 @@ Begins Commit s = s ≡ step.Plan 0
 Begins Sync s = s ≡ step.Close
 Begins (Read line) s = s ≡ step.Read line.name line.offset line.len
 Begins (Under line) s = s ≡ step.ReadUnder line.group line.name line.offset line.len
+Begins (Out disk) s = s ≡ step.DiskOut disk
 Begins (Stop point) s = ⊥
 Begins (Reopen line) s = ⊥
 

@@ -120,6 +120,7 @@ pub fn first_step(alloc: Global, command: Command) -> Result<Option<Step>, Alloc
         Command::Device => Step::Device,
         Command::Read(line) => read_step(line),
         Command::Under(line) => under_step(line),
+        Command::Out { disk } => Step::DiskOut(disk as usize),
     }))
 }
 

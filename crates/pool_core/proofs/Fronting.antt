@@ -5,7 +5,7 @@ use Rattle.block_store.specs.Blocks.{Contents}
 use Rattle.pool_model.specs.declared.refusal.Refusal.TheVariants as causes
 use Rattle.pool_model.specs.declared.refusal.Refusal.{Refusal as Cause}
 use Rattle.pool_model.specs.declared.step.Step.{Step}
-use Rattle.pool_model.specs.declared.step.Step.TheVariants.{Hold, Write, Act, Release, Close, Quiesce, Plan, Device, Read, ReadUnder}
+use Rattle.pool_model.specs.declared.step.Step.TheVariants.{Hold, Write, Act, Release, Close, Quiesce, Plan, Device, DiskOut, Read, ReadUnder}
 use Rattle.pool_model.specs.declared.step.Reply.{Reply}
 use Rattle.pool_model.specs.declared.step.Reply.TheVariants.{Held, Committed, Refused}
 use Rattle.pool_model.specs.Pools.{PlainPool, applied}
@@ -188,6 +188,7 @@ barred v Quiesce b e = suspended v ((not (is_quiescing v.waiting), causes.NotNow
 barred v (Plan timestamp) b e = suspended v ((not (may_plan v), causes.NotNow) ∷ []) e
 barred v Device b e = suspended v ((not (is_planned v.sync), causes.NotNow) ∷ []) e
 barred v (Release writer) b e = absurd (true≢false (sym b))
+barred v (DiskOut disk) b e = absurd (true≢false (sym b))
 barred v (Read name offset len) b e = absurd (true≢false (sym b))
 barred v (ReadUnder group name offset len) b e = absurd (true≢false (sym b))
 

@@ -1,3 +1,4 @@
+pub mod Absence
 pub mod Fronting
 pub mod Phases
 pub mod ReadSteps

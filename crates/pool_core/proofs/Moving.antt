@@ -16,5 +16,6 @@ moves_nothing steps.Close s = refl
 moves_nothing steps.Quiesce s = refl
 moves_nothing (steps.Plan timestamp) s = inl refl
 moves_nothing steps.Device s = inl refl
+moves_nothing (steps.DiskOut disk) s = inl refl
 moves_nothing (steps.Read name offset len) s = reads_nothing s
 moves_nothing (steps.ReadUnder group name offset len) s = reads_nothing s

@@ -13,6 +13,7 @@ pub use Rattle.pool_commit.specs.Mapped
 pub use Rattle.pool_commit.specs.Pools
 pub use Rattle.pool_commit.specs.Reach
 pub use Rattle.pool_commit.specs.RootContents
+pub use Rattle.pool_commit.specs.Absence as CommitAbsence
 pub use Rattle.pool_commit.specs.Backs
 pub use Rattle.pool_commit.specs.Calls
 pub use Rattle.pool_commit.specs.Config

@@ -4,7 +4,7 @@ use Rattle.block_pointer.specs.declared.block.Block.{Block}
 use Rattle.model_disk.specs.Joint.{calls_on}
 use Rattle.raidz_io.specs.Reads.{IsHonestSince}
 use Rattle.pool_model.specs.declared.step.Step.{Step}
-use Rattle.pool_model.specs.declared.step.Step.TheVariants.{Plan, Device, Release, Read, ReadUnder}
+use Rattle.pool_model.specs.declared.step.Step.TheVariants.{Plan, Device, DiskOut, Release, Read, ReadUnder}
 use Rattle.pool_model.specs.declared.step.Reply.{Reply}
 use Rattle.pool_model.specs.declared.step.Reply.TheVariants.{Planned, Committed}
 use Rattle.pool_model.specs.View.{View, Vdev, Given, is_away, disks_in_use, is_suspended}
@@ -27,6 +27,7 @@ PoolAnswersTruly old new = IsHonestSince (disks_of old) (disks_of new)
 -- the steps that a suspended pool refuses
 abbrev pub is_barred : Step → Bool
 is_barred (Release writer) = false
+is_barred (DiskOut disk) = false
 is_barred (Read name offset len) = false
 is_barred (ReadUnder group name offset len) = false
 is_barred step = true

@@ -2,6 +2,7 @@
 //! headline.
 #![tactic(auto)]
 
+mod absence;
 mod exporting;
 mod honest;
 mod pool;

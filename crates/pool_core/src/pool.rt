@@ -37,13 +37,13 @@ pub struct Core<D: Disk + Drop> {
     pub(crate) commit: Commit<D>,
 }
 
-/// Whether a suspended pool refuses the step: it refuses all but Release and the reads.
+/// Whether a suspended pool refuses the step: it refuses all but Release, DiskOut and the reads.
 fn is_barred(step: &Step) -> bool
     ensures { result ≡ barred_step step.now }
 {
     !matches!(
         step,
-        Step::Release(_) | Step::Read { .. } | Step::ReadUnder { .. }
+        Step::Release(_) | Step::DiskOut(_) | Step::Read { .. } | Step::ReadUnder { .. }
     )
 }
 
@@ -128,7 +128,7 @@ impl<D: Disk + Drop> Core<D> {
         is_barred(step) && suspended
     }
 
-    /// One step of the machine. Release, Close, Quiesce and Device take no memory.
+    /// One step of the machine. Release, Close, Quiesce, Device and DiskOut take no memory.
     pub fn step(&mut self, step: Step) -> Reply
         ensures grew { GrewTo (disks_in self.old) (disks_in self.new) }
         ensures goes { TakesStep (state_of self.old) step result (state_of self.new) }
@@ -155,6 +155,7 @@ impl<D: Disk + Drop> Core<D> {
             Step::Quiesce => self.intake.quiesce(),
             Step::Plan { timestamp } => self.plan(timestamp),
             Step::Device => self.device(),
+            Step::DiskOut(disk) => self.disk_out(disk),
             Step::Read { name, offset, len } => self.read(&name, offset, len),
             Step::ReadUnder {
                 group,

@@ -1,4 +1,5 @@
 -- What a run of the first steps leaves.
+use Rattle.std.specs.List.{AllByRecursion}
 use Rattle.std.proofs.Common.{◌≡◌, ℕ, zero, suc, ◌+◌, ◌++◌, ◌==◌, Bool, true, false, List, [], ◌∷◌, length, Some, None, Option, refl, sym, ap, ◌∙◌, subst, arith, if◌then◌else◌}
 use Rattle.std.specs.Prelude.{replicate, IsTrue}
 use Rattle.std.specs.List.{list_any}
@@ -39,7 +40,7 @@ use Rattle.raidz_io.specs.Reads.{IsHonestSince}
 use Rattle.pool_create.specs.FirstGroup.{AreFirstSteps, AreStepsWith, HasFaultIfTrue, HasFirstGroup, IsCommitted, IsDone, IsInFront, IsUnfinished, KeepsKnown, LacksFirstGroup, SpellsNone, in_front, says_no_memory, says_no_space}
 use Rattle.pool_create.specs.Planning.{none_out}
 use Rattle.pool_create.specs.declared.planning.NewPool.{NewPool}
-use Rattle.pool_create.proofs.Known.{chain_fails, chain_known}
+use Rattle.pool_create.proofs.Known.{TakesNoneOut, chain_fails, chain_known}
 use Rattle.pool_create.proofs.Stamped.{chain_stamp}
 
 -- ---- no item is accepted
@@ -211,6 +212,14 @@ some_out (false ∷ out) not =
 not_whole : (whole : Bool) → whole ≡ false → ¬ IsTrue whole
 not_whole whole is holds = absurd (let clash : true ≡ false = sym holds ∙ is in cc)
 
+-- its steps take no disk out
+takes_none : (steps : List Step) → AreFirstSteps steps → AllByRecursion TakesNoneOut steps
+takes_none steps are = subst (AllByRecursion TakesNoneOut) (sym are.2) (tt, tt, tt, devices are.0)
+  where
+    devices : (n : ℕ) → AllByRecursion TakesNoneOut (replicate n Device)
+    devices zero = tt
+    devices (suc n) = (tt, devices n)
+
 -- a call on it failed
 pub fails_first : (old : Disks) (it : NewPool) (before after : CoreState) (refusal : Refusal) → it.out.items ≡ none_out (length old.starts) → IsInFront old it before
     → IsUnfinished it before after refusal → refusal ≡ DiskFault → HasFaultIfTrue old (disks_of after)
@@ -223,7 +232,7 @@ fails_first old it before after refusal none in_front_of why is honest =
     let lost : why.whole ≡ false = disks_out (list_any says_no_space why.replies) (list_any says_no_memory why.replies) why.whole (sym why.cause_is ∙ is) in
     let out = some_out after.commit.store.out (λ whole. not_whole why.whole lost (why.is_whole.1 whole)) in
     subst (λ (d : Disks). (which : ℕ) × HasFailedOn d (disks_of after) which) in_front_of.disks_are
-    (chain_fails before (in_front it) ran.steps links.givens replies after links.after (in_front it).out links.after.out links.chain all.2.outs
+    (chain_fails before (in_front it) ran.steps links.givens replies after links.after (in_front it).out links.after.out (takes_none ran.steps ran.are) links.chain all.2.outs
     (λ disk. none_marked_in it.out.items (length old.starts) disk none) out.0 (links.represents.backs.out out.0 ∙ out.1))
 
 pub lacks_of : (old : Disks) (it : NewPool) (before after : CoreState) (new : Disks) (refusal : Refusal) → it.out.items ≡ none_out (length old.starts) → IsInFront old it before

@@ -14,8 +14,10 @@ use Rattle.pool_model.specs.Headline.{OutsBy, OutsMove}
 use Rattle.pool_model.specs.Machine.{IsQuiet, MayCall, StepOf}
 use Rattle.pool_model.specs.View.{DueCall, Given, View, is_fault_on}
 use Rattle.pool_model.specs.declared.step.Reply.{Reply}
+use Rattle.pool_model.specs.declared.step.Reply.TheVariants.{Out}
+use Rattle.std.specs.List.{AllByRecursion}
 use Rattle.pool_model.specs.declared.step.Step.{Step}
-use Rattle.pool_model.specs.declared.step.Step.TheVariants.{Hold, Write, Act, Release, Close, Quiesce, Plan, Device, Read as ReadStep, ReadUnder}
+use Rattle.pool_model.specs.declared.step.Step.TheVariants.{Hold, Write, Act, Release, Close, Quiesce, Plan, Device, DiskOut, Read as ReadStep, ReadUnder}
 use Rattle.pool_slots.specs.Failures.{HasFailedOn}
 use Rattle.pool_slots.specs.Opens.{AreKnown}
 use Rattle.pool_slots.proofs.Among.{first_in}
@@ -159,7 +161,7 @@ quiet_by v given step reply w (inr (inl lacks)) quiet = (quiet lacks.calls).faul
 quiet_by v given step reply w (inr (inr answered)) quiet = (quiet answered.calls).fault
 
 -- what a step leaves in use was in use before, and its calls went well
-step_well : (v : View) (given : Given) (step : Step) (reply : Reply) (w : View) (out mid : ℕ → Bool) → StepOf v given step reply w → OutsBy out step given mid → ((disk : ℕ) → mid disk ≡ false)
+step_well : (v : View) (given : Given) (step : Step) (reply : Reply) (w : View) (out mid : ℕ → Bool) → StepOf v given step reply w → OutsBy out step given reply mid → ((disk : ℕ) → mid disk ≡ false)
     → ((disk : ℕ) → out disk ≡ false) × (given.fault ≡ None)
 step_well v given (Hold x) reply w out mid is outs none = (λ disk. sym (outs disk) ∙ none disk, quiet_by v given (Hold x) reply w is (λ calls. calls.0))
 step_well v given (Write x) reply w out mid is outs none = (λ disk. sym (outs disk) ∙ none disk, quiet_by v given (Write x) reply w is (λ calls. calls.0))
@@ -172,12 +174,14 @@ step_well v given Device reply w out mid is outs none = (
   λ disk. or_false (is_fault_on given.fault disk) (out disk) (sym (outs disk) ∙ none disk),
   no_fault_on given.fault out (λ disk. sym (outs disk) ∙ none disk),
 )
+step_well v given (DiskOut x) Out w out mid is outs none = (λ disk. or_false (disk == x) (out disk) (sym (outs disk) ∙ none disk), quiet_by v given (DiskOut x) Out w is (λ calls. calls.0))
+step_well v given (DiskOut x) reply w out mid is outs none = (λ disk. sym (outs disk) ∙ none disk, quiet_by v given (DiskOut x) reply w is (λ calls. calls.0))
 step_well v given (ReadStep x y z) reply w out mid is outs none = (λ disk. sym (outs disk) ∙ none disk, quiet_by v given (ReadStep x y z) reply w is (λ calls. calls))
 step_well v given (ReadUnder n x y z) reply w out mid is outs none = (λ disk. sym (outs disk) ∙ none disk, quiet_by v given (ReadUnder n x y z) reply w is (λ calls. calls))
 
 -- so no byte is lost, and the disks were in use all along
 pub chain_known : (marked : List Bool) (old : CoreState) (v : View) (steps : List Step) (givens : List Given) (replies : List Reply) (new : CoreState) (w : View) (out after : ℕ → Bool)
-    → Chain old v steps givens replies new w → OutsMove out steps givens after → ((disk : ℕ) → after disk ≡ false)
+    → Chain old v steps givens replies new w → OutsMove out steps givens replies after → ((disk : ℕ) → after disk ≡ false)
     → ((disk : ℕ) → out disk ≡ false) × (AreKnown marked (disks_of old) → AreKnown marked (disks_of new))
 chain_known marked old v [] [] [] new w out after chain outs none = (
   λ disk. sym (outs disk) ∙ none disk,
@@ -205,18 +209,24 @@ faults_fail old new grew not =
     subst F (sym grew.calls) (some_failed grew.newer old.calls (failed_since (length old.calls) (grew.newer ++ old.calls)) refl
     (λ none. not (ap (told_since fault_call (length old.calls)) grew.calls ∙ none)))
 
+-- it takes no disk out
+abbrev pub TakesNoneOut : Step → Type 0
+TakesNoneOut (DiskOut x) = ⊥
+TakesNoneOut step = Unit {0}
+
 -- where no call fails no disk goes out
-out_still : (given : Given) (step : Step) (out mid : ℕ → Bool) → given.fault ≡ None → OutsBy out step given mid → ((disk : ℕ) → out disk ≡ false) → (disk : ℕ) → mid disk ≡ false
-out_still given (Hold x) out mid well outs none disk = outs disk ∙ none disk
-out_still given (Write x) out mid well outs none disk = outs disk ∙ none disk
-out_still given (Act x) out mid well outs none disk = outs disk ∙ none disk
-out_still given (Release x) out mid well outs none disk = outs disk ∙ none disk
-out_still given Close out mid well outs none disk = outs disk ∙ none disk
-out_still given Quiesce out mid well outs none disk = outs disk ∙ none disk
-out_still given (Plan x) out mid well outs none disk = outs disk ∙ none disk
-out_still given Device out mid well outs none disk = outs disk ∙ ap (λ (fault : Option DueCall). is_fault_on fault disk || out disk) well ∙ none disk
-out_still given (ReadStep x y z) out mid well outs none disk = outs disk ∙ none disk
-out_still given (ReadUnder n x y z) out mid well outs none disk = outs disk ∙ none disk
+out_still : (given : Given) (step : Step) (reply : Reply) (out mid : ℕ → Bool) → TakesNoneOut step → given.fault ≡ None → OutsBy out step given reply mid → ((disk : ℕ) → out disk ≡ false) → (disk : ℕ) → mid disk ≡ false
+out_still given (Hold x) reply out mid takes well outs none disk = outs disk ∙ none disk
+out_still given (Write x) reply out mid takes well outs none disk = outs disk ∙ none disk
+out_still given (Act x) reply out mid takes well outs none disk = outs disk ∙ none disk
+out_still given (Release x) reply out mid takes well outs none disk = outs disk ∙ none disk
+out_still given Close reply out mid takes well outs none disk = outs disk ∙ none disk
+out_still given Quiesce reply out mid takes well outs none disk = outs disk ∙ none disk
+out_still given (Plan x) reply out mid takes well outs none disk = outs disk ∙ none disk
+out_still given Device reply out mid takes well outs none disk = outs disk ∙ ap (λ (fault : Option DueCall). is_fault_on fault disk || out disk) well ∙ none disk
+out_still given (DiskOut x) reply out mid takes well outs none disk = absurd takes
+out_still given (ReadStep x y z) reply out mid takes well outs none disk = outs disk ∙ none disk
+out_still given (ReadUnder n x y z) reply out mid takes well outs none disk = outs disk ∙ none disk
 
 cons_not_nil : {X : Type 0} (x : X) (xs : List X) → x ∷ xs ≡ [] → ⊥
 cons_not_nil x xs is = cc
@@ -234,13 +244,13 @@ chain_grew old v steps givens replies new w chain = absurd chain
 
 -- so a call failed where one goes out
 pub chain_fails : (old : CoreState) (v : View) (steps : List Step) (givens : List Given) (replies : List Reply) (new : CoreState) (w : View) (out after : ℕ → Bool)
-    → Chain old v steps givens replies new w → OutsMove out steps givens after → ((disk : ℕ) → out disk ≡ false) → (which : ℕ) → after which ≡ true
+    → AllByRecursion TakesNoneOut steps → Chain old v steps givens replies new w → OutsMove out steps givens replies after → ((disk : ℕ) → out disk ≡ false) → (which : ℕ) → after which ≡ true
     → (disk : ℕ) × HasFailedOn (disks_of old) (disks_of new) disk
-chain_fails old v [] [] [] new w out after chain outs none which is = absurd (let clash : true ≡ false = sym is ∙ outs which ∙ none which in cc)
-chain_fails old v (step ∷ steps) (given ∷ givens) (reply ∷ replies) new w out after chain outs none which is =
+chain_fails old v [] [] [] new w out after takes chain outs none which is = absurd (let clash : true ≡ false = sym is ∙ outs which ∙ none which in cc)
+chain_fails old v (step ∷ steps) (given ∷ givens) (reply ∷ replies) new w out after takes chain outs none which is =
     elim (fault_or_none given.fault) [
       | inl well ↦
-          let rest = chain_fails chain.0 chain.1 steps givens replies new w outs.0 after chain.5 outs.2 (out_still given step out outs.0 well outs.1 none) which is in
+          let rest = chain_fails chain.0 chain.1 steps givens replies new w outs.0 after takes.1 chain.5 outs.2 (out_still given step reply out outs.0 takes.0 well outs.1 none) which is in
           (rest.0, fails_in (disks_of old) (disks_of chain.0) (disks_of new) (disks_of new) rest.0 chain.2 (GrewTo-none (disks_of new)) rest.1)
       | inr fails ↦
           let told : disk_call fails.0 ∷ [] ≡ faults_between (disks_of old) (disks_of chain.0) =
@@ -248,4 +258,4 @@ chain_fails old v (step ∷ steps) (given ∷ givens) (reply ∷ replies) new w 
           let here = faults_fail (disks_of old) (disks_of chain.0) chain.2 (λ none. cons_not_nil (disk_call fails.0) [] (told ∙ none)) in
           (here.0, fails_in (disks_of old) (disks_of old) (disks_of chain.0) (disks_of new) here.0 (GrewTo-none (disks_of old)) (chain_grew chain.0 chain.1 steps givens replies new w chain.5) here.1)
     ]
-chain_fails old v steps givens replies new w out after chain outs none which is = absurd chain
+chain_fails old v steps givens replies new w out after takes chain outs none which is = absurd chain

@@ -7,7 +7,7 @@ use Rattle.pool_open.specs.CoreState.{CoreState}
 use Rattle.pool_model.specs.View.{Given, View}
 use Rattle.pool_model.specs.declared.step.Reply.{Reply}
 use Rattle.pool_model.specs.declared.step.Step.{Step}
-use Rattle.pool_model.specs.declared.step.Step.TheVariants.{Hold, Write, Act, Release, Close, Quiesce, Plan, Device, Read, ReadUnder}
+use Rattle.pool_model.specs.declared.step.Step.TheVariants.{Hold, Write, Act, Release, Close, Quiesce, Plan, Device, DiskOut, Read, ReadUnder}
 
 step_stamp : (step : Step) (old new : State) → Moves step old new → new.stamp ≡ old.stamp
 step_stamp (Hold x) old new moves = ap (λ s. s.stamp) moves
@@ -18,6 +18,7 @@ step_stamp Close old new moves = ap (λ s. s.stamp) moves
 step_stamp Quiesce old new moves = ap (λ s. s.stamp) moves
 step_stamp (Plan t) old new moves = ⊎_elim (λ same. ap (λ s. s.stamp) same) (λ plans. plans.from.stamp) moves
 step_stamp Device old new moves = ⊎_elim (λ same. ap (λ s. s.stamp) same) (λ writes. writes.stamp) moves
+step_stamp (DiskOut d) old new moves = ⊎_elim (λ same. ap (λ s. s.stamp) same) (λ takes. takes.stamp) moves
 step_stamp (Read a b c) old new moves = ap (λ s. s.stamp) moves.rest
 step_stamp (ReadUnder g a b c) old new moves = ap (λ s. s.stamp) moves.rest
 

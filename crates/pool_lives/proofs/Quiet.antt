@@ -7,9 +7,9 @@ use Rattle.pool_model.specs.Machine.{GoesWithout, MayAnswer, StepOf, dropped, wi
 use Rattle.pool_model.specs.View.{DueCall, Given, View}
 use Rattle.pool_model.specs.declared.step.Phase.{Phase}
 use Rattle.pool_model.specs.declared.step.Reply.{Reply}
-use Rattle.pool_model.specs.declared.step.Reply.TheVariants.{Held, Receipt, Released, Closed, Quiesced, Planned, Moved, Replan, Committed, Bytes, Refused}
+use Rattle.pool_model.specs.declared.step.Reply.TheVariants.{Held, Receipt, Released, Closed, Quiesced, Planned, Moved, Replan, Committed, Out, Bytes, Refused}
 use Rattle.pool_model.specs.declared.step.Step.{Step}
-use Rattle.pool_model.specs.declared.step.Step.TheVariants.{Hold, Write, Act, Release, Close, Quiesce, Plan, Device, Read, ReadUnder}
+use Rattle.pool_model.specs.declared.step.Step.TheVariants.{Hold, Write, Act, Release, Close, Quiesce, Plan, Device, DiskOut, Read, ReadUnder}
 
 abbrev NoneOut : View → Type 0
 NoneOut w = (disk : ℕ) → w.out disk ≡ false
@@ -41,6 +41,7 @@ answered v given (Committed group) w a none = ⊎_elim
     (λ done. done.0.fault)
     (λ (phase, without). absurd (not_without v given phase [] a.1 without (λ disk. ap (λ (x : View). x.out disk) (sym a.3) ∙ none disk)))
     a.2
+answered v given Out w a none = absurd a
 answered v given (Bytes bytes) w a none = absurd a
 answered v given (Refused cause) w a none = absurd (not_dropped v w a.1 a.4 none)
 
@@ -55,6 +56,7 @@ no_fault v given (Act x) reply w is none = ⊎_elim (λ refused. refused.quiet.f
 no_fault v given (Release x) reply w is none = ⊎_elim (λ refused. refused.quiet.fault) (λ rest. ⊎_elim (λ lacks. lacks.calls.0.fault) (λ it. it.calls.0.fault) rest) is
 no_fault v given Close reply w is none = ⊎_elim (λ refused. refused.quiet.fault) (λ rest. ⊎_elim (λ lacks. lacks.calls.0.fault) (λ it. it.calls.0.fault) rest) is
 no_fault v given Quiesce reply w is none = ⊎_elim (λ refused. refused.quiet.fault) (λ rest. ⊎_elim (λ lacks. lacks.calls.0.fault) (λ it. it.calls.0.fault) rest) is
+no_fault v given (DiskOut d) reply w is none = ⊎_elim (λ refused. refused.quiet.fault) (λ rest. ⊎_elim (λ lacks. lacks.calls.0.fault) (λ it. it.calls.0.fault) rest) is
 no_fault v given (Plan t) reply w is none = ⊎_elim (λ refused. refused.quiet.fault) (λ rest. ⊎_elim (λ lacks. lacks.calls.fault) (λ it. it.calls.fault) rest) is
 no_fault v given (Read a b c) reply w is none = ⊎_elim (λ refused. refused.quiet.fault) (λ rest. ⊎_elim (λ lacks. lacks.calls.fault) (λ it. it.calls.fault) rest) is
 no_fault v given (ReadUnder n a b c) reply w is none = ⊎_elim (λ refused. refused.quiet.fault) (λ rest. ⊎_elim (λ lacks. lacks.calls.fault) (λ it. it.calls.fault) rest) is

@@ -31,6 +31,7 @@ pub use Rattle.pool_core.specs.Reopened
 pub use Rattle.pool_core.specs.Slots
 pub use Rattle.pool_core.specs.Space
 pub use Rattle.pool_core.specs.Started
+pub use Rattle.pool_core.specs.CommitAbsence
 pub use Rattle.pool_core.specs.CommitState
 pub use Rattle.pool_core.specs.CommitWriting
 pub use Rattle.pool_core.specs.Kept

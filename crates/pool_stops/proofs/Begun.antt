@@ -21,7 +21,7 @@ use Rattle.pool_format.specs.declared.labeling.PoolIdentity.{PoolIdentity}
 use Rattle.pool_model.specs.Pools.{PlainPool}
 use Rattle.pool_model.specs.View.{View}
 use Rattle.pool_model.specs.declared.step.Step.{Step}
-use Rattle.pool_model.specs.declared.step.Step.TheVariants.{Hold, Write, Act, Release, Close, Quiesce, Plan, Device, Read as ReadStep, ReadUnder}
+use Rattle.pool_model.specs.declared.step.Step.TheVariants.{Hold, Write, Act, Release, Close, Quiesce, Plan, Device, DiskOut, Read as ReadStep, ReadUnder}
 use Rattle.pool_slots.specs.Commits.{LeadAlways, last_or, only_last, IsNextGroup}
 use Rattle.pool_slots.specs.PhaseLaws.{BlocksBegin, BlocksGoOn}
 use Rattle.pool_slots.specs.Phases.{AreInBlocks, AreInSlots, free_writes, if_used}
@@ -157,6 +157,15 @@ made_until may old new calls makes moment =
 
 -- ---- what a step makes
 
+makes_none : (may : ℕ → ℕ → List ℕ → Type 0) (s new : State) → new.store.disks ≡ s.store.disks → Makes may s.store.disks new.store.disks
+makes_none may s new same =
+    subst (λ (d : Disks). Makes may s.store.disks d) (sym same) (record {
+      starts = refl;
+      newer = [];
+      calls = refl;
+      writes = All-nil (λ made. WritesOnly (may made.which) made.call);
+    })
+
 same_makes : (s new : State) (plan : Planned) → new ≡ s → Makes (may_write s plan) s.store.disks new.store.disks
 same_makes s new plan same =
     subst (λ (it : State). Makes (may_write s plan) s.store.disks it.store.disks) (sym same) (record {
@@ -178,6 +187,7 @@ makes_of (Plan t) s new plan moves is = ⊎_elim
     (λ plans. let none : None ≡ Some plan = sym plans.unplanned ∙ is in absurd (cc))
     moves
 makes_of Device s new plan moves is = ⊎_elim (λ same. same_makes s new plan same) (λ writes. writes.makes plan is) moves
+makes_of (DiskOut d) s new plan moves is = ⊎_elim (λ same. same_makes s new plan same) (λ takes. makes_none (may_write s plan) s new takes.disks) moves
 makes_of (ReadStep a b c) s new plan moves is = no_writes (may_write s plan) s.store.disks new.store.disks moves.reads
 makes_of (ReadUnder n a b c) s new plan moves is = no_writes (may_write s plan) s.store.disks new.store.disks moves.reads
 

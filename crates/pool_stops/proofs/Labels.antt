@@ -24,7 +24,7 @@ use Rattle.disk_set.specs.declared.behind.SlotWrite.{SlotWrite}
 use Rattle.pool_create.specs.Moves.{Moves}
 use Rattle.pool_model.specs.View.{View}
 use Rattle.pool_model.specs.declared.step.Step.{Step}
-use Rattle.pool_model.specs.declared.step.Step.TheVariants.{Hold, Write, Act, Release, Close, Quiesce, Plan, Device, Read, ReadUnder}
+use Rattle.pool_model.specs.declared.step.Step.TheVariants.{Hold, Write, Act, Release, Close, Quiesce, Plan, Device, DiskOut, Read, ReadUnder}
 use Rattle.pool_create.specs.OpenStops.{fresh}
 use Rattle.pool_slots.specs.Labels.{IsLabelShown, area_place, inscribed}
 use Rattle.pool_slots.specs.Possible.{held_by}
@@ -231,6 +231,9 @@ off_plan s v plan which number i whole backs fits used low below at bytes write 
 pub unmoved : (old new : State) → new ≡ old → Makes no_write old.store.disks new.store.disks
 unmoved old new same = subst (λ (s : State). Makes no_write old.store.disks s.store.disks) (sym same) (Makes-none no_write old.store.disks)
 
+pub uncalled : (old new : State) → new.store.disks ≡ old.store.disks → Makes no_write old.store.disks new.store.disks
+uncalled old new same = subst (λ (d : Disks). Makes no_write old.store.disks d) (sym same) (Makes-none no_write old.store.disks)
+
 -- it writes nothing, or its plan
 abbrev pub WritesAtMost : State → State → Type 0
 WritesAtMost old new = Makes no_write old.store.disks new.store.disks ⊎ ((plan : Planned) × (old.planned ≡ Some plan) × WritesPlan old new)
@@ -249,6 +252,7 @@ writes_at_most Quiesce old new moves = inl (unmoved old new moves)
 writes_at_most (Plan t) old new moves =
     inl (⊎_elim (λ same. unmoved old new same) (λ plans. no_writes no_write old.store.disks new.store.disks plans.reads) moves)
 writes_at_most Device old new moves = ⊎_elim (λ same. inl (unmoved old new same)) (λ writes. by_plan old new old.planned refl writes) moves
+writes_at_most (DiskOut d) old new moves = inl (⊎_elim (λ same. unmoved old new same) (λ takes. uncalled old new takes.disks) moves)
 writes_at_most (Read a b c) old new moves = inl (no_writes no_write old.store.disks new.store.disks moves.reads)
 writes_at_most (ReadUnder g a b c) old new moves = inl (no_writes no_write old.store.disks new.store.disks moves.reads)
 

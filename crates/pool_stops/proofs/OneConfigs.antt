@@ -16,7 +16,7 @@ use Rattle.pool_create.specs.CoreSteps.{Link}
 use Rattle.pool_model.specs.View.{Given, View}
 use Rattle.pool_model.specs.declared.step.Reply.{Reply}
 use Rattle.pool_model.specs.declared.step.Step.{Step}
-use Rattle.pool_model.specs.declared.step.Step.TheVariants.{Hold, Write, Act, Release, Close, Quiesce, Plan, Device, Read, ReadUnder}
+use Rattle.pool_model.specs.declared.step.Step.TheVariants.{Hold, Write, Act, Release, Close, Quiesce, Plan, Device, DiskOut, Read, ReadUnder}
 use Rattle.pool_create.specs.OpenStops.{fresh}
 use Rattle.pool_create.proofs.OpenThrough.{through_made}
 use Rattle.pool_slots.specs.Commits.{only_last}
@@ -46,6 +46,7 @@ same_stamp Close old new moves = ap (λ s. s.stamp) moves
 same_stamp Quiesce old new moves = ap (λ s. s.stamp) moves
 same_stamp (Plan t) old new moves = ⊎_elim (λ same. ap (λ s. s.stamp) same) (λ plans. plans.from.stamp) moves
 same_stamp Device old new moves = ⊎_elim (λ same. ap (λ s. s.stamp) same) (λ writes. writes.stamp) moves
+same_stamp (DiskOut d) old new moves = ⊎_elim (λ same. ap (λ s. s.stamp) same) (λ takes. takes.stamp) moves
 same_stamp (Read a b c) old new moves = ap (λ s. s.stamp) moves.rest
 same_stamp (ReadUnder g a b c) old new moves = ap (λ s. s.stamp) moves.rest
 
@@ -60,6 +61,7 @@ same_shapes Close old new moves = ap (λ s. shapes_of s.store.spaces) moves
 same_shapes Quiesce old new moves = ap (λ s. shapes_of s.store.spaces) moves
 same_shapes (Plan t) old new moves = ⊎_elim (λ same. ap (λ s. shapes_of s.store.spaces) same) (λ plans. plans.from.shapes) moves
 same_shapes Device old new moves = ⊎_elim (λ same. ap (λ s. shapes_of s.store.spaces) same) (λ writes. writes.shapes) moves
+same_shapes (DiskOut d) old new moves = ⊎_elim (λ same. ap (λ s. shapes_of s.store.spaces) same) (λ takes. takes.shapes) moves
 same_shapes (Read a b c) old new moves = ap (λ s. shapes_of s.store.spaces) moves.rest
 same_shapes (ReadUnder g a b c) old new moves = ap (λ s. shapes_of s.store.spaces) moves.rest
 

@@ -1,10 +1,13 @@
 -- Runs of a pool, of which no step puts a disk out.
-use Rattle.std.proofs.Common.{◌≡◌, ⊎_elim, Bool, true, false, List, [], ◌∷◌, Option, Some, None, refl, sym, ap, subst, ◌∙◌, true≢false}
+use Rattle.std.proofs.Common.{◌≡◌, ⊎_elim, ℕ, Bool, true, false, List, [], ◌∷◌, Option, Some, None, refl, sym, ap, subst, ◌∙◌, true≢false, arith}
+use Rattle.std.specs.Prelude.{◌==◌, ◌||◌}
+use Rattle.std.proofs.lemmas.Bool.Decides.{nat_tests}
 use Rattle.block_store.specs.Store.{is_out}
 use Rattle.uberblock_ring.specs.declared.uberblock.Uberblock.{Uberblock}
 use Rattle.pool_create.specs.CommitPlanned.{Planned}
 use Rattle.pool_create.specs.CommitState.{NoneIsOut, State}
 use Rattle.pool_create.specs.CommitWriting.{WritesPlan}
+use Rattle.pool_create.specs.CommitAbsence.{TakesOut}
 use Rattle.pool_create.specs.Moves.{Moves}
 use Rattle.pool_create.specs.CoreRuns.{Chain}
 use Rattle.pool_create.specs.CoreState.{CoreState}
@@ -12,7 +15,7 @@ use Rattle.pool_create.specs.CoreSteps.{Link}
 use Rattle.pool_model.specs.View.{Given, View}
 use Rattle.pool_model.specs.declared.step.Reply.{Reply}
 use Rattle.pool_model.specs.declared.step.Step.{Step}
-use Rattle.pool_model.specs.declared.step.Step.TheVariants.{Hold, Write, Act, Release, Close, Quiesce, Plan, Device, Read, ReadUnder}
+use Rattle.pool_model.specs.declared.step.Step.TheVariants.{Hold, Write, Act, Release, Close, Quiesce, Plan, Device, DiskOut, Read, ReadUnder}
 use Rattle.pool_stops.specs.Running.{IsRunning, RunningPoolsStepOn, RunsStopWell, StepsOn}
 use Rattle.pool_stops.proofs.Commits.{commits}
 use Rattle.pool_stops.proofs.Steps.{PhaseLaws, goes_on, plans_on, read_steps, stays}
@@ -37,6 +40,17 @@ writes_on old new v w given reply None last before laws runs link writes none is
 writes_on old new v w given reply (Some plan) last before laws runs link writes none is =
     with_plan old new v w given reply plan new.commit.planned last before laws runs link writes none is refl
 
+-- a disk that is taken out is out
+taken_is_out : (old new : State) (disk : ℕ) → TakesOut disk old new → NoneIsOut new → ⊥
+taken_is_out old new disk takes none = true≢false (sym (takes.out.disks disk ∙ or_same (is_out old.store.out disk)) ∙ none disk)
+  where
+    same : (disk == disk) ≡ true
+    same = grind (arith, nat_tests)
+
+    or_same : (b : Bool) → (b || (disk == disk)) ≡ true
+    or_same true = refl
+    or_same false = same
+
 pub steps_on : PhaseLaws → RunningPoolsStepOn
 steps_on laws old new v w (Hold x) given reply last before runs link moves none = stays old new v w (Hold x) given reply last before laws runs link moves
 steps_on laws old new v w (Write x) given reply last before runs link moves none = stays old new v w (Write x) given reply last before laws runs link moves
@@ -50,6 +64,9 @@ steps_on laws old new v w (Plan t) given reply last before runs link moves none 
 steps_on laws old new v w Device given reply last before runs link moves none = ⊎_elim
     (λ same. stays old new v w Device given reply last before laws runs link same)
     (λ writes. writes_on old new v w given reply old.commit.planned last before laws runs link writes none refl) moves
+steps_on laws old new v w (DiskOut d) given reply last before runs link moves none = ⊎_elim
+    (λ same. stays old new v w (DiskOut d) given reply last before laws runs link same)
+    (λ takes. absurd (taken_is_out old.commit new.commit d takes none)) moves
 steps_on laws old new v w (Read a b c) given reply last before runs link moves none =
     read_steps old new v w (Read a b c) given reply last before laws runs link moves.reads moves.rest
 steps_on laws old new v w (ReadUnder g a b c) given reply last before runs link moves none =
@@ -75,6 +92,9 @@ none_was_out (Plan t) old new moves none = ⊎_elim (λ same. same_out old new (
 none_was_out Device old new moves none = ⊎_elim
     (λ same. same_out old new (ap (λ s. s.store.out) same) none)
     (λ writes. λ disk. not_true (is_out old.store.out disk) (λ out. true≢false (sym (writes.out.still disk out) ∙ none disk))) moves
+none_was_out (DiskOut d) old new moves none = ⊎_elim
+    (λ same. same_out old new (ap (λ s. s.store.out) same) none)
+    (λ takes. absurd (taken_is_out old new d takes none)) moves
 none_was_out (Read a b c) old new moves none = same_out old new (ap (λ s. s.store.out) moves.rest) none
 none_was_out (ReadUnder g a b c) old new moves none = same_out old new (ap (λ s. s.store.out) moves.rest) none
 

@@ -32,7 +32,7 @@ use Rattle.pool_model.specs.View.{DueCall, Given, View, Vdev, disks_in_use, disk
 use Rattle.pool_model.specs.declared.step.Phase.{Phase}
 use Rattle.volume_rules.specs.NowMoves.{IsMadeBy}
 use Rattle.pool_model.specs.declared.step.Reply.{Reply}
-use Rattle.pool_model.specs.declared.step.Reply.TheVariants.{Held, Receipt, Released, Closed, Quiesced, Planned as PlannedReply, Moved, Replan, Committed, Bytes, Refused}
+use Rattle.pool_model.specs.declared.step.Reply.TheVariants.{Held, Receipt, Released, Closed, Quiesced, Planned as PlannedReply, Moved, Replan, Committed, Out, Bytes, Refused}
 use Rattle.pool_model.specs.declared.step.Step.{Step}
 use Rattle.pool_model.specs.declared.step.Step.TheVariants as steps
 use Rattle.pool_model.proofs.Committing.{told_pools}
@@ -399,6 +399,7 @@ answered_so v given (PlannedReply n) w a other = absurd a
 answered_so v given (Moved phase) w a other = absurd (other (goes_committed v given phase a.0 w a.2))
 answered_so v given (Replan disk) w a other = absurd (other (ap (λ (u : View). u.committed) a.3))
 answered_so v given (Committed group) w a other = (group, refl)
+answered_so v given Out w a other = absurd a
 answered_so v given (Bytes bytes) w a other = absurd a
 answered_so v given (Refused cause) w a other = absurd (other (ap (λ (u : View). u.committed) a.4))
 

@@ -7,7 +7,7 @@ use Rattle.pool_model.specs.declared.refusal.Refusal.{Refusal as Cause}
 use Rattle.schedule_lines.specs.declared.command.Line.{Line}
 use Rattle.schedule_lines.specs.declared.command.Line.TheVariants.{Command as CommandLine}
 use Rattle.schedule_lines.specs.declared.command.Command.{Command}
-use Rattle.schedule_lines.specs.declared.command.Command.TheVariants.{Pool, Hold, Release, Write as WriteCommand, Create, Snapshot, Clone, Destroy, Close, Quiesced, Plan, Device, Commit, Sync, Read, Under, Stop, Reopen}
+use Rattle.schedule_lines.specs.declared.command.Command.TheVariants.{Pool, Hold, Release, Write as WriteCommand, Create, Snapshot, Clone, Destroy, Close, Quiesced, Plan, Device, Commit, Sync, Read, Under, Out, Stop, Reopen}
 use Rattle.schedule_lines.specs.declared.command.PoolLine.{PoolLine}
 use Rattle.schedule_lines.specs.Replies.{refusal_text}
 use Rattle.programs.specs.declared.refusal.Refusal.{Refusal}
@@ -79,6 +79,7 @@ not_first Commit other first = first
 not_first Sync other first = first
 not_first (Read line) other first = first
 not_first (Under line) other first = first
+not_first (Out disk) other first = first
 not_first (Stop point) other first = first
 not_first (Reopen line) other first = first
 

@@ -10,7 +10,7 @@ use Rattle.std.proofs.lemmas.Slice.Eq.{bytes_eq-Decides}
 use Rattle.schedule_lines.specs.declared.command.Line.{Line}
 use Rattle.schedule_lines.specs.declared.command.Line.TheVariants.{Skipped, Threads, Command as CommandLine}
 use Rattle.schedule_lines.specs.declared.command.Command.{Command}
-use Rattle.schedule_lines.specs.declared.command.Command.TheVariants.{Pool, Hold, Release, Write, Create, Snapshot, Clone, Destroy, Close, Quiesced, Plan, Device, Commit, Sync, Read, Under, Stop, Reopen}
+use Rattle.schedule_lines.specs.declared.command.Command.TheVariants.{Pool, Hold, Release, Write, Create, Snapshot, Clone, Destroy, Close, Quiesced, Plan, Device, Commit, Sync, Read, Under, Out, Stop, Reopen}
 use Rattle.schedule_lines.specs.declared.command.StopPoint.TheVariants.{Blocks, Slots, Claim}
 use Rattle.schedule_lines.specs.declared.keyword.Keyword.{Keyword}
 use Rattle.schedule_lines.specs.declared.keyword.Keyword.TheVariants as keyword
@@ -60,6 +60,7 @@ keyword_read keyword.Commit = refl
 keyword_read keyword.Sync = refl
 keyword_read keyword.Read = refl
 keyword_read keyword.Under = refl
+keyword_read keyword.Out = refl
 keyword_read keyword.Stop = refl
 keyword_read keyword.Reopen = refl
 
@@ -81,6 +82,7 @@ keyword_for Commit = keyword.Commit
 keyword_for Sync = keyword.Sync
 keyword_for (Read read) = keyword.Read
 keyword_for (Under under) = keyword.Under
+keyword_for (Out disk) = keyword.Out
 keyword_for (Stop stop) = keyword.Stop
 keyword_for (Reopen reopen) = keyword.Reopen
 
@@ -101,6 +103,7 @@ words_begin Commit = refl
 words_begin Sync = refl
 words_begin (Read read) = refl
 words_begin (Under under) = refl
+words_begin (Out disk) = refl
 words_begin (Stop stop) = refl
 words_begin (Reopen reopen) = refl
 
@@ -160,6 +163,10 @@ command_taken keyword.Read words x e =
 command_taken keyword.Under words x e =
     let a = of_read_some Under (under_at words) x e in
     subst (λ (y : Command × Words). Taken (codes "under" ∷ words) y.0 y.1) a.2 (under_taken words a.0.0 a.0.1 a.1)
+command_taken keyword.Out words x e =
+    let a = of_read_some Out (number_at (2 ^ 32) words) x e in
+    let number = number_taken (2 ^ 32) words a.0 (omega arith) a.1 in
+    subst (λ (y : Command × Words). Taken (codes "out" ∷ words) y.0 y.1) a.2 (number_made words (codes "out") a.0 (Out a.0.0) (lit< tt) refl number.fits number)
 command_taken keyword.Stop words x e =
     let a = of_read_some Stop (stop_at words) x e in
     subst (λ (y : Command × Words). Taken (codes "stop" ∷ words) y.0 y.1) a.2 (stop_taken words a.0.0 a.0.1 a.1)
@@ -185,6 +192,7 @@ command_read Commit fits full = refl
 command_read Sync fits full = refl
 command_read (Read read) fits full = ap (of_read Read) (read_read read fits full)
 command_read (Under under) fits full = ap (of_read Under) (under_read under fits full)
+command_read (Out disk) fits full = ap (of_read Out) (number_read (2 ^ 32) disk [] (omega arith) fits)
 command_read (Stop stop) fits full = ap (of_read Stop) (stop_read stop fits)
 command_read (Reopen reopen) fits full = ap (of_read Reopen) (reopen_read reopen fits)
 
@@ -269,6 +277,7 @@ command_line Commit = refl
 command_line Sync = refl
 command_line (Read read) = refl
 command_line (Under under) = refl
+command_line (Out disk) = refl
 command_line (Stop Blocks) = refl
 command_line (Stop (Slots disks)) = refl
 command_line (Stop (Claim disks)) = refl

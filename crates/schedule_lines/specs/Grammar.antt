@@ -5,7 +5,7 @@ use Rattle.std.specs.Fmt.{decimal}
 use Rattle.schedule_lines.specs.declared.command.Line.{Line}
 use Rattle.schedule_lines.specs.declared.command.Line.TheVariants.{Skipped, Threads, Command as CommandLine}
 use Rattle.schedule_lines.specs.declared.command.Command.{Command}
-use Rattle.schedule_lines.specs.declared.command.Command.TheVariants.{Pool, Hold, Release, Write, Create, Snapshot, Clone, Destroy, Close, Quiesced, Plan, Device, Commit, Sync, Read, Under, Stop, Reopen}
+use Rattle.schedule_lines.specs.declared.command.Command.TheVariants.{Pool, Hold, Release, Write, Create, Snapshot, Clone, Destroy, Close, Quiesced, Plan, Device, Commit, Sync, Read, Under, Out, Stop, Reopen}
 use Rattle.schedule_lines.specs.declared.command.StopPoint.{StopPoint}
 use Rattle.schedule_lines.specs.declared.command.StopPoint.TheVariants.{Blocks, Slots, Claim}
 use Rattle.schedule_lines.specs.Hexadecimal.{byte_text}
@@ -34,6 +34,7 @@ words_of Commit = codes "commit" ∷ []
 words_of Sync = codes "sync" ∷ []
 words_of (Read r) = codes "read" ∷ r.name ∷ decimal r.offset ∷ decimal r.len ∷ []
 words_of (Under u) = codes "under" ∷ decimal u.group ∷ u.name ∷ decimal u.offset ∷ decimal u.len ∷ []
+words_of (Out disk) = codes "out" ∷ decimal disk ∷ []
 words_of (Stop stop) = codes "stop" ∷ words_of_stop stop
 words_of (Reopen r) = codes "reopen" ∷ decimal r.rewind ∷ map decimal r.absent
 
@@ -65,6 +66,7 @@ NumbersFit Commit = Unit {0}
 NumbersFit Sync = Unit {0}
 NumbersFit (Read r) = (r.offset < 2 ^ 64) × (r.len < 2 ^ 64)
 NumbersFit (Under u) = (u.group < 2 ^ 64) × (u.offset < 2 ^ 64) × (u.len < 2 ^ 64)
+NumbersFit (Out disk) = disk < 2 ^ 32
 NumbersFit (Stop stop) = StopFits stop
 NumbersFit (Reopen r) = (r.rewind ≤ 2) × AllByRecursion (λ disk. disk < 2 ^ 32) r.absent
 

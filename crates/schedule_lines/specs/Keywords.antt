@@ -2,7 +2,7 @@
 use Rattle.std.specs.Prelude.{List, [], ◌∷◌, ℕ, Option, codes, find}
 use Rattle.std.specs.Str.{bytes_eq}
 use Rattle.schedule_lines.specs.declared.keyword.Keyword.{Keyword}
-use Rattle.schedule_lines.specs.declared.keyword.Keyword.TheVariants.{Pool, Hold, Release, Write, Create, Snapshot, Clone, Destroy, Close, Quiesced, Plan, Device, Commit, Sync, Read, Under, Stop, Reopen}
+use Rattle.schedule_lines.specs.declared.keyword.Keyword.TheVariants.{Pool, Hold, Release, Write, Create, Snapshot, Clone, Destroy, Close, Quiesced, Plan, Device, Commit, Sync, Read, Under, Out, Stop, Reopen}
 
 abbrev pub keyword_text : Keyword → List ℕ
 keyword_text Pool = codes "pool"
@@ -21,11 +21,12 @@ keyword_text Commit = codes "commit"
 keyword_text Sync = codes "sync"
 keyword_text Read = codes "read"
 keyword_text Under = codes "under"
+keyword_text Out = codes "out"
 keyword_text Stop = codes "stop"
 keyword_text Reopen = codes "reopen"
 
 abbrev pub keywords : List Keyword
-keywords = Pool ∷ Hold ∷ Release ∷ Write ∷ Create ∷ Snapshot ∷ Clone ∷ Destroy ∷ Close ∷ Quiesced ∷ Plan ∷ Device ∷ Commit ∷ Sync ∷ Read ∷ Under ∷ Stop ∷ Reopen ∷ []
+keywords = Pool ∷ Hold ∷ Release ∷ Write ∷ Create ∷ Snapshot ∷ Clone ∷ Destroy ∷ Close ∷ Quiesced ∷ Plan ∷ Device ∷ Commit ∷ Sync ∷ Read ∷ Under ∷ Out ∷ Stop ∷ Reopen ∷ []
 
 unfoldable pub keyword_of : List ℕ → Option Keyword
 keyword_of word = find (λ keyword. bytes_eq (keyword_text keyword) word) keywords

@@ -9,7 +9,7 @@ use Rattle.schedule_lines.specs.declared.refusal.Refusal.TheVariants.{Fault, NoM
 use Rattle.schedule_lines.specs.declared.command.Line.{Line}
 use Rattle.schedule_lines.specs.declared.command.Line.TheVariants.{Skipped, Threads, Command as CommandLine}
 use Rattle.schedule_lines.specs.declared.command.Command.{Command}
-use Rattle.schedule_lines.specs.declared.command.Command.TheVariants.{Pool, Hold, Release, Write, Create, Snapshot, Clone, Destroy, Close, Quiesced, Plan, Device, Commit, Sync, Read, Under, Stop, Reopen}
+use Rattle.schedule_lines.specs.declared.command.Command.TheVariants.{Pool, Hold, Release, Write, Create, Snapshot, Clone, Destroy, Close, Quiesced, Plan, Device, Commit, Sync, Read, Under, Out, Stop, Reopen}
 use Rattle.schedule_lines.specs.declared.command.StopPoint.{StopPoint}
 use Rattle.schedule_lines.specs.declared.command.StopPoint.TheVariants.{Blocks, Slots, Claim}
 use Rattle.schedule_lines.specs.declared.command.PoolLine.{PoolLine}
@@ -193,6 +193,7 @@ command_at keyword.Commit words = Some (Commit, words)
 command_at keyword.Sync words = Some (Sync, words)
 command_at keyword.Read words = of_read Read (read_at words)
 command_at keyword.Under words = of_read Under (under_at words)
+command_at keyword.Out words = of_read Out (number_at (2 ^ 32) words)
 command_at keyword.Stop words = of_read Stop (stop_at words)
 command_at keyword.Reopen words = of_read Reopen (reopen_at words)
 

@@ -4,7 +4,7 @@ use Rattle.std.specs.Fmt.{decimal}
 use Rattle.pool_model.specs.declared.step.Phase.{Phase}
 use Rattle.pool_model.specs.declared.step.Phase.TheVariants.{Blocks, BlocksFlush, Slots, SlotsFlush}
 use Rattle.pool_model.specs.declared.step.Reply.{Reply}
-use Rattle.pool_model.specs.declared.step.Reply.TheVariants.{Held, Receipt, Released, Closed, Quiesced, Planned, Moved, Replan, Committed, Bytes, Refused}
+use Rattle.pool_model.specs.declared.step.Reply.TheVariants.{Held, Receipt, Released, Closed, Quiesced, Planned, Moved, Replan, Committed, Out, Bytes, Refused}
 use Rattle.pool_model.specs.declared.refusal.Refusal.{Refusal}
 use Rattle.pool_model.specs.declared.refusal.Refusal.TheVariants.{OutOfOrder}
 use Rattle.pool_model.specs.Causes.{number_of_cause, name_of_cause}
@@ -46,5 +46,6 @@ IsReplyText (Planned group) text = text ≡ codes "planned " ++ decimal group
 IsReplyText (Moved phase) text = text ≡ codes "moved " ++ phase_text phase
 IsReplyText (Replan disk) text = text ≡ codes "replan " ++ decimal disk
 IsReplyText (Committed group) text = text ≡ codes "committed " ++ decimal group
+IsReplyText Out text = text ≡ codes "out"
 IsReplyText (Bytes bytes) text = (runs : List Run) × AreRuns bytes runs × (text ≡ runs_text runs)
 IsReplyText (Refused refusal) text = text ≡ refusal_text refusal

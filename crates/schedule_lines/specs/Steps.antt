@@ -1,10 +1,10 @@
 -- Which command asks for which step.
-use Rattle.std.specs.Prelude.{◌≡◌, ◌≢◌, ℕ, replicate}
+use Rattle.std.specs.Prelude.{◌≡◌, ◌≢◌, ℕ, replicate, ◌≤◌, ◌^◌}
 use Rattle.pool_model.specs.declared.item.Change.TheVariants as change
 use Rattle.pool_model.specs.declared.step.Step.{Step}
 use Rattle.pool_model.specs.declared.step.Step.TheVariants as step
 use Rattle.schedule_lines.specs.declared.command.Command.{Command}
-use Rattle.schedule_lines.specs.declared.command.Command.TheVariants.{Pool, Hold, Release, Write, Create, Snapshot, Clone, Destroy, Close, Quiesced, Plan, Device, Commit, Sync, Read, Under, Stop, Reopen}
+use Rattle.schedule_lines.specs.declared.command.Command.TheVariants.{Pool, Hold, Release, Write, Create, Snapshot, Clone, Destroy, Close, Quiesced, Plan, Device, Commit, Sync, Read, Under, Out, Stop, Reopen}
 
 -- the command asks for this step and no other; a plan tells no time
 abbrev pub AsksFor : Command → Step → Type 0
@@ -24,11 +24,13 @@ AsksFor Commit s = ⊥
 AsksFor Sync s = ⊥
 AsksFor (Read line) s = s ≡ step.Read line.name line.offset line.len
 AsksFor (Under line) s = s ≡ step.ReadUnder line.group line.name line.offset line.len
+AsksFor (Out disk) s = s ≡ step.DiskOut disk
 AsksFor (Stop point) s = ⊥
 AsksFor (Reopen line) s = ⊥
 
--- no command asks for it: a write of bytes that are not all alike, or a plan that tells a time
+-- no command asks for it: a write of bytes that are not all alike, a plan that tells a time, or a disk with too great a number
 abbrev pub HasNoLine : Step → Type 0
 HasNoLine (step.Write write) = (count byte : ℕ) → write.bytes ≢ replicate count byte
 HasNoLine (step.Plan timestamp) = timestamp ≢ 0
+HasNoLine (step.DiskOut disk) = 2 ^ 32 ≤ disk
 HasNoLine s = ⊥

@@ -31,6 +31,8 @@ pub enum Command {
     Sync,
     Read(ReadLine),
     Under(UnderLine),
+    /// Takes the disk of this number out of use.
+    Out { disk: u32 },
     /// Says where the next commit stops, or the next reopening.
     Stop(StopPoint),
     /// Opens the disks again.

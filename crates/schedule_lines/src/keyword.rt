@@ -21,12 +21,13 @@ pub(crate) enum Keyword {
     Sync,
     Read,
     Under,
+    Out,
     Stop,
     Reopen,
 }
 
 impl Keyword {
-    const ALL: [Keyword; 18] = [
+    const ALL: [Keyword; 19] = [
         Keyword::Pool,
         Keyword::Hold,
         Keyword::Release,
@@ -43,6 +44,7 @@ impl Keyword {
         Keyword::Sync,
         Keyword::Read,
         Keyword::Under,
+        Keyword::Out,
         Keyword::Stop,
         Keyword::Reopen,
     ];
@@ -67,6 +69,7 @@ impl Keyword {
             Keyword::Sync => "sync",
             Keyword::Read => "read",
             Keyword::Under => "under",
+            Keyword::Out => "out",
             Keyword::Stop => "stop",
             Keyword::Reopen => "reopen",
         }

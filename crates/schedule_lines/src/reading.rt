@@ -179,6 +179,9 @@ fn command(alloc: Global, keyword: Keyword, words: &mut Words) -> Result<Command
         Keyword::Sync => Command::Sync,
         Keyword::Read => Command::Read(read(alloc, words)?),
         Keyword::Under => Command::Under(under(alloc, words)?),
+        Keyword::Out => Command::Out {
+            disk: words.number32()?,
+        },
         Keyword::Stop => Command::Stop(stop(words)?),
         Keyword::Reopen => Command::Reopen(reopen(alloc, words)?),
     })

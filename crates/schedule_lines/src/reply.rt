@@ -47,6 +47,7 @@ pub fn reply_text(alloc: Global, reply: &Reply) -> Result<String, AllocError>
         }
         Reply::Replan(disk) => format!(in alloc; "replan {disk}"),
         Reply::Committed(group) => format!(in alloc; "committed {group}"),
+        Reply::Out => String::from_str(alloc, "out"),
         Reply::Bytes(bytes) => runs_text(alloc, bytes.as_slice()),
         Reply::Refused(refusal) => refusal_text(alloc, refusal),
     }

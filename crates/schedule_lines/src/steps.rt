@@ -79,8 +79,19 @@ fn act_command(alloc: Global, action: &Action) -> Result<Command, AllocError>
     })
 }
 
-/// The command that asks for a step, or none where no line says it: a write of bytes that are not all alike, or a plan that tells
-/// a time.
+/// The command that takes a disk out; no line says a number that is not below 2^32.
+fn out_command(disk: usize) -> Option<Command>
+    ensures { MatchOption result (HasNoLine (step.DiskOut disk))
+        (λ command. AsksFor command (step.DiskOut disk)) }
+{
+    match u32::try_from(disk) {
+        Ok(disk) => Some(Command::Out { disk }),
+        Err(_) => None,
+    }
+}
+
+/// The command that asks for a step, or none where no line says it: a write of bytes that are not all alike, a plan that tells
+/// a time, or a disk whose number is not below 2^32.
 pub fn command_of(alloc: Global, step: &Step) -> Result<Option<Command>, AllocError>
     ensures { IfOk result (λ found. MatchOption found (HasNoLine step.now)
         (λ command. AsksFor command step.now)) }
@@ -99,6 +110,7 @@ pub fn command_of(alloc: Global, step: &Step) -> Result<Option<Command>, AllocEr
             Command::Plan
         }
         Step::Device => Command::Device,
+        Step::DiskOut(disk) => return Ok(out_command(*disk)),
         Step::Read { name, offset, len } => Command::Read(ReadLine {
             name: name.copied(alloc)?,
             offset: *offset,

@@ -192,6 +192,7 @@ fn bytes_of(alloc: Global, command: &Command) -> Result<Vec<u8>, AllocError>
         Command::Sync => Vec::from_slice(alloc, b"sync"),
         Command::Read(read) => read_bytes(alloc, read),
         Command::Under(under) => under_bytes(alloc, under),
+        Command::Out { disk } => numbered(alloc, b"out", *disk),
         Command::Stop(stop) => stop_bytes(alloc, *stop),
         Command::Reopen(reopen) => reopen_bytes(alloc, reopen),
     }

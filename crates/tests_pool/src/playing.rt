@@ -57,6 +57,7 @@ pub(crate) fn step_in(alloc: Global, line: &str) -> Result<(Step, bool), Fail> {
             offset: line.offset,
             len: line.len,
         },
+        Command::Out { disk } => Step::DiskOut(disk as usize),
         _ => return Err(Fail::new("no step of a pool")),
     };
     Ok((step, goes_on))

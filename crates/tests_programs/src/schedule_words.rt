@@ -9,7 +9,7 @@ use std::alloc::{AllocError, Global};
 use std::test::Fail;
 
 /// Lines, and what each says.
-const LINES: [(&str, &str); 27] = [
+const LINES: [(&str, &str); 29] = [
     ("", "Skipped"),
     ("# a  line of words", "Skipped"),
     (
@@ -61,6 +61,8 @@ const LINES: [(&str, &str); 27] = [
         "read a\tb 1 2",
         "Command(Read(ReadLine { name: Name { letters: [97, 9, 98] }, offset: 1, len: 2 }))",
     ),
+    ("out 0", "Command(Out { disk: 0 })"),
+    ("out 4294967295", "Command(Out { disk: 4294967295 })"),
     ("stop blocks", "Command(Stop(Blocks))"),
     ("stop slots 0", "Command(Stop(Slots { disks: 0 }))"),
     (
@@ -79,7 +81,7 @@ const LINES: [(&str, &str); 27] = [
 ];
 
 /// Lines that say nothing, and why.
-const FAULTS: [(&str, &str); 35] = [
+const FAULTS: [(&str, &str); 37] = [
     (" ", "two empty words"),
     (" # no comment", "a space before the mark"),
     ("hold", "a word is missing"),
@@ -105,6 +107,8 @@ const FAULTS: [(&str, &str); 35] = [
     ("destroy 1 v", "no number of an item"),
     ("destroy 1 2", "no name"),
     ("close now", "a word behind the last"),
+    ("out", "no disk"),
+    ("out 4294967296", "no disk has this number"),
     ("stop", "no point"),
     ("stop slots", "no number of disks"),
     ("stop blocks 1", "a number of disks too many"),
@@ -176,16 +180,17 @@ fn reply_of(alloc: Global, number: usize) -> Result<Reply, AllocError> {
         11 => Reply::Committed(4),
         12 => Reply::Refused(Cause::OutOfOrder { expected: 2 }),
         13 => Reply::Refused(Cause::GroupGone),
+        14 => Reply::Out,
         _ => Reply::Bytes(Bytes::new(Vec::from_slice(alloc, &[255; 3])?)),
     })
 }
 
 const TEXTS: &str =
-    "held 4, receipt 5, released, closed 4, quiesced 4, planned 4, moved Blocks, moved BlocksFlush, moved Slots, moved SlotsFlush, replan 2, committed 4, refused 7 OutOfOrder 2, refused 17 GroupGone, ffx3, ";
+    "held 4, receipt 5, released, closed 4, quiesced 4, planned 4, moved Blocks, moved BlocksFlush, moved Slots, moved SlotsFlush, replan 2, committed 4, refused 7 OutOfOrder 2, refused 17 GroupGone, out, ffx3, ";
 
 fn reply_texts(alloc: Global) -> Result<String, Fail> {
     let mut texts = String::new(alloc);
-    for number in 0..15 {
+    for number in 0..16 {
         let reply = reply_of(alloc, number)?;
         texts.push_str(reply_text(alloc, &reply)?.as_str())?;
         texts.push_str(", ")?;

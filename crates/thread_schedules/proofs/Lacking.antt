@@ -1,7 +1,7 @@
 -- A step that gives bytes may be answered that memory ran out: so each step of a core may be taken with as many bytes as were asked for.
 use Rattle.std.proofs.Common.{◌≡◌, ⊎_elim, inl, inr, List, ℕ, true, refl, sym, subst}
 use Rattle.pool_model.specs.declared.step.Step.{Step}
-use Rattle.pool_model.specs.declared.step.Step.TheVariants.{Hold, Write, Act, Release, Close, Quiesce, Plan, Device, Read, ReadUnder}
+use Rattle.pool_model.specs.declared.step.Step.TheVariants.{Hold, Write, Act, Release, Close, Quiesce, Plan, Device, DiskOut, Read, ReadUnder}
 use Rattle.pool_model.specs.declared.step.Reply.{Reply}
 use Rattle.pool_model.specs.declared.step.Reply.TheVariants.{Bytes, Refused}
 use Rattle.pool_model.specs.declared.refusal.Refusal.TheVariants.{NoMemory}
@@ -23,6 +23,7 @@ answered v given Close bytes w a = absurd a.answered
 answered v given Quiesce bytes w a = absurd a.answered
 answered v given (Plan timestamp) bytes w a = absurd a.answered
 answered v given Device bytes w a = absurd a.answered
+answered v given (DiskOut disk) bytes w a = absurd a.answered
 
 refused : (v : View) (given : Given) (step : Step) (bytes : List ℕ) (w : View) → IsRefused v given step (Bytes bytes) w → (w ≡ v) × StepOf v given step (Refused NoMemory) v
 refused v given step bytes w r = let e = r.answer in absurd (cc)

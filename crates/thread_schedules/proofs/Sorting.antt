@@ -4,7 +4,7 @@ use Rattle.std.proofs.lemmas.List.{append-nil}
 use Rattle.std.specs.List.{AllByRecursion, list_any}
 use Rattle.pool_model.specs.declared.step.Step.{Step}
 use Rattle.schedule_lines.specs.declared.command.Command.{Command}
-use Rattle.schedule_lines.specs.declared.command.Command.TheVariants.{Pool, Hold, Release, Write, Create, Snapshot, Clone, Destroy, Close, Quiesced, Plan, Device, Commit, Sync, Read, Under, Stop, Reopen}
+use Rattle.schedule_lines.specs.declared.command.Command.TheVariants.{Pool, Hold, Release, Write, Create, Snapshot, Clone, Destroy, Close, Quiesced, Plan, Device, Commit, Sync, Read, Under, Out, Stop, Reopen}
 use Rattle.programs.specs.Answers.{Begins, IsNoStep}
 use Rattle.thread_runs.specs.Asking.{is_asked, is_read as reads, may_follow as follows, only_if}
 use Rattle.thread_schedules.specs.Kinds.{AreThreadLines, is_read, is_writers, may_follow}
@@ -28,6 +28,7 @@ asked_alike Commit s begins = ap is_asked begins
 asked_alike Sync s begins = ap is_asked begins
 asked_alike (Read line) s begins = ap is_asked begins
 asked_alike (Under line) s begins = ap is_asked begins
+asked_alike (Out disk) s begins = ap is_asked begins
 asked_alike (Pool line) s begins = absurd begins
 asked_alike (Stop point) s begins = absurd begins
 asked_alike (Reopen line) s begins = absurd begins
@@ -48,6 +49,7 @@ reads_alike Commit s begins = ap reads begins
 reads_alike Sync s begins = ap reads begins
 reads_alike (Read line) s begins = ap reads begins
 reads_alike (Under line) s begins = ap reads begins
+reads_alike (Out disk) s begins = ap reads begins
 reads_alike (Pool line) s begins = absurd begins
 reads_alike (Stop point) s begins = absurd begins
 reads_alike (Reopen line) s begins = absurd begins
@@ -72,6 +74,7 @@ none_follows commands Commit none = absurd none
 none_follows commands Sync none = absurd none
 none_follows commands (Read line) none = absurd none
 none_follows commands (Under line) none = absurd none
+none_follows commands (Out disk) none = absurd none
 
 pub alike : (commands : List Command) (command : Command) (s : Step) (count : ℕ) → Begins command s → nat_eq count 0 ≡ not (list_any is_read commands)
     → follows count s ≡ may_follow commands command
@@ -98,6 +101,7 @@ writers_read_not Commit is = absurd (no_true is)
 writers_read_not Sync is = absurd (no_true is)
 writers_read_not (Read line) is = absurd (no_true is)
 writers_read_not (Under line) is = absurd (no_true is)
+writers_read_not (Out disk) is = absurd (no_true is)
 writers_read_not (Pool line) is = absurd (no_true is)
 writers_read_not (Stop point) is = absurd (no_true is)
 writers_read_not (Reopen line) is = absurd (no_true is)

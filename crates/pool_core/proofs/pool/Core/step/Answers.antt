@@ -114,3 +114,11 @@ returns-in-Read-clause-moves g c =
 pub returns-in-ReadUnder-clause-moves : goal.returns-in-ReadUnder-clause-moves
 returns-in-ReadUnder-clause-moves g c =
     subst (λ (s : Step). Moves s (commit_state c.args.self.now.commit) (commit_state c.reply_under.new.self.commit)) (sym c.in-ReadUnder.is) c.reply_under.ensures.moves
+
+pub returns-in-DiskOut-clause-goes : goal.returns-in-DiskOut-clause-goes
+returns-in-DiskOut-clause-goes g c v trusted r honest plans =
+    subst (λ (s : Step). Goes (state_of c.args.self.now) v trusted s c.disk_out.result (state_of c.disk_out.new.self)) (sym c.in-DiskOut.is) (c.disk_out.ensures.goes v trusted r honest plans)
+
+pub returns-in-DiskOut-clause-moves : goal.returns-in-DiskOut-clause-moves
+returns-in-DiskOut-clause-moves g c =
+    subst (λ (s : Step). Moves s (commit_state c.args.self.now.commit) (commit_state c.disk_out.new.self.commit)) (sym c.in-DiskOut.is) c.disk_out.ensures.moves
