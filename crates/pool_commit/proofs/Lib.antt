@@ -1,4 +1,4 @@
-pub mod Absence
+pub mod GoingOut
 pub mod Accounted
 pub mod Accounting
 pub mod Backing

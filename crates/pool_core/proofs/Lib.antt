@@ -1,4 +1,4 @@
-pub mod Absence
+pub mod GoingOut
 pub mod Fronting
 pub mod Phases
 pub mod ReadSteps

@@ -24,17 +24,18 @@ use Rattle.pool_model.proofs.Answering.{none_planned}
 use Rattle.pool_commit.specs.declared.kept.Kept.{Kept}
 use Rattle.pool_commit.specs.declared.kept.Planned.{Planned}
 use Rattle.pool_commit.specs.declared.stamp.Stamp.{Stamp}
-use Rattle.pool_commit.specs.Absence.{LeavesPlan}
+use Rattle.pool_commit.specs.Absence.{LeavesPlan, TakesOut}
 use Rattle.pool_commit.specs.Calls.{IsFlushed}
 use Rattle.pool_commit.specs.Backs.{AreStamped, Backs, HasPlan, IsPlanOf, IsToFlush, SpellsKept, StoresReach, kept_pool, left_calls}
 use Rattle.pool_commit.specs.Config.{vdevs_of}
+use Rattle.pool_commit.specs.HasDisks.{AreBelow, AreSlotsBelow, IsPlannedOn}
 use Rattle.pool_commit.specs.Making.{writes_left, behind_left, flushes_left, slots_left, IsSameStore}
 use Rattle.pool_commit.specs.Progress.{LeftOut, with_plan}
 use Rattle.pool_commit.specs.Slots.{ShowsIn}
 use Rattle.pool_commit.specs.State.{State, group_at}
 use Rattle.pool_commit.proofs.Disks.{take_next}
 use Rattle.pool_commit.proofs.Phasing.{none_to_flush}
-use Rattle.pool_commit.proofs.Progressing.{all_filtered, all_through, carried, fewer, filtered_behind, kept_others, kept_slots, not_that, outs_are, vdevs_by_shapes}
+use Rattle.pool_commit.proofs.Progressing.{all_filtered, all_through, carried, fewer, filtered_behind, in_use_is, kept_others, kept_slots, no_length, not_that, outs_are, vdevs_by_shapes}
 use Rattle.pool_commit.proofs.Reaching.{no_plan, reached_over, same_spaces}
 
 -- ---- whether a vdev has the disk
@@ -175,7 +176,7 @@ dropped_backs s mid v disk new planned backs spaces too shapes marks out plans k
 
 -- where that is the view once the disk is out
 as_gone : (s : State) (v : View) (disk : ℕ) → is_late_sync v.sync ≡ false → Backs s (dropped v disk) → Backs s (gone_out v disk)
-as_gone s v disk early backs = subst (λ (b : Bool). Backs s (if b then _ else dropped v disk)) (sym early) backs
+as_gone s v disk early backs = subst (λ (b : Bool). Backs s (if b then record (without_disk v disk) { sync = calls_without v.sync disk } else dropped v disk)) (sym early) backs
 
 -- what is left of a plan on other disks
 pub left_on_others : (counts slot_counts : ℕ → ℕ) (store mid : Store) (disk : ℕ) (old behind : Behind) → store.due ≡ [] → mid.due ≡ [] → old.flushes.items ≡ []
@@ -263,3 +264,52 @@ unplanned_backs s mid v disk backs none same too =
     (unplanned_late v.sync (subst (λ (o : Option Planned). IsPlanOf s backs.blocks.planned o v) none backs.blocks.plan))
     (dropped_backs s mid v disk (record s { store = mid }) backs.blocks.planned backs same.spaces too refl (same_spaces mid.spaces mid.spaces filled_marks refl) refl
     (same.plans backs.blocks.stored backs.blocks.planned backs.blocks.plans) refl none refl)
+
+-- ---- what is left of a plan
+
+fewer_below : (count disk : ℕ) (flushes : List ℕ) → AreBelow count flushes → AreBelow count (filter (λ (flush : ℕ). not (flush == disk)) flushes)
+fewer_below count disk flushes below other held = below other (in_use_is (λ (flush : ℕ). not (flush == disk)) flushes other held).1
+
+fewer_slots : (count disk : ℕ) (slots : List SlotWrite) → AreSlotsBelow count slots → AreSlotsBelow count (filter (λ (write : SlotWrite). not (write.disk == disk)) slots)
+fewer_slots count disk slots below other held = below other (in_use_is (λ (write : SlotWrite). not (write.disk == disk)) slots other held).1
+
+-- its disks are there
+pub there_still : (count disk : ℕ) (plan : Planned) (behind : Behind) → IsPlannedOn count plan → LeftOut disk plan.behind behind → IsPlannedOn count (record plan { behind = behind })
+there_still count disk plan behind there (flushes, slots, ends) = record {
+  behind = record {
+    flushes = subst (λ (items : List ℕ). AreBelow count items) (sym (ap (λ f. f.items) flushes)) there.behind.flushes;
+    slots = subst (λ (items : List SlotWrite). AreSlotsBelow count items) (sym slots) (fewer_slots count disk plan.behind.slots.items there.behind.slots);
+    slot_flushes = subst (λ (items : List ℕ). AreBelow count items) (sym ends) (fewer_below count disk plan.behind.slot_flushes.items there.behind.slot_flushes);
+  };
+  fits = there.fits;
+}
+
+same_plan : (plan other : Planned) → Some plan ≡ Some other → plan ≡ other
+same_plan plan other e = cc
+
+-- no call is made, and what is left is what there was, but for calls on the disk
+pub leaves_takes : (s : State) (mid : Store) (plan : Planned) (disk : ℕ) (new : State) → Some plan ≡ s.planned → mid.disks ≡ s.store.disks → mid.spaces ≡ s.store.spaces
+    → IsOutToo s.store.out disk mid.out → LeavesPlan disk (record s { store = mid; planned = None }) plan new → TakesOut disk s new
+leaves_takes s mid plan disk new was disks spaces too (inl (early, drop, kept, none, stamp)) = record {
+  disks = drop.disks ∙ disks;
+  out = record { count = ap length drop.out ∙ too.count; disks = λ other. ap (λ (outs : List Bool). is_out outs other) drop.out ∙ too.disks other };
+  shapes = drop.shapes ∙ ap shapes_of spaces;
+  kept = kept;
+  stamp = stamp;
+  plan = λ later is. absurd (let no : None ≡ Some later = sym none ∙ is in cc);
+}
+leaves_takes s mid plan disk new was disks spaces too (inr (none, flushed, behind, left, is)) =
+    subst (λ (x : State). TakesOut disk s x) (sym is) (record {
+      disks = disks;
+      out = too;
+      shapes = ap shapes_of spaces;
+      kept = refl;
+      stamp = refl;
+      plan = λ later that. (
+        plan,
+        sym was,
+        ap (λ (p : Planned). p.uberblock) (sym (same_plan (record plan { behind = behind }) later that)),
+        ap (λ (p : Planned). p.after) (sym (same_plan (record plan { behind = behind }) later that)),
+        subst (λ (p : Planned). LeftOut disk plan.behind p.behind) (same_plan (record plan { behind = behind }) later that) left,
+      );
+    })
