@@ -1,5 +1,5 @@
 -- Disks that are taken out of use.
-use Rattle.std.proofs.Common.{◌≡◌, Bool, true, false, List, ℕ, Some, None, refl, sym, ap, ◌∙◌, subst, inr, length}
+use Rattle.std.proofs.Common.{◌≡◌, Bool, true, false, List, [], ◌∷◌, ℕ, Some, None, refl, sym, ap, ◌∙◌, subst, inr, length}
 use Rattle.std.specs.Prelude.{filter, not, ◌==◌, if◌then◌else◌}
 use Rattle.model_disk.specs.Joint.{Disks, calls_on}
 use Rattle.pool_model.specs.declared.refusal.Refusal.{Refusal as Cause}
