@@ -214,7 +214,7 @@ not_whole whole is holds = absurd (let clash : true ≡ false = sym holds ∙ is
 
 -- its steps take no disk out
 takes_none : (steps : List Step) → AreFirstSteps steps → AllByRecursion TakesNoneOut steps
-takes_none steps are = subst (AllByRecursion TakesNoneOut) (sym are.2) (tt, tt, tt, devices are.0)
+takes_none steps are = subst (AllByRecursion TakesNoneOut) (sym are.2) (tt, (tt, (tt, devices are.0)))
   where
     devices : (n : ℕ) → AllByRecursion TakesNoneOut (replicate n Device)
     devices zero = tt

@@ -484,6 +484,145 @@ under 14 v 131072 512 -> refused 17 GroupGone
 read v 785920 512 -> aax512
 ";
 
+/// Two disks of a vdev with two parities are taken out, and its volume reads; with a third out it doesn't, and the pool is suspended, but
+/// disks may be taken out still.
+const TAKEN_OUT: &str = "pool 2 5 8388608 12 2
+hold 1 -> held 4
+create 1 1 v 8192 8192 -> receipt 4
+release 1 -> released
+sync -> committed 4
+hold 1 -> held 5
+write 1 2 v 0 8192 07 -> receipt 5
+release 1 -> released
+sync -> committed 5
+out 0 -> out
+out 0 -> refused 13 NotNow
+out 5 -> refused 11 OutOfRange
+out 1 -> out
+read v 0 8192 -> 07x8192
+hold 1 -> held 6
+write 1 3 v 0 8192 08 -> receipt 6
+release 1 -> released
+sync -> committed 6
+read v 0 8192 -> 08x8192
+under 5 v 0 8192 -> 07x8192
+out 2 -> out
+read v 0 8192 -> refused 2 DiskFault
+hold 9 -> refused 4 Suspended
+out 3 -> out
+out 2 -> refused 13 NotNow
+";
+
+/// The first group of a pool of three disks with one parity, and a write that waits to be planned.
+const WAITING: &str = "pool 1 3 8388608 12 2
+hold 1 -> held 4
+create 1 1 v 1024 512 -> receipt 4
+release 1 -> released
+sync -> committed 4
+hold 1 -> held 5
+write 1 2 v 0 512 aa -> receipt 5
+release 1 -> released
+close -> closed 5
+quiesced -> quiesced 5
+";
+
+/// Its plan, as far as its blocks are written, and as far as they are flushed.
+const WRITTEN: &str = "plan -> planned 5
+times 15 device -> moved Blocks
+";
+
+const FLUSHED: &str = "device -> moved BlocksFlush
+";
+
+/// A disk that is taken out before the slots drops the plan, and with the next one the group is committed.
+const DROPPED: &str = "out 1 -> out
+device -> refused 13 NotNow
+plan -> planned 5
+commit -> refused 13 NotNow
+times 10 device -> moved Blocks
+device -> moved BlocksFlush
+times 2 device -> moved Slots
+device -> committed 5
+";
+
+/// From the slots on the commit goes on without it.
+const GONE_ON: &str = "out 1 -> out
+plan -> refused 13 NotNow
+times 2 device -> moved Slots
+device -> committed 5
+";
+
+/// So it does where two of the disks' slots are written, and where all are; where nothing is left but on that disk it is committed with no
+/// call.
+const SOME_SLOTS: &str = "times 2 device -> moved Slots
+out 2 -> out
+device -> committed 5
+";
+
+const ALL_SLOTS: &str = "times 3 device -> moved Slots
+out 0 -> out
+device -> committed 5
+";
+
+/// The group reads without the disk, and the one before it; the next one is committed without it; and a second disk suspends the pool, also
+/// in the middle of a commit.
+const WITHOUT: &str = "device -> refused 13 NotNow
+read v 0 1024 -> aax512 00x512
+under 5 v 0 1024 -> aax512 00x512
+under 4 v 0 1024 -> 00x1024
+hold 1 -> held 6
+write 1 3 v 512 512 bb -> receipt 6
+release 1 -> released
+sync -> committed 6
+read v 0 1024 -> aax512 bbx512
+hold 1 -> held 7
+write 1 4 v 0 512 cc -> receipt 7
+release 1 -> released
+close -> closed 7
+quiesced -> quiesced 7
+plan -> planned 7
+device -> moved Blocks
+";
+
+const SUSPENDED_BY: [&str; 3] = [
+    "out 0 -> out\ndevice -> refused 4 Suspended\nplan -> refused 4 Suspended\nrelease 1 -> refused 6 NoHold\n",
+    "out 1 -> out\ndevice -> refused 4 Suspended\nplan -> refused 4 Suspended\nrelease 1 -> refused 6 NoHold\n",
+    "out 2 -> out\ndevice -> refused 4 Suspended\nplan -> refused 4 Suspended\nrelease 1 -> refused 6 NoHold\n",
+];
+
+/// Each moment of a commit at which a disk is taken out, what becomes of it, and a disk that is there still.
+const MOMENTS: [(&[&str], usize); 6] = [
+    (&["plan -> planned 5\n", DROPPED], 0),
+    (&["plan -> planned 5\ndevice -> moved Blocks\n", DROPPED], 0),
+    (&[WRITTEN, DROPPED], 0),
+    (&[WRITTEN, FLUSHED, GONE_ON], 0),
+    (&[WRITTEN, FLUSHED, SOME_SLOTS], 1),
+    (&[WRITTEN, FLUSHED, ALL_SLOTS], 2),
+];
+
+/// What is replied otherwise where a disk is taken out at each of these moments.
+fn wrong_at(alloc: Global, moments: &[(&[&str], usize)]) -> Result<String, Fail> {
+    let mut wrong = String::new(alloc);
+    for (lines, other) in moments {
+        let mut text = String::from_str(alloc, WAITING)?;
+        for part in *lines {
+            text.push_str(part)?;
+        }
+        text.push_str(WITHOUT)?;
+        text.push_str(SUSPENDED_BY.get(*other).copied().unwrap_or(""))?;
+        wrong.push_str(wrong_in(alloc, &[text.as_str()])?.as_str())?;
+    }
+    Ok(wrong)
+}
+
+#[test]
+fn disks_are_taken_out(rt: HostRuntime) -> Result<(), Fail> {
+    let mut wrong = wrong_in(rt.alloc(), &[TAKEN_OUT])?;
+    wrong.push_str(wrong_at(rt.alloc(), &MOMENTS)?.as_str())?;
+    assert!(rt; wrong.is_empty(), "{wrong}");
+    Ok(())
+}
+
 #[test]
 fn groups_have_their_replies(rt: HostRuntime) -> Result<(), Fail> {
     let wrong = wrong_in(

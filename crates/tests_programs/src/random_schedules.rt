@@ -243,31 +243,51 @@ fn rows_in_memory(alloc: Global, writers: &mut Writers) -> Result<String, Fail> 
     rows_of(alloc, &mut machine, writers)
 }
 
+// The rows, with a disk that is taken out before one of those that are chosen.
+fn with_a_disk_out(alloc: Global, writers: &mut Writers, rows: &str) -> Result<String, Fail> {
+    let before = writers.dice.below(LINES as u64) as usize;
+    let disk = writers.dice.below(3);
+    let mut text = String::new(alloc);
+    for (number, row) in rows.lines().enumerate() {
+        if number == before {
+            text.push_str(format!(in alloc; "out {disk} -> out\n")?.as_str())?;
+        }
+        text.push_str(row)?;
+        text.push_str("\n")?;
+    }
+    Ok(text)
+}
+
 // What the core over disks tells of the rows of a seed, where it replies otherwise than the machine in memory, or too few of them
-// went well.
-fn other_replies(alloc: Global, seed: u64) -> Result<String, Fail> {
+// went well. A disk is taken out in the middle where that is asked.
+fn other_replies(alloc: Global, seed: u64, is_out: bool) -> Result<String, Fail> {
     let mut writers = Writers::new(seed);
     let rows = rows_in_memory(alloc, &mut writers)?;
     if !writers.is_lucky() {
         return Ok(rows);
     }
+    let rows = if is_out {
+        with_a_disk_out(alloc, &mut writers, rows.as_str())?
+    } else {
+        rows
+    };
     ran_otherwise::<Core<MemDisk>>(alloc, &[POOL, rows.as_str()])
 }
 
-fn all_other_replies(alloc: Global, seeds: &[u64]) -> Result<String, Fail> {
+fn all_other_replies(alloc: Global, seeds: &[u64], is_out: bool) -> Result<String, Fail> {
     let mut others = String::new(alloc);
     for seed in seeds {
-        others.push_str(other_replies(alloc, *seed)?.as_str())?;
+        others.push_str(other_replies(alloc, *seed, is_out)?.as_str())?;
     }
     Ok(others)
 }
 
 #[test]
 fn disks_reply_as_memory_does(rt: HostRuntime) -> Result<(), Fail> {
-    expect_none(&rt, all_other_replies(rt.alloc(), &[57, 107, 250]))
+    expect_none(&rt, all_other_replies(rt.alloc(), &[57, 107, 250], false))
 }
 
 #[test]
-fn disks_reply_as_memory_does_again(rt: HostRuntime) -> Result<(), Fail> {
-    expect_none(&rt, all_other_replies(rt.alloc(), &[152, 211, 333]))
+fn disks_reply_as_memory_does_with_one_out(rt: HostRuntime) -> Result<(), Fail> {
+    expect_none(&rt, all_other_replies(rt.alloc(), &[152, 211, 333], true))
 }
