@@ -1,5 +1,5 @@
 -- What stays true of what lies under the lock.
-use Rattle.std.proofs.Common.{◌≡◌, ◌+◌, ℕ, List, [], ◌∷◌, ◌++◌, length, sym, ap, ◌∙◌, subst, arith, length-append}
+use Rattle.std.proofs.Common.{◌≡◌, ◌+◌, ◌^◌, ◌<◌, ◌≤◌, ℕ, List, [], ◌∷◌, ◌++◌, length, sym, ap, ◌∙◌, subst, arith, length-append}
 use Rattle.std.proofs.lemmas.List.Sums.{sum_by_push}
 use Rattle.pool_model.specs.View.{View}
 use Rattle.pool_model.specs.Sound.{IsSound}
@@ -28,14 +28,16 @@ record_new {C} g core origin start entries total begun calls from_core at_core n
       subst (λ (p : C × List Entry). Replays g p.0 p.1 core) (λ i. (sym at_core i, sym none i)) (replays_none g core v.0 v.1);
   counts = omega (arith, ap writers_steps none, uncounted);
   called = omega (arith, ap (λ (es : List Entry). length es) none, began);
+  fits = omega (arith, ap (λ (es : List Entry). length es) none);
+  few = omega arith;
 }
 
 -- a record that begins anew at the present core
 pub record_sealed : {C : Type 0} (g : Ghosts C) (core origin start next : C) (entries rest : List Entry) (sealed more total after begun calls begins called : ℕ)
-    → next ≡ core → rest ≡ [] → more ≡ writers_steps entries → after ≡ total → begins ≡ called → g.came_from core core
+    → next ≡ core → rest ≡ [] → sealed + more ≤ 2 ^ 62 → more ≡ writers_steps entries → after ≡ total → begins ≡ called → g.came_from core core
     → ((first mid last : C) → g.came_from first mid → g.came_from mid last → g.came_from first last)
     → IsRecord g (history core origin start entries sealed total begun calls) → IsRecord g (history core origin next rest (sealed + more) after begins called)
-record_sealed {C} g core origin start next entries rest sealed more total after begun calls begins called at_core none counted kept began same further before = record {
+record_sealed {C} g core origin start next entries rest sealed more total after begun calls begins called at_core none few counted kept began same further before = record {
   sealed_before = subst (λ (s : C). g.came_from origin s) (sym at_core) (further origin start core before.sealed_before before.since);
   since = subst (λ (s : C). g.came_from s core) (sym at_core) same;
   replays = λ truly.
@@ -45,16 +47,18 @@ record_sealed {C} g core origin start next entries rest sealed more total after 
       let none_left : writers_steps rest ≡ 0 = ap writers_steps none in
       omega (arith, none_left, counted, kept, before.counts);
   called = omega (arith, ap (λ (es : List Entry). length es) none, began);
+  fits = omega (arith, ap (λ (es : List Entry). length es) none);
+  few = few;
 }
 
 -- a record with one entry more
 pub record_more : {C : Type 0} (g : Ghosts C) (old new origin start : C) (entries more : List Entry) (e : Entry) (sealed total after begun calls called : ℕ)
-    → more ≡ entries ++ e ∷ [] → after ≡ total + weight_of e.step → called ≡ calls + 1 → g.came_from old new
+    → length entries < 65536 → more ≡ entries ++ e ∷ [] → after ≡ total + weight_of e.step → called ≡ calls + 1 → g.came_from old new
     → Goes g.represents g.answers_truly g.links old e.step e.reply new
     → ((first mid last : C) → g.came_from first mid → g.came_from mid last → g.came_from first last)
     → ((first mid last : C) → g.came_from first mid → g.came_from mid last → g.answers_truly first last → g.answers_truly first mid × g.answers_truly mid last)
     → IsRecord g (history old origin start entries sealed total begun calls) → IsRecord g (history new origin start more sealed after begun called)
-record_more g old new origin start entries more e sealed total after begun calls called longer counted one_more went goes further parts before = record {
+record_more g old new origin start entries more e sealed total after begun calls called room longer counted one_more went goes further parts before = record {
   sealed_before = before.sealed_before;
   since = further start old new before.since went;
   replays = λ truly.
@@ -66,6 +70,10 @@ record_more g old new origin start entries more e sealed total after begun calls
   called =
       let pushed : length more ≡ length entries + 1 = ap (λ (es : List Entry). length es) longer ∙ length-append entries (e ∷ []) in
       omega (arith, pushed, one_more, before.called);
+  fits =
+      let pushed : length more ≡ length entries + 1 = ap (λ (es : List Entry). length es) longer ∙ length-append entries (e ∷ []) in
+      omega (arith, pushed, room);
+  few = before.few;
 }
 
 -- a record that replays tells the headline

@@ -1,5 +1,5 @@
 -- A record with one step more, and one that begins anew.
-use Rattle.std.proofs.Common.{◌≡◌, ◌+◌, true, List, [], ◌∷◌, ◌++◌, refl, sym, subst}
+use Rattle.std.proofs.Common.{◌≡◌, true, List, [], ◌∷◌, ◌++◌, refl, sym, subst}
 use Rattle.std.specs.List.{AllByRecursion}
 use Rattle.pool_model.specs.View.{View, Given}
 use Rattle.pool_model.specs.Machine.{Run, StepOf}

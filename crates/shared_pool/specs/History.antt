@@ -1,5 +1,5 @@
 -- What lies under the lock, as contracts see it.
-use Rattle.std.specs.Prelude.{◌≡◌, ℕ, ◌+◌, List, [], ◌∷◌, ◌++◌, length}
+use Rattle.std.specs.Prelude.{◌≡◌, ℕ, ◌+◌, ◌^◌, ◌≤◌, List, [], ◌∷◌, ◌++◌, length}
 use Rattle.pool_model.specs.declared.step.Step.{Step}
 use Rattle.pool_model.specs.declared.step.Reply.{Reply}
 use Rattle.pool_model.specs.Headline.{Headline}
@@ -19,13 +19,15 @@ pub record History (C : Type 0) : Type 0 where
   pub begun : ℕ  -- the calls that they had counted as this record began
   pub calls : ℕ  -- the calls that they have counted
 
--- the record replays, where the disks have answered truly since its first beginning, and the counts agree
+-- the record replays, where the disks have answered truly since its first beginning, the counts agree, and neither is beyond its bound
 pub record IsRecord {C : Type 0} (g : Ghosts C) (h : History C) : Type 0 where
   pub sealed_before : g.came_from h.origin h.start
   pub since : g.came_from h.start h.core
   pub replays : g.answers_truly h.origin h.core → Replays g h.start h.entries h.core
   pub counts : h.sealed + writers_steps h.entries ≡ h.total
   pub called : h.begun + length h.entries ≡ h.calls
+  pub fits : length h.entries ≤ 65536
+  pub few : h.sealed ≤ 2 ^ 62
 
 abbrev pub entry : Step → Reply → Entry
 entry step reply = record { step = step; reply = reply }

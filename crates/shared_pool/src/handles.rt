@@ -30,7 +30,7 @@ pub struct Quiescer<'a, C: PoolSteps, L: Ledger, M: Ledger> {
     pub(crate) shares: Shares<L, M>,
 }
 
-/// Plans groups, makes their device calls, and seals the record.
+/// Plans groups, makes their device calls, takes disks out, and seals the record.
 #[derive(Drop)]
 pub struct Syncer<'a, C: PoolSteps, L: Ledger, M: Ledger> {
     pub(crate) pool: &'a SharedPool<C, L, M>,
@@ -240,6 +240,17 @@ impl<'a, C: PoolSteps, L: Ledger, M: Ledger> Syncer<'a, C, L, M> {
         ensures parts { self.new.shares.steps.parts ≡ self.old.shares.steps.parts }
     {
         self.pool.take_step(rt, Step::Device, &mut self.shares)
+    }
+
+    /// Takes the disk of this number out of use.
+    pub fn put_out<R: Wait>(&mut self, rt: &R, disk: usize) -> Result<Reply, Refusal>
+        ensures answered { Answers C.PoolSteps (steps.DiskOut disk) result }
+        ensures counted { self.new.shares.steps.amount ≡ self.old.shares.steps.amount }
+        ensures called { Counts 1 result self.old.shares.calls.amount self.new.shares.calls.amount }
+        ensures parts { self.new.shares.steps.parts ≡ self.old.shares.steps.parts }
+    {
+        self.pool
+            .take_step(rt, Step::DiskOut(disk), &mut self.shares)
     }
 
     /// Lets a new record begin, and hands out the one so far.

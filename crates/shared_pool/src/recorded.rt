@@ -3,11 +3,11 @@ ghost use Rattle.std.specs.Prelude.{◌≡◌, ◌+◌, ◌^◌, ◌≤◌, ◌<
 ghost use Rattle.shared_pool.specs.History.{entry};
 ghost use Rattle.shared_pool.specs.Weights.{is_writers, weight_of, writers_steps, Counts};
 
-use crate::copies::{copy_of_reply, copy_of_step};
+use crate::copies::{copy_of_reply, copy_of_step, room_for_reply};
 use crate::counts::{Books, Shares};
 use crate::refusal::Refusal;
 use pool_model::{Reply, Step};
-use pool_steps::{PoolSteps, most_bytes};
+use pool_steps::PoolSteps;
 use std::alloc::{AllocError, Global};
 use std::marker::Model;
 use std::mem;
@@ -48,7 +48,7 @@ pub struct Recorded<C: PoolSteps, L: Ledger, M: Ledger> {
 }
 
 impl<C: PoolSteps, L: Ledger, M: Ledger> Model for Recorded<C, L, M> {
-    ghost use Rattle.std.specs.Prelude.{◌≤◌, ◌^◌, vec_len, vec_capacity};
+    ghost use Rattle.std.specs.Prelude.{◌≤◌, vec_capacity};
     ghost use Rattle.shared_pool.specs.History.{History, IsRecord};
 
     ghost Value = { History C };
@@ -75,9 +75,7 @@ impl<C: PoolSteps, L: Ledger, M: Ledger> Model for Recorded<C, L, M> {
           begun = r.begun.value.total;
           calls = r.books.calls.total;
         })
-        × (r.sealed ≤ 2 ^ 62)
-        × (65536 ≤ vec_capacity r.entries)
-        × (vec_len r.entries ≤ 65536) };
+        × (65536 ≤ vec_capacity r.entries) };
 }
 
 impl<C: PoolSteps, L: Ledger, M: Ledger> Recorded<C, L, M> {
@@ -112,7 +110,7 @@ impl<C: PoolSteps, L: Ledger, M: Ledger> Recorded<C, L, M> {
     }
 
     /// Takes one step and records it, with its reply. What the record needs is got before, so that at an `Err` no step is
-    /// taken.
+    /// taken. Of a step that takes no memory the record takes none either.
     pub fn take_step(&mut self, step: Step, shares: &mut Shares<L, M>) -> Result<Reply, Refusal>
         ensures before { IsRecord C.PoolSteps self.old }
         ensures after { IsRecord C.PoolSteps self.new }
@@ -121,14 +119,14 @@ impl<C: PoolSteps, L: Ledger, M: Ledger> Recorded<C, L, M> {
             shares.old.steps.amount shares.new.steps.amount }
         ensures called { Counts 1 result shares.old.calls.amount shares.new.calls.amount }
         ensures parts { shares.new.steps.parts ≡ shares.old.steps.parts }
-        ensures hindered { IfErr result (λ refusal. HindersStep refusal self.old) }
+        ensures hindered { IfErr result (λ refusal. HindersStep step refusal self.old) }
         ensures same { OnErr result (self.new ≡ self.old) }
     {
         if self.entries.len() == ROOM {
             return Err(Refusal::RecordFull);
         }
         let copy = copy_of_step(self.alloc, &step)?;
-        let room = Vec::with_capacity(self.alloc, most_bytes(&step))?;
+        let room = room_for_reply(self.alloc, &step)?;
         let weight = weight_of(&step);
         let reply = self.core.take_step(step);
         let copied = copy_of_reply(room, &reply);
@@ -155,7 +153,8 @@ impl<C: PoolSteps, L: Ledger, M: Ledger> Recorded<C, L, M> {
         ensures counted { shares.new.steps.amount ≡ shares.old.steps.amount }
         ensures called { Counts 1 result shares.old.calls.amount shares.new.calls.amount }
         ensures parts { shares.new.steps.parts ≡ shares.old.steps.parts }
-        ensures hindered { IfErr result (λ refusal. HindersStep refusal self.old) }
+        ensures hindered { IfErr result (λ refusal.
+            HindersStep (steps.Plan timestamp) refusal self.old) }
         ensures same { OnErr result (self.new ≡ self.old) }
     {
         if self.entries.len() == ROOM {

@@ -1,18 +1,20 @@
 //! Threads over a pool of which a disk fails in the middle.
 ghost use Rattle.std.specs.Prelude.{◌≡◌, ◌+◌, ◌<◌, ◌≤◌, IfOk};
 
+use crate::rounds::{end_of, ends_behind_a_commit, first_astray, replies_in, rounds};
 use crate::shared_plans::{commit, named, quiesce};
 use block_store::VdevConfig;
 use line_steps::first_step;
 use model_disk::{Fault, FaultDisk, MemDisk};
 use pool_core::Core;
-use pool_model::{Action, Bytes, Change, Reply, Step, Write};
+use pool_model::{Action, Change, Refusal as Cause, Reply, Step};
 use pool_steps::{PoolSteps, most_bytes, within};
 use raidz_map::Geometry;
 use schedule_lines::{Line, parse, reply_text};
-use shared_pool::{Books, Recorded};
+use shared_pool::{Books, ROOM, Recorded, SharedPool};
 use std::alloc::Global;
 use std::marker::Brand;
+use std::process::Abort;
 use std::sync::Wait;
 use std::sync::ledger::{Blank, Ledger};
 use std::test::*;
@@ -48,14 +50,10 @@ impl PoolSteps for Failing {
     }
 }
 
-/// A pool of three disks with one parity, of which the second stops at its call with this number; and a volume of 4 blocks of 512 bytes.
-fn pool(alloc: Global, stops_at: u64) -> Result<Failing, Fail> {
+/// A pool of three disks with one parity, of which the second has this fault; and a volume of 16 blocks of 512 bytes.
+fn pool(alloc: Global, second: Fault) -> Result<Failing, Fail> {
     let mut disks = Vec::new(alloc);
-    for fault in [
-        Fault::At(u64::MAX),
-        Fault::From(stops_at),
-        Fault::At(u64::MAX),
-    ] {
+    for fault in [Fault::At(u64::MAX), second, Fault::At(u64::MAX)] {
         disks.push(FaultDisk::new(MemDisk::new(alloc, 0x80_0000)?, fault))?;
     }
     let vdev = VdevConfig {
@@ -65,46 +63,42 @@ fn pool(alloc: Global, stops_at: u64) -> Result<Failing, Fail> {
     };
     let mut core = Core::create(alloc, disks, &[vdev])?;
     let created = Action {
-        writer: 9,
+        writer: 1,
         number: 1,
         change: Change::Create {
             name: named(alloc)?,
-            size: 2048,
+            size: 8192,
             block_size: 512,
         },
     };
-    quiesce(&mut core, 9, Step::Act(created));
+    quiesce(&mut core, 1, Step::Act(created));
     core.step(Step::Plan { timestamp: 8 });
     commit(&mut core);
     Ok(Failing { core })
 }
 
-/// So many rounds of writers 1 to 4, each of whom writes its block; then all is read.
-fn lines(alloc: Global, threads: usize, rounds: u64) -> Result<ThreadLines, Fail>
-    requires { rounds < 1000 }
+/// The step that a line asks for.
+fn step_of(alloc: Global, line: &str) -> Result<Step, Fail> {
+    let Line::Command(command) = parse(alloc, line.as_bytes())? else {
+        return Err(Fail::new("no command"));
+    };
+    let Some(step) = first_step(alloc, command)? else {
+        return Err(Fail::new("no step"));
+    };
+    Ok(step)
+}
+
+/// The lines of a text, for so many threads.
+fn lines_of(alloc: Global, threads: usize, text: &str) -> Result<ThreadLines, Fail>
     ensures threads { IfOk result (λ lines. lines.threads ≡ threads) }
 {
     let mut lines = ThreadLines::new(alloc, threads);
-    for round in 1..rounds + 1 {
-        for writer in 1..5u32 {
-            let write = Write {
-                writer,
-                number: round,
-                volume: named(alloc)?,
-                offset: (writer as u64 - 1) * 512,
-                bytes: Bytes::new(vec![in alloc; writer as u8; 512]?),
-            };
-            lines.push(Step::Hold(writer))?;
-            lines.push(Step::Write(write))?;
-            lines.push(Step::Release(writer))?;
+    for line in text.lines() {
+        let step = step_of(alloc, line)?;
+        if !lines.push(step)? {
+            return Err(Fail::new("no line of threads"));
         }
     }
-    let name = named(alloc)?;
-    lines.push(Step::Read {
-        name,
-        offset: 0,
-        len: 2048,
-    })?;
     Ok(lines)
 }
 
@@ -133,17 +127,18 @@ fn in_threads<L: Ledger + Send + Sync, M: Ledger + Send + Sync, R: Threads + Wai
     Ok(String::from_utf8(output)?)
 }
 
-/// The same by so many threads, over a pool whose second disk stops.
+/// The same by so many threads, over a pool whose second disk has this fault.
 fn shared_text<R: Threads + Wait + Sync>(
     rt: &R,
     alloc: Global,
     threads: usize,
-    stops_at: u64,
+    second: Fault,
+    lines: &str,
 ) -> Result<String, Fail>
     requires { (0 < threads) × (threads ≤ 64) }
 {
-    let lines = lines(alloc, threads, 20)?;
-    let pool = pool(alloc, stops_at)?;
+    let lines = lines_of(alloc, threads, lines)?;
+    let pool = pool(alloc, second)?;
     let parts = threads as u64 + 3;
     in_threads::<Brand, Brand, R>(rt, alloc, pool, lines, Blank::new(parts), Blank::new(parts))
 }
@@ -152,12 +147,7 @@ fn shared_text<R: Threads + Wait + Sync>(
 fn first_wrong(alloc: Global, pool: &mut Failing, record: &str) -> Result<Option<String>, Fail> {
     let mut lines = record.lines();
     while let Some(line) = lines.next() {
-        let Line::Command(command) = parse(alloc, line.as_bytes())? else {
-            return Err(Fail::new("no command"));
-        };
-        let Some(step) = first_step(alloc, command)? else {
-            return Err(Fail::new("no step"));
-        };
+        let step = step_of(alloc, line)?;
         let reply = reply_text(alloc, &pool.take_step(step))?;
         let said = lines.next().and_then(|said| said.strip_prefix("# "));
         if said != Some(reply.as_str()) {
@@ -167,26 +157,86 @@ fn first_wrong(alloc: Global, pool: &mut Failing, record: &str) -> Result<Option
     Ok(None)
 }
 
-/// In which call the second disk stops: among the first group's blocks that the threads write, and later.
-const STOPS: [u64; 3] = [120, 200, 333];
+/// What such threads print of so many rounds: it has the lines of each writer, ends with a commit and what is read, and such a pool
+/// gives the same replies again; and whether that pool then has lost its second disk, and no other.
+fn replayed<R: Threads + Wait + Abort + Sync>(
+    rt: &R,
+    alloc: Global,
+    threads: usize,
+    second: Fault,
+    turns: u64,
+) -> Result<(String, bool), Fail>
+    requires threads { (0 < threads) × (threads ≤ 64) }
+    requires turns { turns < 100000 }
+{
+    let lines = rounds(alloc, turns)?;
+    let text = shared_text(rt, alloc, threads, second, lines.as_str())?;
+    let end = end_of(alloc, turns)?;
+    assert!(rt; ends_behind_a_commit(text.as_str(), end.as_str()), "{text}");
+    let astray = first_astray(alloc, lines.as_str(), text.as_str())?;
+    assert_eq!(rt; astray, None);
+    let mut again = pool(alloc, second)?;
+    let wrong = first_wrong(alloc, &mut again, text.as_str())?;
+    assert_eq!(rt; wrong, None);
+    let marks = again.core.marks(alloc)?;
+    Ok((text, marks.as_slice() == [false, true, false].as_slice()))
+}
 
-const READ: &str = "\nread v 0 2048\n# 01x512 02x512 03x512 04x512\n";
+/// What the second disk fails: the flush of the blocks of the first group that the threads write, whatever it has, since the volume's own
+/// group made two; or from a call in the middle on all.
+const FAULTS: [Fault; 3] = [Fault::Flush(2), Fault::From(200), Fault::From(333)];
+
+const REPLAN: &str = "\ndevice\n# replan 1\n";
 
 #[test]
-fn a_disk_stops_under_threads(rt: HostRuntime) -> Result<(), Fail> {
+fn a_disk_fails_under_threads(rt: HostRuntime) -> Result<(), Fail> {
     let alloc = rt.alloc();
-    let mut replans = 0u64;
     for threads in 1..5usize {
-        for stops_at in STOPS {
-            let text = shared_text(&rt, alloc, threads, stops_at)?;
-            assert!(rt; text.as_str().ends_with(READ), "{text}");
-            if text.as_str().contains("\n# replan 1\n") {
-                replans = replans.saturating_add(1);
+        for second in FAULTS {
+            let (text, is_lost) = replayed(&rt, alloc, threads, second, 20)?;
+            if matches!(second, Fault::Flush(_)) {
+                assert!(rt; is_lost && text.as_str().contains(REPLAN), "{text}");
             }
-            let wrong = first_wrong(alloc, &mut pool(alloc, stops_at)?, text.as_str())?;
-            assert_eq!(rt; wrong, None);
         }
     }
-    assert!(rt; replans > 0);
+    Ok(())
+}
+
+/// More lines than a record has room for.
+#[test]
+fn a_disk_stops_while_sixteen_writers_fill_a_record(rt: HostRuntime) -> Result<(), Fail> {
+    let (text, is_lost) = replayed(&rt, rt.alloc(), 4, Fault::From(400), 444)?;
+    assert!(rt; is_lost);
+    assert!(rt; replies_in(text.as_str()) > ROOM as u64);
+    Ok(())
+}
+
+#[test]
+fn disks_are_taken_out_by_the_syncer(rt: HostRuntime) -> Result<(), Fail> {
+    taken_out::<Brand, Brand, _>(&rt, rt.alloc(), Blank::new(1), Blank::new(1))
+}
+
+fn taken_out<L: Ledger, M: Ledger, R: Wait + Abort>(
+    rt: &R,
+    alloc: Global,
+    steps: Blank,
+    calls: Blank,
+) -> Result<(), Fail>
+    requires steps { (steps.name ≡ L.name) × (steps.parts ≡ L.parts) }
+    requires calls { (calls.name ≡ M.name) × (calls.parts ≡ M.parts) }
+    requires one { (steps.parts ≡ 1) × (calls.parts ≡ 1) }
+{
+    let (books, all) = Books::<L, M>::open(steps, calls);
+    let Ok(recorded) = Recorded::new(alloc, pool(alloc, Fault::At(u64::MAX))?, books) else {
+        return Err(Fail::new("no memory for a record"));
+    };
+    let shared = SharedPool::new(recorded);
+    let mut syncer = shared.syncer(all);
+    assert!(rt; matches!(syncer.put_out(rt, 1), Ok(Reply::Out)));
+    assert!(rt; matches!(syncer.put_out(rt, 1), Ok(Reply::Refused(Cause::NotNow))));
+    assert!(rt; matches!(syncer.put_out(rt, 3), Ok(Reply::Refused(Cause::OutOfRange))));
+    assert!(rt; matches!(syncer.put_out(rt, 0), Ok(Reply::Out)));
+    let mut quiescer = shared.quiescer(syncer.into_shares());
+    assert!(rt; matches!(quiescer.close(rt), Ok(Reply::Refused(Cause::Suspended))));
     Ok(())
 }

@@ -13,6 +13,8 @@ mod in_threads;
 #[cfg(test)]
 mod made;
 #[cfg(test)]
+mod rounds;
+#[cfg(test)]
 mod schedules;
 #[cfg(test)]
 mod shared_plans;

@@ -1,7 +1,9 @@
 //! Schedules of which threads run a part: what they print, and that it is a schedule which gives the replies that it says.
 ghost use Rattle.std.specs.Prelude.{◌<◌, ◌≤◌};
 
+use crate::rounds::{FRONT, end_of, replies_in, rounds};
 use programs::{Alone, PoolOnDisks, Workers, schedule};
+use shared_pool::ROOM;
 use std::alloc::{AllocError, Global};
 use std::process::Abort;
 use std::sync::Wait;
@@ -72,14 +74,14 @@ fn said(alloc: Global, recounted: &str) -> Result<String, AllocError> {
     Ok(text)
 }
 
-/// A schedule is run to its end by so many threads, the last thing that it prints is this, and what it prints replays.
+/// What so many threads print of a schedule that is run to its end: its last part is this, and it replays.
 fn expect_replay<R: Threads + Wait + Abort + Sync>(
     rt: &R,
     alloc: Global,
     threads: usize,
     input: &str,
     last: &str,
-) -> Result<(), Fail>
+) -> Result<String, Fail>
     requires { (0 < threads) × (threads ≤ 64) }
 {
     let told = told_in_threads(rt, alloc, threads, input)?;
@@ -91,7 +93,7 @@ fn expect_replay<R: Threads + Wait + Abort + Sync>(
         "{}",
         told.output
     );
-    Ok(())
+    Ok(told.output)
 }
 
 /// Three writers, each of whom writes its block.
@@ -150,49 +152,16 @@ fn four_writers_of_a_schedule(rt: HostRuntime) -> Result<(), Fail> {
     Ok(())
 }
 
-/// The lines of one writer's turn: a write, or a snapshot.
-fn turn(alloc: Global, text: &mut String, writer: u64, round: u64) -> Result<(), AllocError>
-    requires { (writer < 100) × (round < 100000) }
-{
-    let line = if writer == 16 {
-        format!(in alloc; "hold 16\nsnapshot 16 {round} v s{round}\nrelease 16\n")?
-    } else {
-        let number = if writer == 1 { round + 1 } else { round };
-        let offset = writer * 512;
-        let byte = round % 90 + 10;
-        format!(in alloc;
-            "hold {writer}\nwrite {writer} {number} v {offset} 512 {byte}\nrelease {writer}\n"
-        )?
-    };
-    text.push_str(line.as_str())
-}
-
-/// So many rounds of writers 1 to 15, and of each hundredth one also a snapshot by writer 16.
-fn rounds(alloc: Global, rounds: u64) -> Result<String, Fail>
-    requires { rounds < 100000 }
-{
-    let mut text = String::new(alloc);
-    text.push_str(
-        "pool 1 3 8388608 12 2\nhold 1\ncreate 1 1 v 8192 512\nrelease 1\nsync\nthreads\n",
-    )?;
-    for round in 1..rounds + 1 {
-        for writer in 1..16 {
-            turn(alloc, &mut text, writer, round)?;
-        }
-        if round % 100 == 0 {
-            turn(alloc, &mut text, 16, round / 100)?;
-        }
-    }
-    text.push_str("read v 512 512\nread v@s1 0 0\n")?;
-    Ok(text)
-}
-
-const MANY: &str = "\nread v@s1 0 0\n# empty\n";
-
+/// Also where a record is full before all lines are sent: the writers alone have more lines than it has room for.
 #[test]
-fn sixteen_writers_and_twenty_thousand_lines(rt: HostRuntime) -> Result<(), Fail> {
-    let input = rounds(rt.alloc(), 444)?;
-    expect_replay(&rt, rt.alloc(), 4, input.as_str(), MANY)
+fn sixteen_writers_fill_a_record(rt: HostRuntime) -> Result<(), Fail> {
+    let alloc = rt.alloc();
+    let lines = rounds(alloc, 444)?;
+    let input = format!(in alloc; "{FRONT}{lines}")?;
+    let end = end_of(alloc, 444)?;
+    let output = expect_replay(&rt, alloc, 4, input.as_str(), end.as_str())?;
+    assert!(rt; replies_in(output.as_str()) > 5 + ROOM as u64);
+    Ok(())
 }
 
 /// Schedules, and what is told: the output, the fault, and the number at the end.

@@ -12,6 +12,6 @@ returns-clause-answered g c =
     let called = c.plan_with.ensures in (
       if_ok_weaker (λ reply. Takes g.C.PoolSteps old (steps.Plan c.args.timestamp) reply new) (WasTaken g.C.PoolSteps (steps.Plan c.args.timestamp)) c.plan_with.result
           (λ reply taken. record { old = old; new = new; before = called.before; taken = taken; after = called.after }) called.taken,
-      if_err_weaker (λ refusal. HindersStep refusal old) (WasHindered g.C.PoolSteps) c.plan_with.result
+      if_err_weaker (λ refusal. HindersStep (steps.Plan c.args.timestamp) refusal old) (WasHindered g.C.PoolSteps (steps.Plan c.args.timestamp)) c.plan_with.result
           (λ refusal hindered. record { old = old; before = called.before; hindered = hindered }) called.hindered,
     )

@@ -1,0 +1,123 @@
+//! Lines of sixteen writers, of whom the last takes snapshots.
+ghost use Rattle.std.specs.Prelude.{◌<◌};
+
+use std::alloc::{AllocError, Global};
+use std::test::*;
+
+/// What comes before them.
+pub(crate) const FRONT: &str = "pool 1 3 8388608 12 2
+hold 1
+create 1 1 v 8192 512
+release 1
+sync
+threads
+";
+
+/// How often a writer asks for a hold that it gets once.
+const HOLDS: u32 = 8;
+
+fn push_holds(alloc: Global, text: &mut String, writer: u64) -> Result<(), AllocError> {
+    let line = format!(in alloc; "hold {writer}\n")?;
+    for _ in 0..HOLDS {
+        text.push_str(line.as_str())?;
+    }
+    Ok(())
+}
+
+/// The lines of one writer's turn: a write, or a snapshot.
+fn push_turn(alloc: Global, text: &mut String, writer: u64, round: u64) -> Result<(), AllocError>
+    requires { (writer < 100) × (round < 100000) }
+{
+    push_holds(alloc, text, writer)?;
+    let line = if writer == 16 {
+        format!(in alloc; "snapshot 16 {round} v s{round}\nrelease 16\n")?
+    } else {
+        let number = if writer == 1 { round + 1 } else { round };
+        let offset = writer * 512;
+        let byte = round % 90 + 10;
+        format!(in alloc; "write {writer} {number} v {offset} 512 {byte}\nrelease {writer}\n")?
+    };
+    text.push_str(line.as_str())
+}
+
+/// So many rounds of writers 1 to 15, in one of a hundred also a snapshot by writer 16; and then two reads.
+pub(crate) fn rounds(alloc: Global, rounds: u64) -> Result<String, Fail>
+    requires { rounds < 100000 }
+{
+    let mut text = String::new(alloc);
+    for round in 1..rounds + 1 {
+        for writer in 1..16 {
+            push_turn(alloc, &mut text, writer, round)?;
+        }
+        if round % 100 == 4 {
+            push_turn(alloc, &mut text, 16, round / 100 + 1)?;
+        }
+    }
+    text.push_str("read v 512 512\nread v@s1 0 0\n")?;
+    Ok(text)
+}
+
+/// How the record of so many rounds ends.
+pub(crate) fn end_of(alloc: Global, rounds: u64) -> Result<String, AllocError> {
+    let byte = rounds % 90 + 10;
+    format!(in alloc; "\nread v 512 512\n# {byte}x512\nread v@s1 0 0\n# empty\n")
+}
+
+/// Whether a record ends so, behind a commit.
+pub(crate) fn ends_behind_a_commit(record: &str, end: &str) -> bool {
+    let Some(front) = record.strip_suffix(end) else {
+        return false;
+    };
+    match front.rsplit_once('\n') {
+        Some((_, last)) => last.starts_with("# committed "),
+        None => false,
+    }
+}
+
+/// How many replies stand in a schedule as comments.
+pub(crate) fn replies_in(text: &str) -> u64 {
+    let mut count = 0u64;
+    for line in text.lines() {
+        if line.starts_with("# ") {
+            count = count.saturating_add(1);
+        }
+    }
+    count
+}
+
+/// The second word of a line.
+fn second_word(line: &str) -> Option<&str> {
+    let (_, rest) = line.split_once(' ')?;
+    match rest.split_once(' ') {
+        Some((word, _)) => Some(word),
+        None => Some(rest),
+    }
+}
+
+/// The lines of one writer, whose number this word is.
+fn lines_by(alloc: Global, text: &str, writer: &str) -> Result<String, AllocError> {
+    let mut own = String::new(alloc);
+    for line in text.lines() {
+        if second_word(line) == Some(writer) {
+            own.push_str(line)?;
+            own.push_str("\n")?;
+        }
+    }
+    Ok(own)
+}
+
+/// The first of writers 1 to 15 whose lines in a record are not just those that were handed in, in their order. (Writer 16's actions may come
+/// too late, and are sent again.)
+pub(crate) fn first_astray(
+    alloc: Global,
+    lines: &str,
+    record: &str,
+) -> Result<Option<u64>, AllocError> {
+    for writer in 1..16u64 {
+        let word = format!(in alloc; "{writer}")?;
+        if lines_by(alloc, lines, word.as_str())? != lines_by(alloc, record, word.as_str())? {
+            return Ok(Some(writer));
+        }
+    }
+    Ok(None)
+}
