@@ -568,7 +568,7 @@ const NO_CALL_LEFT: &str = "pool 2 5 8388608 12 2
 close -> closed 4
 quiesced -> quiesced 4
 plan -> planned 4
-times 3 device -> moved Blocks
+times 22 device -> moved Blocks
 times 2 device -> moved BlocksFlush
 times 5 device -> moved Slots
 device -> moved SlotsFlush
