@@ -204,8 +204,8 @@ fn a_disk_fails_under_threads(rt: HostRuntime) -> Result<(), Fail> {
 
 /// More lines than a record has room for.
 #[test]
-fn a_disk_stops_while_sixteen_writers_fill_a_record(rt: HostRuntime) -> Result<(), Fail> {
-    let (text, is_lost) = replayed(&rt, rt.alloc(), 4, Fault::From(250), 444)?;
+fn a_disk_fails_while_sixteen_writers_fill_a_record(rt: HostRuntime) -> Result<(), Fail> {
+    let (text, is_lost) = replayed(&rt, rt.alloc(), 4, Fault::Flush(2), 444)?;
     assert!(rt; is_lost);
     assert!(rt; replies_in(text.as_str()) > ROOM as u64);
     Ok(())
