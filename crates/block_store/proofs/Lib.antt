@@ -13,6 +13,7 @@ pub mod Fitting
 pub mod Items
 pub mod Kept
 pub mod Losses
+pub mod Causes
 pub mod Lost
 pub mod Making
 pub mod Reopening

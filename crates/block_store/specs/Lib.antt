@@ -7,6 +7,7 @@ pub mod Elsewhere
 pub mod Forgetting
 pub mod Laws
 pub mod Losses
+pub mod Causes
 pub mod Opened
 pub mod Places
 pub mod Plans

@@ -4,6 +4,7 @@ ghost use Rattle.sha2.specs.Sha256.{sha256};
 ghost use Rattle.block_pointer.specs.Copies.{dvas};
 ghost use Rattle.raidz_io.specs.Reads.{OnlyReads, AreUntouched, IsHonestSince};
 ghost use Rattle.block_store.specs.Blocks.{Contents};
+ghost use Rattle.block_store.specs.Causes.{IsCaused};
 ghost use Rattle.block_store.specs.Losses.{IsForLoss};
 ghost use Rattle.block_store.specs.Plans.{KeepsPlans};
 ghost use Rattle.block_store.specs.Reading.{Asks, IsReadable, IsLastFault, IsFirstRead, IsFault};
@@ -55,6 +56,7 @@ impl<D: Disk + Drop> BlockStore<D> {
         ensures refused { IfErr result (λ refusal. (refusal ≡ Refusal.NoMemory)
             ⊎ (((refusal ≡ Refusal.BadPointer) × ¬ IsReadable self.old.spaces asked block.now)
             ⊎ IsLastFault self.old self.new (outs self.old ++ missing.now) block.now refusal)) }
+        ensures caused { IfErr result (IsCaused self.old self.new missing.now) }
 
         // And it is read, over disks that answer truly, unless too many disks miss of the block.
         ensures known { IfErr result (λ refusal. (stored : Contents) (bytes : List ℕ)
