@@ -1,5 +1,8 @@
 use Rattle.std.proofs.Common.{◌≡◌, ◌++◌, rules, false, true, refl, ap, ◌∙◌}
 use Rattle.block_store.specs.Store.{Store, outs}
+use Rattle.std.proofs.lemmas.Result.{IfErr-weaker}
+use Rattle.block_store.specs.Reading.{IsReadable}
+use Rattle.block_store.proofs.Causes.{read_is_caused}
 use Rattle.block_store.proofs.Kept.{keeps, keeps_plans}
 use Rattle.block_store.proofs.Planning.{stores_same}
 use Rattle.block_store.proofs.ReadingPointers.{in_places}
@@ -42,5 +45,8 @@ returns g c =
       first = first_read c.args.self.now c.read_places.new.self c.args.missing.now c.args.block.now c.read_places.result is;
       bytes = bytes_right laws c.args.self.now c.read_places.new.self c.args.missing.now c.args.block.now c.read_places.result is;
       refused = last_fault c.args.self.now c.read_places.new.self c.args.missing.now c.args.block.now c.args.asked c.read_places.result is;
+      caused = IfErr-weaker c.read_places.result _ _
+          (λ refusal why. read_is_caused c.args.self.now c.read_places.new.self c.args.missing.now c.args.block.now (¬ IsReadable c.args.self.now.spaces c.args.asked c.args.block.now) refusal why)
+          (last_fault c.args.self.now c.read_places.new.self c.args.missing.now c.args.block.now c.args.asked c.read_places.result is);
       known = is_known laws c.args.self.now c.read_places.new.self c.args.missing.now c.args.block.now c.args.asked c.read_places.result is;
     }
