@@ -3,6 +3,7 @@ ghost use Rattle.std.specs.Prelude.{◌≡◌, ◌≢◌, ◌+◌, ◌*◌, ◌^
 ghost use Rattle.block_pointer.specs.declared.block.Block.{Block};
 ghost use Rattle.block_pointer.specs.declared.pointer.BlockPtr.{BlockPtr};
 ghost use Rattle.dnode.specs.Indirect.{SpellsIndirect};
+ghost use Rattle.block_store.specs.Causes.{IsCaused};
 ghost use Rattle.block_store.specs.Blocks.{Contents};
 ghost use Rattle.block_store.specs.Losses.{IsForLoss};
 ghost use Rattle.block_store.specs.Reading.{Asks};
@@ -70,6 +71,7 @@ pub(crate) fn read_indirect<D: Disk + Drop>(
     ensures asks { IfOk result (λ found. Asks asked block.now) }
     ensures read { IfOk result (AreReadAs store.old.spaces asked block.now) }
     ensures refused { IfErr result (IsBlockFault store.old store.new missing.now asked block.now) }
+    ensures caused { IfErr result (IsCaused store.old store.new missing.now) }
     ensures count { IfOk result (λ found. length found ≡ 128) }
     ensures value { IfOk result (λ found. (stored : Contents) (bytes : List ℕ)
         (pointers : List BlockPtr) → Holds store.old stored
@@ -128,6 +130,7 @@ pub(crate) fn parts_of<D: Disk + Drop>(
     ensures read { IfOk result (ArePartsRead store.old.spaces (property_of node.now) part) }
     ensures refused { IfErr result (λ refusal. (place : ℕ) → IsRefusedBelow store.old store.new
         missing.now (property_of node.now) (reached_part part) place refusal) }
+    ensures caused { IfErr result (IsCaused store.old store.new missing.now) }
     ensures cause { IfErr result (λ refusal. refusal ≢ Refusal.NoSpace) }
     ensures known { IfErr result (λ refusal. (stored : Contents) (first : ℕ)
         (array : ℕ → Option (List ℕ)) (blocks : List Block) → Holds store.old stored

@@ -2,6 +2,7 @@
 ghost use Rattle.std.specs.Prelude.{◌≡◌, ◌≢◌, ◌^◌, ◌<◌, ◌≤◌, ◌↔◌, ◌⊎◌, ℕ, List, Option, Contains, OnOk, IfOk, IfErr, ◌++◌, ◌∷◌, []};
 ghost use Rattle.std.specs.Bool.{MatchBool};
 ghost use Rattle.block_pointer.specs.declared.block.Block.{Block};
+ghost use Rattle.block_store.specs.Causes.{IsCaused};
 ghost use Rattle.block_store.specs.Blocks.{Contents};
 ghost use Rattle.block_store.specs.Losses.{IsForLoss};
 ghost use Rattle.block_store.specs.Store.{Holds};
@@ -51,6 +52,7 @@ pub fn free_blocks<D: Disk + Drop>(
         (property_of after.now) (root_of after.now birth) refusal
         ⊎ IsWalkRefused store.old store.new missing.now (property_of before.now)
         (root_of before.now birth) refusal) }
+    ensures caused { IfErr result (IsCaused store.old store.new missing.now) }
 {
     let others = walk(after, store, alloc, birth, missing)?;
     let blocks = walk(before, store, alloc, birth, missing)?;

@@ -3,6 +3,7 @@ ghost use Rattle.std.specs.Prelude.{◌≡◌, ◌≢◌, ◌⊎◌, ◌+◌, �
 ghost use Rattle.std.specs.List.Sorted.{IsStrictlyIncreasing};
 ghost use Rattle.block_pointer.specs.declared.block.Block.{Block};
 ghost use Rattle.block_pointer.specs.declared.pointer.BlockPtr.{BlockPtr};
+ghost use Rattle.block_store.specs.Causes.{IsCaused};
 ghost use Rattle.block_store.specs.Blocks.{Contents};
 ghost use Rattle.block_store.specs.Losses.{IsForLoss};
 ghost use Rattle.block_store.specs.Reading.{Asks, IsReadable, IsLastFault};
@@ -45,6 +46,7 @@ pub fn get_many<D: Disk + Drop>(
         AreFound store.old.spaces node.now birth ids.now found.items) }
     ensures refused { IfErr result (λ refusal. (refusal ≡ Refusal.NoMemory)
         ⊎ IsOneRefused store.old store.new missing.now node.now birth ids.now refusal) }
+    ensures caused { IfErr result (IsCaused store.old store.new missing.now) }
     ensures cause { IfErr result (λ refusal. refusal ≢ Refusal.NoSpace) }
 
     // And a whole tree is read, over disks that answer truly, unless too many disks miss of a block.
@@ -95,6 +97,7 @@ impl<'a> TreeReading<'a> {
             ids.now found.old.items found.new.items) }
         ensures refused { IfErr result (IsOneRefusedIn store.old store.new self.entry.missing.now
             self.entry.node.now part first ids.now) }
+        ensures caused { IfErr result (IsCaused store.old store.new self.entry.missing.now) }
         ensures cause { IfErr result (λ refusal. refusal ≢ Refusal.NoSpace) }
         ensures known { IfErr result (λ refusal. (stored : Contents)
             (array : ℕ → Option (List ℕ)) (blocks : List Block) → Holds store.old stored
@@ -144,6 +147,7 @@ impl<'a> TreeReading<'a> {
             ⊎ (((refusal ≡ Refusal.BadPointer) × ¬ IsReadable store.old.spaces asked block.now)
             ⊎ IsLastFault store.old store.new (outs store.old ++ self.entry.missing.now)
             block.now refusal)) }
+        ensures caused { IfErr result (IsCaused store.old store.new self.entry.missing.now) }
         ensures cause { IfErr result (λ refusal. refusal ≢ Refusal.NoSpace) }
         ensures known { IfErr result (λ refusal. (stored : Contents) (bytes : List ℕ)
             → Holds store.old stored → stored block.now ≡ Some bytes → Asks asked block.now

@@ -4,6 +4,7 @@ ghost use Rattle.std.specs.List.{AllByRecursion};
 ghost use Rattle.block_pointer.specs.Block.{FitsBlock};
 ghost use Rattle.block_pointer.specs.Copies.{dvas};
 ghost use Rattle.dnode.specs.Node.{IsNode};
+ghost use Rattle.block_store.specs.Causes.{IsCaused};
 ghost use Rattle.block_store.specs.Blocks.{Contents, Adds};
 ghost use Rattle.block_store.specs.Demands.{HavePlaces, LackPlaces};
 ghost use Rattle.block_store.specs.Plans.{Plans};
@@ -51,6 +52,8 @@ impl<'a> Rewriting<'a> {
             → Plans store.old stored planned → (later : Contents) × Plans store.new stored later
             × Adds planned later block bytes.now) }
         ensures refused { IfErr result IsForRoom }
+        ensures caused { (missing : List ℕ)
+            → IfErr result (IsCaused store.old store.new missing) }
         ensures no_room { IfErr result (λ refusal. refusal ≡ Refusal.NoSpace
             → (missing : List ℕ)
             → HasNoRoom store.old store.new missing self.entry.node.now self.entry.copies) }

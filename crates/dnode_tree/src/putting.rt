@@ -4,6 +4,7 @@ ghost use Rattle.block_pointer.specs.declared.block.Block.{Block};
 ghost use Rattle.block_pointer.specs.Pointer.{Fits};
 ghost use Rattle.dnode.specs.Indirect.{fill_of};
 ghost use Rattle.dnode.specs.Node.{FitsNode};
+ghost use Rattle.block_store.specs.Causes.{IsCaused};
 ghost use Rattle.block_store.specs.Blocks.{Contents};
 ghost use Rattle.block_store.specs.Demands.{HavePlaces, LackPlaces};
 ghost use Rattle.block_store.specs.Plans.{Plans};
@@ -86,6 +87,7 @@ pub fn put_many<D: Disk + Drop>(
         ⊎ (((refusal ≡ Refusal.NoSpace) × LackPlaces store.old.spaces
         (demands_of node.now copies writes.now) store.new.spaces)
         ⊎ IsWriteRefused store.old store.new missing.now node.now birth writes.now refusal)) }
+    ensures caused { IfErr result (IsCaused store.old store.new missing.now) }
 {
     let rewriting = Rewriting {
         node,
@@ -155,6 +157,7 @@ impl<'a> Rewriting<'a> {
             writes.now) }
         ensures refused { IfErr result (IsPartRefused store.old store.new self.entry.missing.now
             self.entry.node.now (root_part self.entry) 0 writes.now) }
+        ensures caused { IfErr result (IsCaused store.old store.new self.entry.missing.now) }
     {
         if writes.is_empty() {
             return Ok(self.node.pointer);
@@ -210,6 +213,7 @@ impl<'a> Rewriting<'a> {
             ⊎ IsOverfull level root) }
         ensures refused { IfErr result (λ refusal. IsForRoom refusal
             ⊎ ((refusal ≡ Refusal.BadPointer) × IsOverfull level root)) }
+        ensures caused { IfErr result (IsCaused store.old store.new self.entry.missing.now) }
     {
         if root.is_hole() && writes.is_empty() {
             return Ok(BlockPtr::Hole);

@@ -2,6 +2,7 @@
 ghost use Rattle.std.specs.Prelude.{◌≡◌, ◌≢◌, ◌+◌, ◌^◌, ◌<◌, ℕ, List, Option, IfOk, IfErr, IfSome};
 ghost use Rattle.std.specs.Option.{option_map};
 ghost use Rattle.block_pointer.specs.declared.block.Block.{Block};
+ghost use Rattle.block_store.specs.Causes.{IsCaused};
 ghost use Rattle.block_store.specs.Blocks.{Contents};
 ghost use Rattle.block_store.specs.Losses.{IsForLoss};
 ghost use Rattle.block_store.specs.Store.{Holds};
@@ -47,6 +48,7 @@ pub fn get<D: Disk + Drop>(
     ensures found { IfOk result (λ found. IsFound store.old.spaces node.now birth id
         (bytes_of found)) }
     ensures refused { IfErr result (IsRefused store.old store.new missing.now node.now birth id) }
+    ensures caused { IfErr result (IsCaused store.old store.new missing.now) }
     ensures cause { IfErr result (λ refusal. refusal ≢ Refusal.NoSpace) }
 
     // And a whole tree is read, over disks that answer truly, unless too many disks miss of a block.
@@ -85,6 +87,7 @@ pub fn get_block<D: Disk + Drop>(
     // Whatever the tree is: what was read on the way, and on a refusal its cause there.
     ensures found { IfOk result (IsBlockFound store.old.spaces node.now birth id) }
     ensures refused { IfErr result (IsRefused store.old store.new missing.now node.now birth id) }
+    ensures caused { IfErr result (IsCaused store.old store.new missing.now) }
     ensures cause { IfErr result (λ refusal. refusal ≢ Refusal.NoSpace) }
 
     // And a whole tree is read, over disks that answer truly, unless too many disks miss of a block.
@@ -129,6 +132,7 @@ fn get_below<D: Disk + Drop>(
     ensures refused { IfErr result (IsRefusedBelow store.old store.new missing.now
         (property_of node.now)
         (reached part.level part.pointer part.birth) place) }
+    ensures caused { IfErr result (IsCaused store.old store.new missing.now) }
     ensures cause { IfErr result (λ refusal. refusal ≢ Refusal.NoSpace) }
     ensures known { IfErr result (λ refusal. (stored : Contents) (first : ℕ)
         (array : ℕ → Option (List ℕ)) (blocks : List Block) → Holds store.old stored

@@ -1,6 +1,7 @@
 //! All blocks of a tree.
 ghost use Rattle.std.specs.Prelude.{◌≡◌, ◌≢◌, ◌++◌, ◌^◌, ◌<◌, ◌∷◌, [], ℕ, List, Option, OnOk, IfOk, IfErr, ◌↔◌, IsTrue};
 ghost use Rattle.block_pointer.specs.declared.block.Block.{Block};
+ghost use Rattle.block_store.specs.Causes.{IsCaused};
 ghost use Rattle.block_store.specs.Blocks.{Contents};
 ghost use Rattle.block_store.specs.Losses.{IsForLoss};
 ghost use Rattle.block_store.specs.Reading.{Asks};
@@ -38,6 +39,7 @@ pub fn walk<D: Disk + Drop>(
     ensures found { IfOk result (λ found. AreWalked store.old.spaces node.now birth found.items) }
     ensures refused { IfErr result (IsWalkRefused store.old store.new missing.now
         (property_of node.now) (root_of node.now birth)) }
+    ensures caused { IfErr result (IsCaused store.old store.new missing.now) }
     ensures cause { IfErr result (λ refusal. refusal ≢ Refusal.NoSpace) }
 
     // And a whole tree is walked, over disks that answer truly, unless too many disks miss of a block.
@@ -77,6 +79,7 @@ fn collect_below<D: Disk + Drop>(
     ensures refused { IfErr result (IsWalkRefused store.old store.new missing.now
         (property_of node.now)
         (reached part.level part.pointer part.birth)) }
+    ensures caused { IfErr result (IsCaused store.old store.new missing.now) }
     ensures cause { IfErr result (λ refusal. refusal ≢ Refusal.NoSpace) }
     ensures known { IfErr result (λ refusal. (stored : Contents) (first : ℕ)
         (array : ℕ → Option (List ℕ)) (blocks : List Block) → Holds store.old stored

@@ -1,6 +1,7 @@
 //! Walks over a tree that need not be one: so many blocks are read at most.
 ghost use Rattle.std.specs.Prelude.{◌≡◌, ◌≢◌, ◌⊎◌, ◌↔◌, ◌+◌, ◌++◌, ◌^◌, ◌<◌, ◌≤◌, ℕ, List, Option, All, OnOk, IfOk, IfErr, IsTrue, filter};
 ghost use Rattle.block_pointer.specs.declared.block.Block.{Block};
+ghost use Rattle.block_store.specs.Causes.{IsCaused};
 ghost use Rattle.block_store.specs.Blocks.{Contents};
 ghost use Rattle.block_store.specs.Losses.{IsForLoss};
 ghost use Rattle.block_store.specs.Steps.{OnlyReadsBlocks, AnswersAreTrue};
@@ -47,6 +48,7 @@ pub fn walk_within<D: Disk + Drop>(
     ensures count { IfOk result (λ found. left.old ≡ left.new + indirect_count found.items) }
     ensures refused { IfErr result
         (IsWithinRefused store.old store.new missing.now node.now birth left.new) }
+    ensures caused { IfErr result (IsCaused store.old store.new missing.now) }
     ensures cause { IfErr result (λ refusal. refusal ≢ Refusal.NoSpace) }
 
     // And a whole tree that has each block once is walked, over disks that answer truly, where as
@@ -97,6 +99,7 @@ pub fn walk_younger<D: Disk + Drop>(
     ensures count { IfOk result (λ found. left.old ≡ left.new + indirect_count found.items) }
     ensures refused { IfErr result (IsWithinRefusedWhere (is_younger since)
         store.old store.new missing.now node.now birth left.new) }
+    ensures caused { IfErr result (IsCaused store.old store.new missing.now) }
     ensures cause { IfErr result (λ refusal. refusal ≢ Refusal.NoSpace) }
 
     // And a whole tree that has each younger block once is walked, over disks that answer truly,
@@ -148,6 +151,7 @@ impl<'a> TreeWalk<'a> {
         ensures count { IfOk result (λ found. left.old ≡ left.new + indirect_count found.items) }
         ensures refused { IfErr result (IsWithinRefusedWhere (is_picked self.entry.since)
             store.old store.new self.entry.missing.now self.entry.node.now birth left.new) }
+        ensures caused { IfErr result (IsCaused store.old store.new self.entry.missing.now) }
         ensures cause { IfErr result (λ refusal. refusal ≢ Refusal.NoSpace) }
         ensures known { IfErr result (λ refusal. (stored : Contents)
             (array : ℕ → Option (List ℕ)) (blocks : List Block) → Holds store.old stored
@@ -197,6 +201,7 @@ impl<'a> TreeWalk<'a> {
             store.old store.new self.entry.missing.now (property_of self.entry.node.now)
             (reached part.level part.pointer part.birth) refusal
             ⊎ ((refusal ≡ Refusal.BadPointer) × (left.new ≡ 0))) }
+        ensures caused { IfErr result (IsCaused store.old store.new self.entry.missing.now) }
         ensures cause { IfErr result (λ refusal. refusal ≢ Refusal.NoSpace) }
         ensures known { IfErr result (λ refusal. (stored : Contents) (first : ℕ)
             (array : ℕ → Option (List ℕ)) (blocks : List Block) → Holds store.old stored

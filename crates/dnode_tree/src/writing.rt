@@ -5,6 +5,7 @@ ghost use Rattle.block_pointer.specs.Block.{FitsBlock};
 ghost use Rattle.dnode.specs.Indirect.{total_fill};
 ghost use Rattle.dnode.specs.Node.{IsNode};
 ghost use Rattle.dnode_tree.specs.declared.writes.BlockWrite.{BlockWrite};
+ghost use Rattle.block_store.specs.Causes.{IsCaused};
 ghost use Rattle.block_store.specs.Demands.{HavePlaces, LackPlaces};
 ghost use Rattle.block_store.specs.Steps.{OnlyReadsAndPlans};
 ghost use Rattle.dnode_tree.specs.PartsRefused.{IsPartOverfull, IsPartRefused, ArePartsOverfull, ArePartsRefused};
@@ -73,6 +74,7 @@ impl<'a> Rewriting<'a> {
             ⊎ IsPartOverfull store.old.spaces self.entry.node.now part first writes.now) }
         ensures refused { IfErr result (IsPartRefused store.old store.new self.entry.missing.now
             self.entry.node.now part first writes.now) }
+        ensures caused { IfErr result (IsCaused store.old store.new self.entry.missing.now) }
     {
         note(replaced, part.pointer)?;
         if part.level == 0 {
@@ -130,6 +132,7 @@ impl<'a> Rewriting<'a> {
             ⊎ ArePartsOverfull store.old.spaces self.entry.node.now parts first from writes.now) }
         ensures refused { IfErr result (ArePartsRefused store.old store.new self.entry.missing.now
             self.entry.node.now parts first from writes.now) }
+        ensures caused { IfErr result (IsCaused store.old store.new self.entry.missing.now) }
     {
         let Parts {
             mut pointers,

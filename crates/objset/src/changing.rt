@@ -1,6 +1,7 @@
 //! Objects of a set are changed together.
 ghost use Rattle.std.specs.Prelude.{◌≡◌, ◌≢◌, ◌⊎◌, ◌↔◌, ◌*◌, ◌^◌, ◌<◌, ◌≤◌, ◌++◌, ◌∷◌, [], ℕ, List, Option, map, All, AllPairs, Any, IsTrue, OnOk, IfOk, IfErr};
 ghost use Rattle.block_pointer.specs.declared.block.Block.{Block};
+ghost use Rattle.block_store.specs.Causes.{IsCaused};
 ghost use Rattle.block_store.specs.Blocks.{Contents};
 ghost use Rattle.block_store.specs.Demands.{Demand, HavePlaces};
 ghost use Rattle.block_store.specs.Losses.{IsForLoss};
@@ -89,6 +90,7 @@ pub fn change<D: Disk + Drop>(
         × LacksRoom store.old store.new set.now birth (copies_of set.now.kind) changes.now)
         ⊎ IsChangeRefused store.old store.new missing.now set.now before birth changes.now
         refusal)) }
+    ensures caused { IfErr result (IsCaused store.old store.new missing.now) }
 {
     check_root(&set.dnodes.pointer, before)?;
     let copies = SetCopies::of_kind(set.kind);
@@ -152,6 +154,7 @@ impl<'a> Changing<'a> {
             × LacksRoomForFirst self.entry store.old store.new set.now changes.now)
             ⊎ AreObjectsRefused store.old store.new self.entry.missing.now set.now self.entry.birth
             changes.now refusal)) }
+        ensures caused { IfErr result (IsCaused store.old store.new self.entry.missing.now) }
     {
         let mut writes = Vec::new(alloc);
         for change in changes {
@@ -189,6 +192,7 @@ impl<'a> Changing<'a> {
             × LackPlacesFor self.entry store.old store.new set.now (change.now ∷ []))
             ⊎ AreObjectsRefused store.old store.new self.entry.missing.now set.now self.entry.birth
             (change.now ∷ []) refusal)) }
+        ensures caused { IfErr result (IsCaused store.old store.new self.entry.missing.now) }
     {
         let number = change.number;
         let found = crate::node_reading::get(set, store, alloc, number, self.birth, self.missing)?;
@@ -222,6 +226,7 @@ impl<'a> Changing<'a> {
             (demands_of_change self.entry.copies change.now dnode) store.new.spaces) }
         ensures refused { IfErr result
             (IsDnodeRefused self.entry store.old store.new dnode change.now) }
+        ensures caused { IfErr result (IsCaused store.old store.new self.entry.missing.now) }
     {
         match change {
             Change::Create {
@@ -293,6 +298,7 @@ impl<'a> Changing<'a> {
             (object_copies self.entry.copies) writes.now) store.new.spaces) }
         ensures refused { IfErr result
             (IsReplaceRefused self.entry store.old store.new node.now writes.now) }
+        ensures caused { IfErr result (IsCaused store.old store.new self.entry.missing.now) }
     {
         free_object(node, store, alloc, self.birth, self.missing, replaced)?;
         let empty = ObjectNode {
@@ -328,6 +334,7 @@ impl<'a> Changing<'a> {
             (demands_of node.now (object_copies self.entry.copies) writes.now) store.new.spaces) }
         ensures refused { IfErr result
             (IsWritingRefused self.entry store.old store.new node.now writes.now) }
+        ensures caused { IfErr result (IsCaused store.old store.new self.entry.missing.now) }
     {
         let done = dnode_tree::put_many(
             node,
@@ -412,6 +419,7 @@ fn free_object<D: Disk + Drop>(
     ensures refused { IfErr result (λ refusal. (refusal ≡ Refusal.NoMemory)
         ⊎ IsWalkRefused store.old store.new missing.now
         (property_of node.now) (root_of node.now birth) refusal) }
+    ensures caused { IfErr result (IsCaused store.old store.new missing.now) }
 {
     let blocks = dnode_tree::walk(node, store, alloc, birth, missing)?;
     replaced.extend_from_slice(&blocks)?;

@@ -1,6 +1,7 @@
 //! What is known of an object without its data.
 ghost use Rattle.std.specs.Prelude.{◌≡◌, ◌≢◌, ◌^◌, ◌<◌, ℕ, List, Option, IfOk, IfErr, IfSome};
 ghost use Rattle.block_pointer.specs.declared.block.Block.{Block};
+ghost use Rattle.block_store.specs.Causes.{IsCaused};
 ghost use Rattle.block_store.specs.Blocks.{Contents};
 ghost use Rattle.block_store.specs.Losses.{IsForLoss};
 ghost use Rattle.block_store.specs.Steps.{OnlyReadsBlocks, AnswersAreTrue};
@@ -39,6 +40,7 @@ pub fn find<D: Disk + Drop>(
     ensures found { IfOk result (IsShapeFound store.old.spaces set.now birth number) }
     ensures refused { IfErr result
         (IsNodeRefused store.old store.new missing.now set.now birth number) }
+    ensures caused { IfErr result (IsCaused store.old store.new missing.now) }
     ensures cause { IfErr result (λ refusal. refusal ≢ Refusal.NoSpace) }
 
     // And it is found, over disks that answer truly, unless too many disks miss of a block.

@@ -4,6 +4,7 @@ ghost use Rattle.std.specs.Option.{option_map};
 ghost use Rattle.block_pointer.specs.declared.block.Block.{Block};
 ghost use Rattle.dnode.specs.declared.dnode.Dnode.{Dnode};
 ghost use Rattle.dnode.specs.ObjectSet.{FitsObjectSet};
+ghost use Rattle.block_store.specs.Causes.{IsCaused};
 ghost use Rattle.block_store.specs.Blocks.{Contents};
 ghost use Rattle.block_store.specs.Losses.{IsForLoss};
 ghost use Rattle.block_store.specs.Store.{Holds};
@@ -39,6 +40,7 @@ pub(crate) fn block_at<D: Disk + Drop>(
         (bytes_of found)) }
     ensures refused { IfErr result
         (IsRefused store.old store.new missing.now set.now.dnodes birth id) }
+    ensures caused { IfErr result (IsCaused store.old store.new missing.now) }
     ensures cause { IfErr result (λ refusal. refusal ≢ Refusal.NoSpace) }
     ensures known { IfErr result (λ refusal. (stored : Contents) (array : ℕ → Option (List ℕ))
         (blocks : List Block) → Holds store.old stored
@@ -66,6 +68,7 @@ pub(crate) fn block_or_zeros<D: Disk + Drop>(
         → AnswersAreTrue store.old store.new → HasSlots bytes.items id nodes) }
     ensures refused { IfErr result
         (IsRefused store.old store.new missing.now set.now.dnodes birth id) }
+    ensures caused { IfErr result (IsCaused store.old store.new missing.now) }
     ensures cause { IfErr result (λ refusal. refusal ≢ Refusal.NoSpace) }
     ensures known { IfErr result (λ refusal. (stored : Contents) (array : ℕ → Option (List ℕ))
         (blocks : List Block) → Holds store.old stored

@@ -3,6 +3,7 @@ ghost use Rattle.std.specs.Prelude.{◌≡◌, ◌⊎◌, ◌*◌, ◌^◌, ◌<
 ghost use Rattle.block_pointer.specs.declared.block.Block.{Block};
 ghost use Rattle.dnode.specs.declared.dnode.Dnode.{Dnode};
 ghost use Rattle.dnode.specs.ObjectSet.{FitsObjectSet};
+ghost use Rattle.block_store.specs.Causes.{IsCaused};
 ghost use Rattle.block_store.specs.Blocks.{Contents};
 ghost use Rattle.block_store.specs.Plans.{Plans};
 ghost use Rattle.block_store.specs.Steps.{OnlyReadsAndPlans, AnswersAreTrue};
@@ -70,6 +71,7 @@ pub fn put_many<D: Disk + Drop>(
         store.old.spaces store.new.spaces)
         ⊎ IsNodeWriteRefused store.old store.new missing.now set.now birth
         (numbers_of writes.now) refusal)) }
+    ensures caused { IfErr result (IsCaused store.old store.new missing.now) }
 {
     let changed = block_writes(set, store, alloc, writes, birth, missing)?;
     let done = dnode_tree::put_many(&set.dnodes, store, alloc, &changed, birth, copies, missing)?;

@@ -4,6 +4,7 @@ ghost use Rattle.block_pointer.specs.declared.block.Block.{Block};
 ghost use Rattle.dnode.specs.declared.dnode.Dnode.{Dnode};
 ghost use Rattle.dnode.specs.Dnode.{FitsDnode};
 ghost use Rattle.dnode.specs.ObjectSet.{FitsObjectSet};
+ghost use Rattle.block_store.specs.Causes.{IsCaused};
 ghost use Rattle.block_store.specs.Blocks.{Contents};
 ghost use Rattle.block_store.specs.Losses.{IsForLoss};
 ghost use Rattle.block_store.specs.Store.{Holds};
@@ -60,6 +61,7 @@ pub fn get<D: Disk + Drop>(
     ensures found { IfOk result (IsNodeFound store.old.spaces set.now birth number) }
     ensures refused { IfErr result
         (IsNodeRefused store.old store.new missing.now set.now birth number) }
+    ensures caused { IfErr result (IsCaused store.old store.new missing.now) }
     ensures cause { IfErr result (λ refusal. refusal ≢ Refusal.NoSpace) }
 
     // And a dnode of a whole set is read, over disks that answer truly, unless too many disks miss
@@ -110,6 +112,7 @@ fn data_block_at<D: Disk + Drop>(
     ensures found { IfOk result (IsBlockFound store.old.spaces set.now.dnodes birth id) }
     ensures refused { IfErr result
         (IsRefused store.old store.new missing.now set.now.dnodes birth id) }
+    ensures caused { IfErr result (IsCaused store.old store.new missing.now) }
     ensures cause { IfErr result (λ refusal. refusal ≢ Refusal.NoSpace) }
     ensures known { IfErr result (λ refusal. (stored : Contents) (array : ℕ → Option (List ℕ))
         (blocks : List Block) → Holds store.old stored

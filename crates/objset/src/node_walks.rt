@@ -4,6 +4,7 @@ ghost use Rattle.block_pointer.specs.declared.block.Block.{Block};
 ghost use Rattle.dnode.specs.declared.dnode.Dnode.{Dnode};
 ghost use Rattle.dnode.specs.Node.{FitsNode};
 ghost use Rattle.dnode.specs.ObjectSet.{FitsObjectSet};
+ghost use Rattle.block_store.specs.Causes.{IsCaused};
 ghost use Rattle.block_store.specs.Blocks.{Contents};
 ghost use Rattle.block_store.specs.Losses.{IsForLoss};
 ghost use Rattle.block_store.specs.Store.{Holds};
@@ -77,6 +78,7 @@ pub fn nodes_within<D: Disk + Drop>(
     ensures count { IfOk result (λ found. left.old ≡ left.new + length found.blocks.items) }
     ensures refused { IfErr result
         (AreNodesRefused store.old store.new missing.now set.now birth left.new) }
+    ensures caused { IfErr result (IsCaused store.old store.new missing.now) }
     ensures cause { IfErr result (λ refusal. refusal ≢ Refusal.NoSpace) }
 
     // And a whole set that has each block once is read, over disks that answer truly, where as many
@@ -123,6 +125,7 @@ pub fn nodes_younger<D: Disk + Drop>(
     ensures count { IfOk result (λ found. left.old ≡ left.new + length found.blocks.items) }
     ensures refused { IfErr result
         (AreYoungerRefused since store.old store.new missing.now set.now birth left.new) }
+    ensures caused { IfErr result (IsCaused store.old store.new missing.now) }
     ensures cause { IfErr result (λ refusal. refusal ≢ Refusal.NoSpace) }
 
     // And a whole set that has each younger block once is read, over disks that answer truly, where
@@ -167,6 +170,7 @@ fn read_nodes<D: Disk + Drop>(
         × All (IsNodeFrom store.old.spaces block.now) added) }
     ensures refused { IfErr result
         (IsBlockRefused store.old store.new missing.now block.now left.new) }
+    ensures caused { IfErr result (IsCaused store.old store.new missing.now) }
     ensures cause { IfErr result (λ refusal. refusal ≢ Refusal.NoSpace) }
     ensures known { IfErr result (λ refusal. (stored : Contents) (id : ℕ) (bytes : List ℕ)
         (dnodes : ℕ → Dnode) → Holds store.old stored

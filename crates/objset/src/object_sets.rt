@@ -4,6 +4,7 @@ ghost use Rattle.block_pointer.specs.Block.{FitsBlock};
 ghost use Rattle.block_pointer.specs.Copies.{dvas};
 ghost use Rattle.dnode.specs.declared.object_set.ObjectSet.{ObjectSet};
 ghost use Rattle.dnode.specs.ObjectSet.{FitsObjectSet, object_set_bytes};
+ghost use Rattle.block_store.specs.Causes.{IsCaused};
 ghost use Rattle.block_store.specs.Blocks.{Contents, Adds, count_of};
 ghost use Rattle.block_store.specs.Losses.{IsForLoss};
 ghost use Rattle.block_store.specs.Places.{AreChosen, RanOut};
@@ -47,6 +48,7 @@ pub fn read_set<D: Disk + Drop>(
     // Whatever the block is: what was read, and on a refusal its cause.
     ensures found { IfOk result (IsSetFound store.old.spaces birth block.now) }
     ensures refused { IfErr result (IsSetRefused store.old store.new missing.now birth block.now) }
+    ensures caused { IfErr result (IsCaused store.old store.new missing.now) }
     ensures cause { IfErr result (λ refusal. refusal ≢ Refusal.NoSpace) }
 
     // And it is read, over disks that answer truly, unless too many disks miss of a block.
@@ -92,6 +94,7 @@ pub fn plan_set<D: Disk + Drop>(
     ensures places { IfOk result (λ block.
         AreChosen store.old.spaces [] 2 (count_of copies) (dvas block.copies) store.new.spaces) }
     ensures refused { IfErr result IsForRoom }
+    ensures caused { IfErr result (IsCaused store.old store.new []) }
     ensures no_room { IfErr result (λ refusal. refusal ≡ Refusal.NoSpace
         → RanOut store.old.spaces 2 (count_of copies) store.new.spaces) }
 {

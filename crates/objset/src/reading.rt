@@ -2,6 +2,7 @@
 ghost use Rattle.std.specs.Prelude.{◌≡◌, ◌≢◌, ◌⊎◌, ℕ, List, Option, None, IsSomeAnd, IfOk, IfErr};
 ghost use Rattle.std.specs.Option.{option_map};
 ghost use Rattle.block_pointer.specs.declared.block.Block.{Block};
+ghost use Rattle.block_store.specs.Causes.{IsCaused};
 ghost use Rattle.block_store.specs.Blocks.{Contents};
 ghost use Rattle.block_store.specs.Losses.{IsForLoss};
 ghost use Rattle.block_store.specs.Store.{Holds};
@@ -42,6 +43,7 @@ pub fn get<D: Disk + Drop>(
         (bytes_of found)) }
     ensures refused { IfErr result
         (IsDataRefused store.old store.new missing.now set.now birth number id) }
+    ensures caused { IfErr result (IsCaused store.old store.new missing.now) }
     ensures cause { IfErr result (λ refusal. refusal ≢ Refusal.NoSpace) }
 
     // And it is read, over disks that answer truly, unless too many disks miss of a block.
@@ -79,6 +81,7 @@ pub fn walk<D: Disk + Drop>(
     // Whatever the set is: on a refusal its cause.
     ensures refused { IfErr result
         (IsObjectWalkRefused store.old store.new missing.now set.now birth number) }
+    ensures caused { IfErr result (IsCaused store.old store.new missing.now) }
     ensures cause { IfErr result (λ refusal. refusal ≢ Refusal.NoSpace) }
 
     // And it is walked, over disks that answer truly, unless too many disks miss of a block.

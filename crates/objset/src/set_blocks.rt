@@ -2,6 +2,7 @@
 ghost use Rattle.std.specs.Prelude.{◌≡◌, ◌<◌, [], IfOk, IfErr, length};
 ghost use Rattle.block_pointer.specs.Block.{FitsBlock};
 ghost use Rattle.block_pointer.specs.Copies.{dvas};
+ghost use Rattle.block_store.specs.Causes.{IsCaused};
 ghost use Rattle.block_store.specs.Blocks.{Contents, Adds, count_of};
 ghost use Rattle.block_store.specs.Places.{AreChosen, RanOut};
 ghost use Rattle.block_store.specs.Plans.{Plans};
@@ -45,6 +46,7 @@ pub fn plan_set<D: Disk + Drop>(
         AreChosen store.old.spaces [] 2 (count_of (copies_of set.now.kind).other)
         (dvas block.copies) store.new.spaces) }
     ensures refused { IfErr result IsForRoom }
+    ensures caused { IfErr result (IsCaused store.old store.new []) }
     ensures no_room { IfErr result (λ refusal. refusal ≡ Refusal.NoSpace
         → RanOut store.old.spaces 2 (count_of (copies_of set.now.kind).other) store.new.spaces) }
 {

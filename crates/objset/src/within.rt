@@ -1,6 +1,7 @@
 //! Walks over a set that need not be one: so many blocks are read at most.
 ghost use Rattle.std.specs.Prelude.{◌≡◌, ◌≢◌, ◌++◌, ◌<◌, ◌≤◌, ℕ, List, Option, All, OnOk, IfOk, IfErr};
 ghost use Rattle.block_pointer.specs.declared.block.Block.{Block};
+ghost use Rattle.block_store.specs.Causes.{IsCaused};
 ghost use Rattle.block_store.specs.Blocks.{Contents};
 ghost use Rattle.block_store.specs.Losses.{IsForLoss};
 ghost use Rattle.block_store.specs.Steps.{OnlyReadsBlocks, AnswersAreTrue};
@@ -48,6 +49,7 @@ pub fn walk_within<D: Disk + Drop>(
         IsSetWalked store.old.spaces set.now birth left.old left.new found.items) }
     ensures refused { IfErr result
         (IsSetWalkRefused store.old store.new missing.now set.now birth left.old left.new) }
+    ensures caused { IfErr result (IsCaused store.old store.new missing.now) }
     ensures cause { IfErr result (λ refusal. refusal ≢ Refusal.NoSpace) }
 
     // And a whole set that has each block once is walked, over disks that answer truly, where as
@@ -91,6 +93,7 @@ pub fn walk_younger<D: Disk + Drop>(
         store.old.spaces set.now birth left.old left.new found.items) }
     ensures refused { IfErr result (IsYoungerSetRefused since
         store.old store.new missing.now set.now birth left.old left.new) }
+    ensures caused { IfErr result (IsCaused store.old store.new missing.now) }
     ensures cause { IfErr result (λ refusal. refusal ≢ Refusal.NoSpace) }
 
     // And a whole set that has each block once is walked, over disks that answer truly, where as

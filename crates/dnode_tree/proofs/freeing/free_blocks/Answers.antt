@@ -9,6 +9,7 @@ use Rattle.dnode_tree.specs.Tree.{property_of}
 use Rattle.dnode_tree.specs.Ways.{root_of}
 use Rattle.dnode_tree.proofs.WholeTree.{tree_later}
 use Rattle.dnode_tree.specs.Freeing.{AreOnlyIn}
+use Rattle.block_store.proofs.Causes.{caused_behind_reads}
 use Rattle.dnode_tree.proofs.freeing.free_blocks.Goals as goal
 
 pub returns-in_err-others-clause-known : goal.returns-in_err-others-clause-known
@@ -54,3 +55,8 @@ pub returns-in_err-blocks_without-clause-refused : goal.returns-in_err-blocks_wi
 returns-in_err-blocks_without-clause-refused g c =
     passed_on _ _ _ c.from_residual-in_err-blocks_without.ensures.1
     (inl (refused_for_memory _ _ c.args.missing.now (property_of c.args.after.now) (levels_of c.args.after.now.highest - 1) c.args.birth c.args.after.now.pointer))
+
+pub returns-in_err-blocks-clause-caused : goal.returns-in_err-blocks-clause-caused
+returns-in_err-blocks-clause-caused g c =
+    passed_on _ _ _ c.from_residual-in_err-blocks.ensures.1
+    (caused_behind_reads _ _ _ _ _ c.in_ok-others.ensures.reads c.in_err-blocks.ensures.caused)

@@ -12,6 +12,7 @@ use Rattle.dnode_tree.proofs.Spans.{span_up}
 use Rattle.block_store.proofs.Steps.{steps_on}
 use Rattle.dnode_tree.proofs.Steps.{no_room_on}
 use Rattle.dnode_tree.proofs.WholeTree.{raising_begins, raising_goes_on, raising_fails, power_rises, level_between, root_of, tree_rewritten, tree_renewed}
+use Rattle.block_store.proofs.Causes.{caused_behind}
 use Rattle.dnode_tree.proofs.putting.put_many.Goals as goal
 
 pub returns-in_err-pointer-clause-known : goal.returns-in_err-pointer-clause-known
@@ -158,3 +159,7 @@ returns-clause-places g c =
       ap levels_of c.highest_of-highest.ensures.value,
     ) in
     subst (λ n. HavePlacesAt c.args.node.now c.args.copies c.args.store.now.spaces (spots_grown c.args.node.now c.args.writes.now n) c.loop-level.store.spaces) more raised.have
+
+pub returns-in_err-pointer-2-clause-caused : goal.returns-in_err-pointer-2-clause-caused
+returns-in_err-pointer-2-clause-caused g c =
+    passed_on _ _ _ c.from_residual-in_err-pointer-2.ensures.1 (caused_behind _ _ _ _ _ c.loop-level.invariant.0.steps c.in_err-pointer-2.ensures.caused)

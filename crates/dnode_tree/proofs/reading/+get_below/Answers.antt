@@ -12,6 +12,7 @@ use Rattle.dnode_tree.specs.Subtree.{asked_of}
 use Rattle.dnode_tree.specs.Tree.{property_of}
 use Rattle.dnode_tree.specs.Ways.{reached, AreReadAs, IsBlockFoundBelow}
 use Rattle.dnode_tree.proofs.WayLemmas.{hole_found, block_found, found_down, refused_data, refused_indirect, refused_down}
+use Rattle.block_store.proofs.Causes.{caused_behind_reads}
 use Rattle.dnode_tree.proofs.reading.+get_below.Goals as goal
 
 pub returns-in_err-bytes-clause-known : goal.returns-in_err-bytes-clause-known
@@ -127,3 +128,7 @@ returns-clause-born g t c =
     (is stored (first + c.args.place / c.span-span.result * 128 ^ (c.args.part.level - 1)) births (c.in_ok-children.ensures.reads.keeps stored held) below
     (true_after _ _ _ _ c.in_ok-children.ensures.reads c.get_below.ensures.reads honest)))
     c.get_below.ensures.born
+
+pub returns-clause-caused : goal.returns-clause-caused
+returns-clause-caused g t c =
+    IfErr-weaker c.get_below.result _ _ (λ refusal cause. caused_behind_reads _ _ _ _ refusal c.in_ok-children.ensures.reads cause) c.get_below.ensures.caused

@@ -14,6 +14,7 @@ use Rattle.block_store.specs.declared.refusal.Refusal.TheVariants.{BadPointer}
 use Rattle.block_store.specs.Spaces.{VdevSpace}
 use Rattle.dnode_tree.proofs.WayLemmas.{refused_data, refused_indirect}
 use Rattle.dnode_tree.proofs.Walks.{HaveWalked, walked_hole, walked_data, none_walked, one_more_walked, all_walked, refused_here, refused_for_memory, refused_in_child}
+use Rattle.block_store.proofs.Causes.{caused_behind_reads}
 use Rattle.dnode_tree.proofs.walking.+collect_below.Goals as goal
 
 pub returns-in_err-children-clause-known : goal.returns-in_err-children-clause-known
@@ -136,3 +137,8 @@ returns-then-part-eq0-clause-found g t c =
       walked_data c.args.store.now.spaces (property_of c.args.node.now) c.args.part.level c.args.part.birth c.args.part.pointer c.in-Block.block c.if-part-eq0.true c.in-Block.is
           (subst (λ asked. Asks asked c.in-Block.block) c.asked_at-asked.ensures (c.asks.ensures.0 test)),
     )
+
+pub returns-in_err-collect_below-clause-caused : goal.returns-in_err-collect_below-clause-caused
+returns-in_err-collect_below-clause-caused g t c =
+    passed_on _ _ _ c.from_residual-in_err-collect_below.ensures.1
+    (caused_behind_reads _ _ _ _ _ (reads_on _ _ _ _ c.in_ok-children.ensures.reads c.loop-pointer.invariant.0.reads) c.in_err-collect_below.ensures.caused)

@@ -15,6 +15,7 @@ use Rattle.std.proofs.Common.{ap, ◌∙◌}
 use Rattle.objset.specs.declared.changes.Changing.{Changing}
 use Rattle.objset.proofs.Placing.{objects_refused, places_with_dnodes, dnodes_refused, set_refused}
 use Rattle.objset.proofs.Born.{set_born}
+use Rattle.block_store.proofs.Causes.{caused_behind}
 use Rattle.objset.proofs.changing.change.Goals as goal
 
 pub returns-in_err-rewrite-clause-steps : goal.returns-in_err-rewrite-clause-steps
@@ -97,3 +98,7 @@ pub returns-in_err-writes-clause-known : goal.returns-in_err-writes-clause-known
 returns-in_err-writes-clause-known g c =
     passed_on _ _ _ c.from_residual-in_err-writes.ensures.1
     (λ stored planned bound objects own before plans are early le honest. c.in_err-writes.ensures.known stored planned bound objects own before plans are le honest)
+
+pub returns-in_err-rewrite-clause-caused : goal.returns-in_err-rewrite-clause-caused
+returns-in_err-rewrite-clause-caused g c =
+    passed_on _ _ _ c.from_residual-in_err-rewrite.ensures.1 (caused_behind _ _ _ _ _ c.in_ok-writes.ensures.steps c.in_err-rewrite.ensures.caused)

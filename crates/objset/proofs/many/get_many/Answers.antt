@@ -18,6 +18,7 @@ use Rattle.objset.specs.Found.{IsDataFound}
 use Rattle.objset.specs.Many.{AreDataOf, AreDataFound}
 use Rattle.objset.specs.Objects.{IsObject}
 use Rattle.objset.proofs.Kept.{no_object, used, object_there, some_and}
+use Rattle.block_store.proofs.Causes.{caused_behind_reads}
 use Rattle.objset.proofs.many.get_many.Goals as goal
 
 all_units : (ids : List ℕ) → All (λ id. Unit {0}) ids
@@ -130,3 +131,7 @@ returns-clause-refused g c =
       )
     ])
     c.get_many.ensures.refused
+
+pub returns-clause-caused : goal.returns-clause-caused
+returns-clause-caused g c =
+    IfErr-weaker c.get_many.result _ _ (λ refusal cause. caused_behind_reads _ _ _ _ refusal c.in_ok-found.ensures.reads cause) c.get_many.ensures.caused

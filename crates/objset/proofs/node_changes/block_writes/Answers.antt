@@ -10,6 +10,7 @@ use Rattle.objset.specs.Nodes.{AreNodesOf}
 use Rattle.objset.specs.NodeWrites.{written_nodes}
 use Rattle.objset.proofs.ChangedBlocks.{IsChanging, changing_begins, block_changed, front_is_all, run_here}
 use Rattle.objset.proofs.Refusing.{first_unread}
+use Rattle.block_store.proofs.Causes.{caused_behind_reads}
 use Rattle.objset.proofs.node_changes.block_writes.Goals as goal
 
 pub loop-first-init : goal.loop-first-init
@@ -67,3 +68,7 @@ returns-in_err-bytes-clause-refused g c =
     (inr (first_unread c.args.store.now c.loop-first.store c.changed_block.new.store c.args.missing.now c.args.set.now c.args.birth c.args.writes.now c.loop-first.invariant.front
     c.loop-first.rest.now c.in-Some.first.now _ c.loop-first.invariant.all c.in-Some.ensures.item.3.0 (sym c.in-Some.ensures.item.1) c.loop-first.invariant.reads
     c.in_err-bytes.ensures.refused))
+
+pub returns-in_err-bytes-clause-caused : goal.returns-in_err-bytes-clause-caused
+returns-in_err-bytes-clause-caused g c =
+    passed_on _ _ _ c.from_residual.ensures.1 (caused_behind_reads _ _ _ _ _ c.loop-first.invariant.reads c.in_err-bytes.ensures.caused)

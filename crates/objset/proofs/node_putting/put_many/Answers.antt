@@ -16,6 +16,7 @@ use Rattle.block_store.specs.Store.{Store}
 use Rattle.block_store.specs.Demands.{HavePlaces}
 use Rattle.dnode_tree.specs.Spots.{demands_of}
 use Rattle.objset.proofs.Refusing.{blocks_of, places_had, reading_refused, writing_refused}
+use Rattle.block_store.proofs.Causes.{caused_behind_reads}
 use Rattle.objset.proofs.node_putting.put_many.Goals as goal
 
 pub returns-in_err-changed-clause-known : goal.returns-in_err-changed-clause-known
@@ -107,3 +108,7 @@ returns-in_err-done-clause-refused g c =
     passed_on _ _ _ c.from_residual-in_err-done.ensures.1
     (writing_refused c.args.store.now c.block_writes.new.store c.put_many.new.store c.args.missing.now c.args.set.now c.args.copies c.args.birth c.args.writes.now _ c.in_ok-changed.changed.items _
     c.deref.ensures.value c.in_ok-changed.ensures.reads c.in_ok-changed.ensures.order c.in_ok-changed.ensures.only c.in_ok-changed.ensures.reached c.in_err-done.ensures.refused)
+
+pub returns-in_err-done-clause-caused : goal.returns-in_err-done-clause-caused
+returns-in_err-done-clause-caused g c =
+    passed_on _ _ _ c.from_residual-in_err-done.ensures.1 (caused_behind_reads _ _ _ _ _ c.in_ok-changed.ensures.reads c.in_err-done.ensures.caused)

@@ -14,6 +14,7 @@ use Rattle.objset.specs.NodesWithin.{objects_in, IsNodeOfOne}
 use Rattle.objset.proofs.NodesWithinLemmas.{no_more, more, within_all, still_one, data_at, next_data, next_above, slots_there, from_more}
 use Rattle.objset.proofs.YoungerNodes.{younger_there, one_refused}
 use Rattle.objset.proofs.node_walks.nodes_younger.Goals.{then-block-eq0+in_ok-read_nodes, else-block-eq0}
+use Rattle.block_store.proofs.Causes.{caused_behind_reads}
 use Rattle.objset.proofs.node_walks.nodes_younger.Goals as goal
 
 pub returns-in_err-blocks-clause-known : goal.returns-in_err-blocks-clause-known
@@ -114,3 +115,7 @@ pub returns-clause-from : goal.returns-clause-from
 returns-clause-from g c =
     subst (λ (bs : _). All (IsNodeOfOne c.args.store.now.spaces bs) c.loop-block.nodes.items) c.deref-block-items.ensures.value
     (subst (λ (spaces : _). All (IsNodeOfOne spaces c.deref-block-items.result.now) c.loop-block.nodes.items) (ap (λ s. s.spaces) c.in_ok-blocks.ensures.reads.rest) c.loop-block.invariant.from)
+
+pub returns-in_err-read_nodes-clause-caused : goal.returns-in_err-read_nodes-clause-caused
+returns-in_err-read_nodes-clause-caused g c =
+    passed_on _ _ _ c.from_residual-in_err-read_nodes.ensures.1 (caused_behind_reads _ _ _ _ _ (reads_on _ _ _ _ c.in_ok-blocks.ensures.reads c.loop-block.invariant.reads) c.in_err-read_nodes.ensures.caused)

@@ -5,6 +5,7 @@ use Rattle.objset.specs.Nodes.{IsNodeIn}
 use Rattle.objset.specs.NodeSlots.{HasSlots}
 use Rattle.objset.specs.NodesWithin.{IsNodeAt}
 use Rattle.std.specs.Prelude.{Some}
+use Rattle.dnode_tree.proofs.Refusing.{caused_by_memory, caused_by_pointer}
 use Rattle.objset.proofs.node_walks.read_nodes.Goals as goal
 
 pub returns-in_err-bytes-clause-known : goal.returns-in_err-bytes-clause-known
@@ -66,3 +67,9 @@ returns-clause-from g c =
           },
     ))
     c.add_nodes.ensures.from
+
+pub returns-clause-caused : goal.returns-clause-caused
+returns-clause-caused g c =
+    IfErr-weaker c.add_nodes.result _ _
+    (λ refusal why. elim why [ inl memory ↦ caused_by_memory _ _ _ refusal memory | inr bad ↦ caused_by_pointer _ _ _ refusal bad.0 ])
+    c.add_nodes.ensures.refused

@@ -27,3 +27,7 @@ returns-clause-planned g c =
         spelled = (c.requires.set, refl);
       },
     ))
+
+pub returns-clause-caused : goal.returns-clause-caused
+returns-clause-caused g c =
+    c.plan_write.ensures.caused []

@@ -9,6 +9,7 @@ use Rattle.dnode_tree.specs.Ways.{bytes_of, IsFound}
 use Rattle.objset.specs.NodesFound.{found_dnode, IsNodeFound}
 use Rattle.objset.specs.Nodes.{birth_of}
 use Rattle.objset.specs.Objects.{IsObject}
+use Rattle.block_store.proofs.Causes.{caused_behind_reads}
 use Rattle.objset.proofs.reading.get.Goals as goal
 
 pub returns-in_err-found-clause-known : goal.returns-in_err-found-clause-known
@@ -78,3 +79,7 @@ returns-clause-refused g c =
       why = is;
     })))
     c.get-2.ensures.refused
+
+pub returns-clause-caused : goal.returns-clause-caused
+returns-clause-caused g c =
+    IfErr-weaker c.get-2.result _ _ (λ refusal cause. caused_behind_reads _ _ _ _ refusal c.in_ok-found.ensures.reads cause) c.get-2.ensures.caused

@@ -8,6 +8,7 @@ use Rattle.dnode.specs.declared.dnode.Dnode.{Dnode}
 use Rattle.objset.specs.NodesFound.{found_dnode, IsNodeFound}
 use Rattle.objset.specs.Nodes.{birth_of}
 use Rattle.objset.specs.Objects.{Object, IsObject}
+use Rattle.block_store.proofs.Causes.{caused_behind_reads}
 use Rattle.objset.proofs.reading.walk.Goals as goal
 
 there_is_some : (object : Option Object) (there : Object) → object ≡ Some there → object ≡ None → ⊥
@@ -69,3 +70,7 @@ returns-clause-refused g c =
       why = is;
     })))
     c.walk.ensures.refused
+
+pub returns-clause-caused : goal.returns-clause-caused
+returns-clause-caused g c =
+    IfErr-weaker c.walk.result _ _ (λ refusal cause. caused_behind_reads _ _ _ _ refusal c.in_ok-found.ensures.reads cause) c.walk.ensures.caused

@@ -10,6 +10,7 @@ use Rattle.dnode_tree.specs.Rewriting.{AreDistinct}
 use Rattle.objset.proofs.WithinLemmas.{whole_once}
 use Rattle.objset.proofs.YoungerLemmas.{parts_there, found_all, next_part, next_refused, object_refused, younger_once}
 use Rattle.objset.specs.Within.{blocks_of_set}
+use Rattle.block_store.proofs.Causes.{caused_behind_reads}
 use Rattle.objset.proofs.within.walk_younger.Goals as goal
 
 pub returns-in_err-blocks-clause-refused : goal.returns-in_err-blocks-clause-refused
@@ -129,3 +130,7 @@ returns-clause-blocks g c = λ stored objects own blocks held are honest.
     found_all c.args.since stored c.args.birth c.args.set.now objects own blocks c.in_ok-blocks.field-0.blocks.items c.loop-it.invariant.below c.loop-it.found.items c.deref-it-items.result.now c.loop-it.it-index
     are c.loop-it.invariant.are there.0 (c.deref-it-items.ensures.value ∙ there.1) c.loop-it-test.false
     (λ parts have. c.loop-it.invariant.value stored parts (c.in_ok-blocks.ensures.reads.keeps stored held) have (true_after _ _ _ _ c.in_ok-blocks.ensures.reads c.loop-it.invariant.reads honest))
+
+pub returns-in_err-more-clause-caused : goal.returns-in_err-more-clause-caused
+returns-in_err-more-clause-caused g c =
+    passed_on _ _ _ c.from_residual-in_err-more.ensures.1 (caused_behind_reads _ _ _ _ _ (reads_on _ _ _ _ c.in_ok-blocks.ensures.reads c.loop-it.invariant.reads) c.in_err-more.ensures.caused)

@@ -16,9 +16,10 @@ use Rattle.dnode_tree.specs.Ways.{AreReadAs}
 use Rattle.dnode_tree.proofs.FurtherReads.{true_before, true_after}
 use Rattle.dnode_tree.proofs.Getting.{only_first, data_added, nothing_added, none_added, getting_begins, run_between, run_once, child_part, getting_goes_on, getting_fails, parts_of_root, getting_ends}
 use Rattle.dnode_tree.proofs.Parts.{data_part, indirect_part}
-use Rattle.dnode_tree.proofs.Refusing.{passed_on}
+use Rattle.dnode_tree.proofs.Refusing.{passed_on, caused_by_memory}
 use Rattle.dnode_tree.proofs.Spans.{span_up}
 use Rattle.dnode_tree.proofs.WayLemmas.{refused_data, refused_indirect}
+use Rattle.block_store.proofs.Causes.{caused_behind_reads}
 use Rattle.dnode_tree.proofs.many.TreeReading.+add_below.Goals as goal
 
 read_there : (spaces : List VdevSpace) (asked other : Asked) (block : Block) (found items : List BlockPtr) → asked ≡ other → items ≡ found → AreReadAs spaces asked block found → AreReadAs spaces other block items
@@ -183,3 +184,12 @@ returns-clause-added g t c =
     c.in-Block.block c.children.inside.pointers.items c.args.ids.now c.loop-place.rest.now c.loop-place.place c.args.found.now.items c.loop-place.found.items
     c.loop-place.invariant e c.in-Block.is
     (λ stored bytes others held known is_spelled true_here. same ∙ c.in_ok-children.ensures.value stored bytes others held known is_spelled true_here) all
+
+pub returns-in_default-clause-caused : goal.returns-in_default-clause-caused
+returns-in_default-clause-caused g t c =
+    IfErr-weaker c.add_nothing.result _ _ (λ refusal memory. caused_by_memory _ _ _ refusal memory) c.add_nothing.ensures.refused
+
+pub returns-in_err-add_below-clause-caused : goal.returns-in_err-add_below-clause-caused
+returns-in_err-add_below-clause-caused g t c =
+    passed_on _ _ _ c.from_residual-in_err-add_below.ensures.1
+    (caused_behind_reads _ _ _ _ _ (reads_on _ _ _ _ c.loop-place.invariant.begun c.loop-place.invariant.reads) c.in_err-add_below.ensures.caused)

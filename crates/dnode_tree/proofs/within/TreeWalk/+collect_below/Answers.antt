@@ -15,6 +15,7 @@ use Rattle.dnode_tree.proofs.WalksWhere.{HaveWalkedWhere, seen_hole, left_out, s
 use Rattle.dnode_tree.specs.Tree.{property_of}
 use Rattle.dnode_tree.specs.Ways.{AreReadAs}
 use Rattle.dnode_tree.specs.Younger.{is_picked, seen}
+use Rattle.block_store.proofs.Causes.{caused_behind_reads}
 use Rattle.dnode_tree.proofs.within.TreeWalk.+collect_below.Goals as goal
 
 read_there : (spaces : List VdevSpace) (asked other : Asked) (block : Block) (found items : List BlockPtr) → asked ≡ other → items ≡ found → AreReadAs spaces asked block found → AreReadAs spaces other block items
@@ -240,3 +241,8 @@ returns-in_err-collect_below-clause-known g t c =
     (true_after _ _ _ _ c.in_ok-children.ensures.reads c.loop-pointer.invariant.picking.reads (true_before _ _ _ _ sooner c.in_err-collect_below.ensures.reads honest)))
     c.loop-pointer.invariant.count (omega arith) enough)
     (true_after _ _ _ _ sooner c.in_err-collect_below.ensures.reads honest))
+
+pub returns-in_err-collect_below-clause-caused : goal.returns-in_err-collect_below-clause-caused
+returns-in_err-collect_below-clause-caused g t c =
+    passed_on _ _ _ c.from_residual-in_err-collect_below.ensures.1
+    (caused_behind_reads _ _ _ _ _ (reads_on _ _ _ _ c.in_ok-children.ensures.reads c.loop-pointer.invariant.picking.reads) c.in_err-collect_below.ensures.caused)

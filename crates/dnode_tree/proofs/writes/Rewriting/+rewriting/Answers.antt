@@ -24,6 +24,7 @@ use Rattle.dnode_tree.proofs.WritingParts.{writing_skips, writing_goes_on, writi
 use Rattle.dnode_tree.specs.Subtree.{asked_of}
 use Rattle.dnode_tree.specs.Tree.{property_of}
 use Rattle.dnode_tree.specs.Writes.{written, AreBetween, AreInOrder, AreWholeBlocks}
+use Rattle.block_store.proofs.Causes.{caused_behind_reads, caused_behind}
 use Rattle.dnode_tree.proofs.writes.Rewriting.+rewriting.Goals as goal
 
 pub write_part-returns-then-part-eq0-clause-rewritten : goal.write_part-returns-then-part-eq0-clause-rewritten
@@ -357,3 +358,19 @@ write_parts-returns-clause-full g t c =
 
 pub write_parts-returns-clause-refused : goal.write_parts-returns-clause-refused
 write_parts-returns-clause-refused g t c = IfErr-weaker c.plan_block.result _ _ (λ refusal room. inl room) c.plan_block.ensures.refused
+
+pub write_part-returns-then-part-eq0-clause-caused : goal.write_part-returns-then-part-eq0-clause-caused
+write_part-returns-then-part-eq0-clause-caused g t c =
+    c.plan_block.ensures.caused c.args.self.missing.now
+
+pub write_part-returns-clause-caused : goal.write_part-returns-clause-caused
+write_part-returns-clause-caused g t c =
+    IfErr-weaker c.write_parts.result _ _ (λ refusal cause. caused_behind_reads _ _ _ _ refusal c.in_ok-parts.ensures.reads cause) c.write_parts.ensures.caused
+
+pub write_parts-returns-in_err-block-clause-caused : goal.write_parts-returns-in_err-block-clause-caused
+write_parts-returns-in_err-block-clause-caused g t c =
+    passed_on _ _ _ c.from_residual.ensures.1 (caused_behind _ _ _ _ _ c.loop-place.invariant.1.steps c.in_err-block.ensures.caused)
+
+pub write_parts-returns-clause-caused : goal.write_parts-returns-clause-caused
+write_parts-returns-clause-caused g t c =
+    IfErr-weaker c.plan_block.result _ _ (λ refusal cause. caused_behind _ _ _ _ refusal c.loop-place.invariant.1.steps cause) (c.plan_block.ensures.caused c.args.self.missing.now)

@@ -15,6 +15,7 @@ use Rattle.objset.proofs.Room.{no_room_sooner}
 use Rattle.objset.specs.Changing.{HavePlacesFor}
 use Rattle.objset.proofs.Placing.{ArePlacedFor, of_changes, placing_begins, placing_goes_on, placing_fails}
 use Rattle.objset.proofs.Underway.{HasChanged, IsUnderway, underway_begins, underway_goes_on, underway_fails}
+use Rattle.block_store.proofs.Causes.{caused_behind}
 use Rattle.objset.proofs.changes.Changing.change_each.Goals as goal
 
 pub loop-change-init : goal.loop-change-init
@@ -91,3 +92,7 @@ pub returns-clause-places : goal.returns-clause-places
 returns-clause-places g c =
     subst (λ (changes : List ObjectChange). HavePlacesFor c.args.self c.args.store.now c.loop-change.store c.args.set.now changes)
     (take_all c.loop-change.change-index c.args.changes.now c.loop-change-test.false) c.loop-change.invariant.1.have
+
+pub returns-in_err-write-clause-caused : goal.returns-in_err-write-clause-caused
+returns-in_err-write-clause-caused g c =
+    passed_on _ _ _ c.from_residual.ensures.1 (caused_behind _ _ _ _ _ c.loop-change.invariant.0.steps c.in_err-write.ensures.caused)

@@ -14,6 +14,7 @@ use Rattle.objset.proofs.Demands.{demands_of_one}
 use Rattle.objset.proofs.Found.{dnode_found_of}
 use Rattle.objset.proofs.Refused.{node_refused, dnode_late, one_change_refused}
 use Rattle.objset.proofs.Born.{found_born}
+use Rattle.block_store.proofs.Causes.{caused_behind_reads}
 use Rattle.objset.proofs.changes.Changing.change_one.Goals as goal
 
 pub returns-in_err-found-clause-known : goal.returns-in_err-found-clause-known
@@ -97,3 +98,7 @@ pub returns-in_err-check_dnode-clause-refused : goal.returns-in_err-check_dnode-
 returns-in_err-check_dnode-clause-refused g c =
     passed_on _ _ _ c.from_residual-in_err-check_dnode.ensures.1
     (inr (inr (dnode_late c.args.store.now c.get.new.store c.args.self.missing.now c.args.set.now c.args.self.birth c.args.change.now _ c.in_ok-found.found c.in_ok-found.ensures.found c.in_err-check_dnode.ensures.late)))
+
+pub returns-in_err-node-clause-caused : goal.returns-in_err-node-clause-caused
+returns-in_err-node-clause-caused g c =
+    passed_on _ _ _ c.from_residual-in_err-node.ensures.1 (caused_behind_reads _ _ _ _ _ c.in_ok-found.ensures.reads c.in_err-node.ensures.caused)

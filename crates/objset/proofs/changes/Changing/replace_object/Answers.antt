@@ -16,6 +16,7 @@ use Rattle.dnode_tree.specs.Spots.{demands_of}
 use Rattle.objset.specs.Demands.{empty_node}
 use Rattle.block_store.specs.Store.{Store}
 use Rattle.objset.proofs.Fits.{replace_refused}
+use Rattle.block_store.proofs.Causes.{caused_behind_reads}
 use Rattle.objset.proofs.changes.Changing.replace_object.Goals as goal
 
 pub returns-in_err-free_object-clause-known : goal.returns-in_err-free_object-clause-known
@@ -66,3 +67,7 @@ returns-clause-refused g c =
     IfErr-weaker c.write_object.result _ _
     (λ refusal. replace_refused c.args.self c.args.store.now c.free_object.new.store c.write_object.new.store c.args.node.now c.args.writes.now refusal same)
     c.write_object.ensures.refused
+
+pub returns-clause-caused : goal.returns-clause-caused
+returns-clause-caused g c =
+    IfErr-weaker c.write_object.result _ _ (λ refusal cause. caused_behind_reads _ _ _ _ refusal c.in_ok-free_object.ensures.reads cause) c.write_object.ensures.caused
