@@ -3,6 +3,7 @@ ghost use Rattle.std.specs.Prelude.{◌≡◌, ◌<◌, ◌++◌, ◌⊎◌, [],
 ghost use Rattle.block_pointer.specs.declared.block.Block.{Block};
 ghost use Rattle.block_pointer.specs.Block.{FitsBlock};
 ghost use Rattle.block_store.specs.Blocks.{Contents, Extends};
+ghost use Rattle.block_store.specs.Causes.{IsCaused};
 ghost use Rattle.block_store.specs.Losses.{IsForLoss};
 ghost use Rattle.block_store.specs.Steps.{OnlyReadsBlocks, AnswersAreTrue};
 ghost use Rattle.block_store.specs.Store.{Holds};
@@ -95,6 +96,7 @@ pub fn group_before<D: Disk + Drop>(
         → SpellsChains known group objects changes.old pool readings
         → SpellsChains known group objects changes.new pool readings
         × ((pool.datasets (dataset.now).previous).group ≡ found)) }
+    ensures caused { IfErr result (IsCaused store.old store.new []) }
     ensures refused { IfErr result (λ refusal. (refusal ≡ Refusal.NoMemory)
         ⊎ IsRecordLost store.old store.new changes.old refusal) }
     ensures known { IfErr result (λ refusal. (stored known : Contents) (group : ℕ)
@@ -153,6 +155,7 @@ pub fn overwrite<D: Disk + Drop>(
         (λ one. one ≡ (head.now).number) (λ one. (r : DatasetRecord)
         × HasKnown changes.new (head.now).number r × (r.dead_list ≡ one))) }
     ensures kept { OnOk result (KeepsDeadLists changes.old changes.new) }
+    ensures caused { IfErr result (IsCaused store.old store.new []) }
     ensures refused { IfErr result (λ refusal. IsBlockMisfit (head.now).left.items refusal
         ⊎ IsChainRefused store.old store.new changes.old changes.new (head.now).number kinds.Volume
         refusal) }

@@ -2,6 +2,7 @@
 ghost use Rattle.std.specs.Prelude.{◌≡◌, ◌≢◌, ◌⊎◌, [], ℕ, List, Option, OnOk, IfOk, IfErr};
 ghost use Rattle.block_pointer.specs.declared.block.Block.{Block};
 ghost use Rattle.block_store.specs.Blocks.{Contents};
+ghost use Rattle.block_store.specs.Causes.{IsCaused};
 ghost use Rattle.block_store.specs.Losses.{IsForLoss};
 ghost use Rattle.block_store.specs.Steps.{OnlyReadsBlocks, AnswersAreTrue};
 ghost use Rattle.block_store.specs.Store.{Holds};
@@ -44,6 +45,7 @@ pub(crate) fn record_of_kind<D: Disk + Drop>(
         → SpellsChains known group objects changes.old pool readings
         → SpellsChains known group objects changes.new pool readings
         × IsRecordAlone objects changes.new number found) }
+    ensures caused { IfErr result (IsCaused store.old store.new []) }
     ensures refused { IfErr result (IsChainRefused store.old store.new changes.old changes.new
         number kind) }
     ensures known { IfErr result (λ refusal. (stored known : Contents) (group : ℕ)
@@ -84,6 +86,7 @@ pub(crate) fn pass_next<D: Disk + Drop>(
         → AnswersAreTrue store.old store.new → AreOver objects changes.old
         → AreOver objects changes.new
         × IsNextPassed objects changes.old changes.new before from to) }
+    ensures caused { IfErr result (IsCaused store.old store.new []) }
     ensures refused { IfErr result (λ refusal. (refusal ≡ Refusal.NoMemory)
         ⊎ IsRecordLost store.old store.new changes.old refusal) }
     ensures known { IfErr result (λ refusal. (stored known : Contents) (group : ℕ)

@@ -2,6 +2,7 @@
 ghost use Rattle.std.specs.Prelude.{◌≡◌, ◌⊎◌, [], ℕ, List, Option, OnOk, IfErr};
 ghost use Rattle.block_pointer.specs.declared.block.Block.{Block};
 ghost use Rattle.block_store.specs.Blocks.{Contents};
+ghost use Rattle.block_store.specs.Causes.{IsCaused};
 ghost use Rattle.block_store.specs.Losses.{IsForLoss};
 ghost use Rattle.block_store.specs.Steps.{OnlyReadsBlocks, AnswersAreTrue};
 ghost use Rattle.block_store.specs.Store.{Holds};
@@ -55,6 +56,7 @@ pub fn snapshot<D: Disk + Drop>(
         (updated readings numbers.dataset (readings head))) }
     ensures touched { OnOk result (IsSnapshotTouched changes.old changes.new head numbers.dataset
         numbers.dead_list) }
+    ensures caused { IfErr result (IsCaused store.old store.new []) }
     ensures refused { IfErr result (IsChainRefused store.old store.new changes.old changes.new
         head kinds.Volume) }
     ensures known { IfErr result (λ refusal. (stored known : Contents)
@@ -119,6 +121,8 @@ pub fn clone<D: Disk + Drop>(
         (updated readings numbers.dataset (readings snapshot))) }
     ensures touched { OnOk result (IsCloneTouched changes.old changes.new snapshot numbers.dataset
         numbers.dead_list) }
+    ensures caused { IfErr result (λ refusal. IsCaused store.old store.new [] refusal
+        ⊎ HasMostClones changes.new snapshot refusal) }
     ensures refused { IfErr result (λ refusal. HasMostClones changes.new snapshot refusal
         ⊎ IsChainRefused store.old store.new changes.old changes.new snapshot kinds.Snapshot
         refusal) }

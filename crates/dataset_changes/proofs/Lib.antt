@@ -1,3 +1,4 @@
+mod Causes
 pub mod Maps
 pub mod Overs
 pub mod Joining

@@ -3,6 +3,7 @@ ghost use Rattle.std.specs.Prelude.{◌≡◌, ◌⊎◌, ◌++◌, [], if◌the
 ghost use Rattle.block_pointer.specs.declared.block.Block.{Block};
 ghost use Rattle.block_pointer.specs.Block.{FitsBlock};
 ghost use Rattle.block_store.specs.Blocks.{Contents};
+ghost use Rattle.block_store.specs.Causes.{IsCaused};
 ghost use Rattle.block_store.specs.Losses.{IsForLoss};
 ghost use Rattle.block_store.specs.Steps.{OnlyReadsBlocks, AnswersAreTrue};
 ghost use Rattle.block_store.specs.Store.{Holds};
@@ -52,6 +53,7 @@ impl DatasetChanges {
             → AreOver objects self.new × HasListNow objects self.old number found
             × ((list : List Block) → HasListNow objects self.old number list
             → IsPermutation found list)) }
+        ensures caused { IfErr result (IsCaused store.old store.new []) }
         ensures refused { IfErr result (IsListUnread store.old store.new self.old number) }
         ensures known { IfErr result (λ refusal. (stored : Contents) (objects : ℕ → Option Object)
             (own : List Block) (blocks : ℕ → List Block) → Holds store.old stored
@@ -108,6 +110,7 @@ impl DatasetChanges {
             → AnswersAreTrue store.old store.new → AreOver objects self.old
             → (list : List Block) → HasListNow objects self.old number list
             → AreOver objects self.new × HasListNow objects self.new number (list ++ added.now)) }
+        ensures caused { IfErr result (IsCaused store.old store.new []) }
         ensures refused { IfErr result (IsListEndUnread store.old store.new self.old number) }
         ensures known { IfErr result (λ refusal. (stored : Contents) (objects : ℕ → Option Object)
             (own : List Block) (blocks : ℕ → List Block) → Holds store.old stored
@@ -192,6 +195,7 @@ impl DatasetChanges {
             → IsListNow (objects number) state found
             × ((list : List Block) → IsListNow (objects number) state list
             → IsPermutation found list)) }
+        ensures caused { IfErr result (IsCaused store.old store.new []) }
         ensures refused { IfErr result (λ refusal. (refusal ≡ Refusal.NoMemory)
             ⊎ (((why : ListRefusal) × (refusal ≡ of_list why)
             × IsListRefused store.old store.new [] (set_of self.now) (birth_of self.now) number why)
@@ -232,6 +236,7 @@ impl DatasetChanges {
             → AreObjects stored (birth_of self.now) (set_of self.now) objects own blocks
             → AnswersAreTrue store.old store.new → (list : List Block)
             → HasDeadList (objects number) list → IsPermutation found list) }
+        ensures caused { IfErr result (IsCaused store.old store.new []) }
         ensures refused { IfErr result (λ refusal. (why : ListRefusal) × (refusal ≡ of_list why)
             × IsListRefused store.old store.new [] (set_of self.now) (birth_of self.now)
             number why) }
@@ -266,6 +271,7 @@ impl DatasetChanges {
             → (list : List Block) → IsListNow (objects number) state list
             → IsListOver (objects number) (Some known)
             × IsListNow (objects number) (Some known) list) }
+        ensures caused { IfErr result (IsCaused store.old store.new []) }
         ensures refused { IfErr result (λ refusal. (why : ListRefusal) × (refusal ≡ of_list why)
             × IsEndUnread store.old store.new [] (set_of self.now) (birth_of self.now)
             number why) }
@@ -299,6 +305,7 @@ impl DatasetChanges {
             → AnswersAreTrue store.old store.new → (rows : List ℕ)
             → HasTable dead_list_kind (objects number) rows
             → IsEndOf dead_list_kind (objects number) rows end) }
+        ensures caused { IfErr result (IsCaused store.old store.new []) }
         ensures refused { IfErr result (λ refusal. (why : ListRefusal) × (refusal ≡ of_list why)
             × IsEndUnread store.old store.new [] (set_of self.now) (birth_of self.now)
             number why) }

@@ -2,6 +2,7 @@
 ghost use Rattle.std.specs.Prelude.{◌≡◌, ◌≢◌, ◌⊎◌, ◌↔◌, ◌*◌, ◌^◌, ◌<◌, [], ℕ, List, Option, Some, None, OnOk, OnErr, IfOk, IfErr, IfSome, IsTrue, MatchOption};
 ghost use Rattle.block_pointer.specs.declared.block.Block.{Block};
 ghost use Rattle.block_store.specs.Blocks.{Contents};
+ghost use Rattle.block_store.specs.Causes.{IsCaused};
 ghost use Rattle.block_store.specs.Losses.{IsForLoss};
 ghost use Rattle.block_store.specs.Steps.{OnlyReadsBlocks, AnswersAreTrue};
 ghost use Rattle.block_store.specs.Store.{Holds};
@@ -71,6 +72,7 @@ impl DatasetChanges {
             × ((r : DatasetRecord) → HasRecordNow objects self.old number r → r ≡ found)) }
 
         // Whatever the set is: why it was not read.
+        ensures caused { IfErr result (IsCaused store.old store.new []) }
         ensures refused { IfErr result (IsRecordUnread store.old store.new self.old number) }
 
         // And one that is there is read, over disks that answer truly, unless too many disks miss of a
@@ -193,6 +195,7 @@ impl DatasetChanges {
             → AreObjects stored (birth_of self.old) (set_of self.old) objects own blocks
             → AnswersAreTrue store.old store.new → (other : DatasetRecord)
             → HasRecord (objects number) other → found ≡ other) }
+        ensures caused { IfErr result (IsCaused store.old store.new []) }
         ensures refused { IfErr result (λ refusal. (refusal ≡ Refusal.NoMemory)
             ⊎ IsRecordRefused store.old store.new [] (set_of self.old) (birth_of self.old)
             number refusal) }

@@ -2,6 +2,7 @@
 ghost use Rattle.std.specs.Prelude.{◌≡◌, ◌≤◌, ◌++◌, [], ℕ, List, Option, OnOk, IfErr};
 ghost use Rattle.block_pointer.specs.declared.block.Block.{Block};
 ghost use Rattle.block_store.specs.Blocks.{Contents};
+ghost use Rattle.block_store.specs.Causes.{IsCaused};
 ghost use Rattle.block_store.specs.Losses.{IsForLoss};
 ghost use Rattle.block_store.specs.Steps.{OnlyReadsBlocks, AnswersAreTrue};
 ghost use Rattle.block_store.specs.Store.{Holds};
@@ -58,6 +59,7 @@ pub fn destroy<D: Disk + Drop>(
         → AnswersAreTrue store.old store.new
         → SpellsChains stored group objects changes.old pool readings
         → MayDestroy pool number → TouchesOwnLists objects changes.old changes.new) }
+    ensures caused { IfErr result (IsCaused store.old store.new []) }
     ensures refused { IfErr result (IsDatasetKept store.old store.new changes.old changes.new
         number group left.old left.new) }
     ensures known { IfErr result (λ refusal. (stored : Contents)

@@ -1,6 +1,7 @@
 //! A head in its chain, as it is looked up.
 ghost use Rattle.std.specs.Prelude.{◌≡◌, [], ℕ, Option, OnOk, IfOk, IfErr};
 ghost use Rattle.block_store.specs.Blocks.{Contents};
+ghost use Rattle.block_store.specs.Causes.{IsCaused};
 ghost use Rattle.block_store.specs.Losses.{IsForLoss};
 ghost use Rattle.block_store.specs.Steps.{OnlyReadsBlocks};
 ghost use Rattle.dataset_chains.specs.Chains.{Reading, SpellsChains};
@@ -59,6 +60,7 @@ impl HeadPlace {
             → AreOver objects changes.old
             → AreSameNow objects changes.old changes.new
             × AreHeadPlaced objects changes.old place) }
+        ensures caused { IfErr result (IsCaused store.old store.new []) }
         ensures refused { IfErr result
             (IsHeadUnfit store.old store.new changes.old changes.new number) }
         ensures known { IfErr result (λ refusal. (stored known : Contents) (group : ℕ)
@@ -105,6 +107,7 @@ fn head_record<D: Disk + Drop>(
     ensures value { IfOk result (λ found. (stored : Contents) (objects : ℕ → Option Object)
         → TellsObjects store.old store.new changes.old stored objects → AreOver objects changes.old
         → IsFound objects changes.old changes.new number found) }
+    ensures caused { IfErr result (IsCaused store.old store.new []) }
     ensures refused { IfErr result
         (IsHeadUnfit store.old store.new changes.old changes.new number) }
     ensures known { IfErr result (λ refusal. (stored : Contents) (objects : ℕ → Option Object)

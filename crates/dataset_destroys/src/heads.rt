@@ -2,6 +2,7 @@
 ghost use Rattle.std.specs.Prelude.{◌≡◌, ◌≤◌, ◌++◌, [], ℕ, List, Option, OnOk, IfErr, length};
 ghost use Rattle.block_pointer.specs.declared.block.Block.{Block};
 ghost use Rattle.block_store.specs.Blocks.{Contents};
+ghost use Rattle.block_store.specs.Causes.{IsCaused};
 ghost use Rattle.block_store.specs.Losses.{IsForLoss};
 ghost use Rattle.block_store.specs.Steps.{OnlyReadsBlocks, AnswersAreTrue};
 ghost use Rattle.block_store.specs.Store.{Holds};
@@ -63,6 +64,7 @@ pub fn destroy_head<D: Disk + Drop>(
         → AnswersAreTrue store.old store.new
         → SpellsChains stored group objects changes.old pool readings
         → MayDo pool (DestroyHead head) → TouchesOwnLists objects changes.old changes.new) }
+    ensures caused { IfErr result (IsCaused store.old store.new []) }
     ensures refused { IfErr result (IsHeadKept store.old store.new changes.old changes.new head
         group left.old left.new) }
     ensures known { IfErr result (λ refusal. (stored : Contents)

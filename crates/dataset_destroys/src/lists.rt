@@ -3,6 +3,7 @@ ghost use Rattle.std.specs.Prelude.{◌≡◌, ◌≢◌, ◌⊎◌, ◌++◌, [
 ghost use Rattle.block_pointer.specs.declared.block.Block.{Block};
 ghost use Rattle.block_pointer.specs.Block.{FitsBlock};
 ghost use Rattle.block_store.specs.Blocks.{Contents};
+ghost use Rattle.block_store.specs.Causes.{IsCaused};
 ghost use Rattle.block_store.specs.Losses.{IsForLoss};
 ghost use Rattle.block_store.specs.Steps.{OnlyReadsBlocks};
 ghost use Rattle.dataset_chains.specs.Refused.{IsListLost};
@@ -46,6 +47,7 @@ pub(crate) fn give_over<D: Disk + Drop>(
         → (gone : List Block) × (freed.new.items ≡ freed.old.items ++ gone)
         × AreGivenOver objects changes.old changes.new (place.now).gone.dead_list
         (place.now).after.dead_list (group_of (place.now).before) dead own gone) }
+    ensures caused { IfErr result (IsCaused store.old store.new []) }
     ensures refused { IfErr result (λ refusal. (refusal ≡ Refusal.NoMemory)
         ⊎ IsListLost store.old store.new changes.old refusal) }
     ensures known { IfErr result (λ refusal. (stored : Contents) (objects : ℕ → Option Object)

@@ -1,6 +1,7 @@
 //! A snapshot in its chain, as it is looked up.
 ghost use Rattle.std.specs.Prelude.{◌≡◌, [], ℕ, Option, OnOk, IfOk, IfErr};
 ghost use Rattle.block_store.specs.Blocks.{Contents};
+ghost use Rattle.block_store.specs.Causes.{IsCaused};
 ghost use Rattle.block_store.specs.Losses.{IsForLoss};
 ghost use Rattle.block_store.specs.Steps.{OnlyReadsBlocks};
 ghost use Rattle.dataset_chains.specs.Chains.{Reading, SpellsChains};
@@ -60,6 +61,7 @@ impl Place {
             → TellsObjects store.old store.new changes.old stored objects
             → AreOver objects changes.old
             → AreSameNow objects changes.old changes.new × ArePlaced objects changes.old place) }
+        ensures caused { IfErr result (IsCaused store.old store.new []) }
         ensures refused { IfErr result
             (IsSnapshotKept store.old store.new changes.old changes.new number) }
         ensures known { IfErr result (λ refusal. (stored known : Contents) (group : ℕ)
@@ -108,6 +110,7 @@ fn lone_snapshot<D: Disk + Drop>(
     ensures value { IfOk result (λ found. (stored : Contents) (objects : ℕ → Option Object)
         → TellsObjects store.old store.new changes.old stored objects → AreOver objects changes.old
         → IsFound objects changes.old changes.new number found) }
+    ensures caused { IfErr result (IsCaused store.old store.new []) }
     ensures refused { IfErr result
         (IsSnapshotKept store.old store.new changes.old changes.new number) }
     ensures known { IfErr result (λ refusal. (stored : Contents) (objects : ℕ → Option Object)
@@ -145,6 +148,7 @@ fn follower<D: Disk + Drop>(
     ensures value { IfOk result (λ found. (stored : Contents) (objects : ℕ → Option Object)
         → TellsObjects store.old store.new changes.old stored objects → AreOver objects changes.old
         → IsFound objects changes.old changes.new (gone.now).next found) }
+    ensures caused { IfErr result (IsCaused store.old store.new []) }
     ensures refused { IfErr result (λ refusal. HasKnown changes.old number gone.now
         → IsSnapshotKept store.old store.new changes.old changes.new number refusal) }
     ensures known { IfErr result (λ refusal. (stored : Contents) (objects : ℕ → Option Object)

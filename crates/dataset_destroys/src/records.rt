@@ -1,6 +1,7 @@
 //! Records that a destroy looks at.
 ghost use Rattle.std.specs.Prelude.{◌≡◌, ◌≢◌, ◌↔◌, [], ℕ, Option, IsTrue, OnOk, IfOk, IfErr};
 ghost use Rattle.block_store.specs.Blocks.{Contents};
+ghost use Rattle.block_store.specs.Causes.{IsCaused};
 ghost use Rattle.block_store.specs.Losses.{IsForLoss};
 ghost use Rattle.block_store.specs.Steps.{OnlyReadsBlocks};
 ghost use Rattle.dataset_chains.specs.Refused.{HasKnown, IsRecordLost};
@@ -37,6 +38,7 @@ pub(crate) fn known_record<D: Disk + Drop>(
     ensures value { IfOk result (λ found. (stored : Contents) (objects : ℕ → Option Object)
         → TellsObjects store.old store.new changes.old stored objects → AreOver objects changes.old
         → IsFound objects changes.old changes.new number found) }
+    ensures caused { IfErr result (IsCaused store.old store.new []) }
     ensures refused { IfErr result (IsRecordLost store.old store.new changes.old) }
     ensures known { IfErr result (λ refusal. (stored : Contents) (objects : ℕ → Option Object)
         → TellsObjects store.old store.new changes.old stored objects → IsNumber number
@@ -65,6 +67,7 @@ pub(crate) fn record_before<D: Disk + Drop>(
         → TellsObjects store.old store.new changes.old stored objects → AreOver objects changes.old
         → AreSameNow objects changes.old changes.new
         × IsBefore objects changes.old (dataset.now).previous found) }
+    ensures caused { IfErr result (IsCaused store.old store.new []) }
     ensures refused { IfErr result (IsRecordLost store.old store.new changes.old) }
     ensures known { IfErr result (λ refusal. (stored : Contents) (objects : ℕ → Option Object)
         → TellsObjects store.old store.new changes.old stored objects

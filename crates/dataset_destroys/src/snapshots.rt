@@ -2,6 +2,7 @@
 ghost use Rattle.std.specs.Prelude.{◌≡◌, ◌++◌, [], ℕ, List, Option, OnOk, IfErr};
 ghost use Rattle.block_pointer.specs.declared.block.Block.{Block};
 ghost use Rattle.block_store.specs.Blocks.{Contents};
+ghost use Rattle.block_store.specs.Causes.{IsCaused};
 ghost use Rattle.block_store.specs.Losses.{IsForLoss};
 ghost use Rattle.block_store.specs.Steps.{OnlyReadsBlocks, AnswersAreTrue};
 ghost use Rattle.block_store.specs.Store.{Holds};
@@ -60,6 +61,7 @@ pub fn destroy_snapshot<D: Disk + Drop>(
         → SpellsChains known group objects changes.old pool readings
         → MayDo pool (DestroySnapshot snapshot)
         → TouchesOwnLists objects changes.old changes.new) }
+    ensures caused { IfErr result (IsCaused store.old store.new []) }
     ensures refused { IfErr result (IsSnapshotKept store.old store.new changes.old changes.new
         snapshot) }
     ensures known { IfErr result (λ refusal. (stored known : Contents) (group : ℕ)

@@ -1,6 +1,7 @@
 //! The blocks of a volume that were born after a transaction group.
 ghost use Rattle.std.specs.Prelude.{◌≡◌, ◌+◌, ◌<◌, ◌≤◌, ◌↔◌, ◌∷◌, [], ℕ, List, IsTrue, IfOk, IfErr, length};
 ghost use Rattle.block_store.specs.Blocks.{Contents};
+ghost use Rattle.block_store.specs.Causes.{IsCaused};
 ghost use Rattle.block_store.specs.Losses.{IsForLoss};
 ghost use Rattle.block_store.specs.Steps.{OnlyReadsBlocks, AnswersAreTrue};
 ghost use Rattle.block_store.specs.Store.{Holds};
@@ -40,6 +41,7 @@ pub(crate) fn younger_blocks<D: Disk + Drop>(
         → (is : IsVolume stored bound block.now size block_size array) → bound ≤ birth
         → AnswersAreTrue store.old store.new → found.items
         ≡ younger since (blocks_of_volume block.now is.set is.has.own is.has.blocks)) }
+    ensures caused { IfErr result (IsCaused store.old store.new []) }
     ensures refused { IfErr result
         (IsTreeRefused since store.old store.new birth block.now left.old left.new) }
 
@@ -77,6 +79,7 @@ fn counted_set<D: Disk + Drop>(
         → AnswersAreTrue store.old store.new → set ≡ other) }
     ensures found { IfOk result (IsSetFound store.old.spaces birth block.now) }
     ensures kind { IfOk result (λ set. set.kind ≡ kinds.Volume) }
+    ensures caused { IfErr result (IsCaused store.old store.new []) }
     ensures refused { IfErr result
         (IsTreeMissed store.old store.new birth block.now left.old) }
     ensures known { IfErr result (λ refusal. (stored : Contents) (other : ObjectSet)

@@ -2,6 +2,7 @@
 ghost use Rattle.std.specs.Prelude.{◌≡◌, ◌⊎◌, ◌%◌, ◌≤◌, ◌<◌, ◌^◌, [], IsTrue, OnOk, IfOk, IfErr, replicate};
 ghost use Rattle.block_pointer.specs.Block.{FitsBlock};
 ghost use Rattle.block_store.specs.Blocks.{Contents, Extends};
+ghost use Rattle.block_store.specs.Causes.{IsCaused};
 ghost use Rattle.block_store.specs.Plans.{Plans};
 ghost use Rattle.block_store.specs.Steps.{OnlyReadsAndPlans, AnswersAreTrue};
 ghost use Rattle.dnode_tree.specs.Writes.{IsForRoom};
@@ -62,6 +63,7 @@ impl VolumeSet {
         // What places are taken for, and on a refusal its cause.
         ensures places { OnOk result ((change : Change) × IsCreation block_size change
             × HasPlacesFor store.old store.new empty_set birth change) }
+        ensures caused { IfErr result (IsCaused store.old store.new []) }
         ensures refused { IfErr result (λ refusal. (change : Change)
             × IsCreation block_size change
             × IsPlanRefused store.old store.new empty_set birth birth change

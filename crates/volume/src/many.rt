@@ -3,6 +3,7 @@ ghost use Rattle.std.specs.Prelude.{◌≡◌, ◌≢◌, ◌⊎◌, ◌/◌, �
 ghost use Rattle.std.specs.List.{AllZip};
 ghost use Rattle.std.specs.List.Sorted.{IsStrictlyIncreasing};
 ghost use Rattle.block_store.specs.Blocks.{Contents};
+ghost use Rattle.block_store.specs.Causes.{IsCaused};
 ghost use Rattle.block_store.specs.Losses.{IsForLoss};
 ghost use Rattle.block_store.specs.Steps.{OnlyReadsBlocks, AnswersAreTrue};
 ghost use Rattle.block_store.specs.Store.{Holds};
@@ -43,6 +44,7 @@ impl VolumeSet {
             ids.now blocks.items) }
         ensures found { OnOk result (All (λ id. (found : Option (List ℕ))
             × IsFound store.old.spaces self.now set.now id found) ids.now) }
+        ensures caused { IfErr result (IsCaused store.old store.new missing.now) }
         ensures refused { IfErr result (λ refusal. (refusal ≡ Refusal.NoMemory)
             ⊎ IsUnread store.old store.new missing.now self.now set.now
             (λ id. Contains ids.now id) refusal) }

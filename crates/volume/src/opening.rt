@@ -1,6 +1,7 @@
 //! The object set of a volume is read and judged.
 ghost use Rattle.std.specs.Prelude.{◌≡◌, ◌≢◌, ◌≤◌, ◌↔◌, ℕ, List, IsTrue, IfOk, IfErr, IsSomeAnd};
 ghost use Rattle.block_store.specs.Blocks.{Contents};
+ghost use Rattle.block_store.specs.Causes.{IsCaused};
 ghost use Rattle.block_store.specs.Losses.{IsForLoss};
 ghost use Rattle.block_store.specs.Steps.{OnlyReadsBlocks, AnswersAreTrue};
 ghost use Rattle.block_store.specs.Store.{Holds};
@@ -34,6 +35,7 @@ impl VolumeSet {
 
         // Whatever the volume is: what was found, and on a refusal its cause.
         ensures found { IfOk result (IsVolumeFound store.old.spaces self.now birth) }
+        ensures caused { IfErr result (IsCaused store.old store.new missing.now) }
         ensures refused { IfErr result
             (IsVolumeRefused store.old store.new missing.now self.now birth) }
         ensures cause { IfErr result (λ refusal. refusal ≢ Refusal.NoSpace) }

@@ -4,6 +4,7 @@ ghost use Rattle.std.specs.declared.alloc.Global.{Global};
 ghost use Rattle.block_pointer.specs.declared.block.Block.{Block};
 ghost use Rattle.block_pointer.specs.Block.{FitsBlock};
 ghost use Rattle.block_store.specs.Blocks.{Contents, Extends};
+ghost use Rattle.block_store.specs.Causes.{IsCaused};
 ghost use Rattle.block_store.specs.Plans.{Plans};
 ghost use Rattle.block_store.specs.Steps.{OnlyReadsAndPlans, AnswersAreTrue};
 ghost use Rattle.dnode.specs.declared.object_set.ObjectSet.{ObjectSet};
@@ -85,6 +86,7 @@ impl VolumeSet {
         // Whatever the volume is: what places are taken for, and on a refusal its cause.
         ensures places { OnOk result (blocks.items ≢ []
             → HasPlaces store.old store.new self.now birth blocks) }
+        ensures caused { IfErr result (IsCaused store.old store.new []) }
         ensures refused { IfErr result
             (IsPlacingRefused store.old store.new self.now birth blocks) }
 
@@ -135,6 +137,7 @@ impl VolumeSet {
         ensures places { OnOk result ((blocks : Vec BlockWrite Global)
             × ArePutBy self.now changes.now blocks.items × (blocks.items ≢ []
             → HasPlaces store.old store.new self.now birth blocks)) }
+        ensures caused { IfErr result (IsCaused store.old store.new []) }
         ensures refused { IfErr result
             (IsWritingRefused store.old store.new self.now birth_before birth changes.now) }
         ensures known { IfErr result (λ refusal. (stored planned : Contents) (array : List ℕ)
@@ -172,6 +175,7 @@ impl VolumeSet {
             → LacksRoom store.old store.new) }
 
         ensures places { OnOk result (HasPlaces store.old store.new self.now birth blocks) }
+        ensures caused { IfErr result (IsCaused store.old store.new []) }
         ensures refused { IfErr result
             (IsPlacingRefused store.old store.new self.now birth blocks) }
         ensures known { IfErr result (λ refusal. (stored planned : Contents) (bound : ℕ)
@@ -230,6 +234,7 @@ pub(crate) fn plan_change<D: Disk + Drop>(
     ensures no_room { IfErr result (λ refusal. refusal ≡ Refusal.NoSpace
         → LacksRoom store.old store.new) }
     ensures places { OnOk result (HasPlacesFor store.old store.new set.now birth change) }
+    ensures caused { IfErr result (IsCaused store.old store.new []) }
     ensures refused { IfErr result (IsPlanRefused store.old store.new set.now before birth change) }
     ensures known { IfErr result (λ refusal. (stored planned : Contents) (bound : ℕ)
         (objects : ℕ → Option Object) (own : List Block) (blocks : ℕ → List Block)

@@ -2,6 +2,7 @@
 ghost use Rattle.std.specs.Prelude.{◌≡◌, ◌⊎◌, ◌+◌, ◌-◌, ◌*◌, ◌/◌, ◌≤◌, ◌<◌, ◌^◌, [], ℕ, List, All, length, IfOk, IfErr, slice_range};
 ghost use Rattle.std.specs.List.{AllZip, range_with_len};
 ghost use Rattle.block_store.specs.Blocks.{Contents};
+ghost use Rattle.block_store.specs.Causes.{IsCaused};
 ghost use Rattle.block_store.specs.Losses.{IsForLoss};
 ghost use Rattle.block_store.specs.Steps.{OnlyReadsBlocks, AnswersAreTrue};
 ghost use Rattle.block_store.specs.Store.{Holds};
@@ -43,6 +44,7 @@ impl VolumeSet {
         // Whatever the volume is: that its set was found to be one, and on a refusal its cause.
         ensures found { IfOk result (λ read. (set : ObjectSet)
             × IsVolumeFound store.old.spaces self.now birth set) }
+        ensures caused { IfErr result (IsCaused store.old store.new missing.now) }
         ensures refused { IfErr result (λ refusal. (refusal ≡ Refusal.NoMemory)
             ⊎ IsReadRefused store.old store.new missing.now self.now birth
             (LiesIn self.now offset (offset + len)) refusal) }
@@ -75,6 +77,7 @@ impl VolumeSet {
             → Holds store.old stored → HasData stored (block_of self.now).birth set.now
             (size_of self.now) (block_size_of self.now) array → AnswersAreTrue store.old store.new
             → read.items ≡ slice_range array offset (offset + len)) }
+        ensures caused { IfErr result (IsCaused store.old store.new missing.now) }
         ensures refused { IfErr result (λ refusal. (refusal ≡ Refusal.NoMemory)
             ⊎ IsUnread store.old store.new missing.now self.now set.now
             (LiesIn self.now offset (offset + len)) refusal) }

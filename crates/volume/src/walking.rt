@@ -1,6 +1,7 @@
 //! All blocks of a volume that need not be one.
 ghost use Rattle.std.specs.Prelude.{◌≡◌, ◌≢◌, ◌+◌, ◌<◌, ◌≤◌, ◌∷◌, ℕ, List, length, IfOk, IfErr};
 ghost use Rattle.block_store.specs.Blocks.{Contents};
+ghost use Rattle.block_store.specs.Causes.{IsCaused};
 ghost use Rattle.block_store.specs.Losses.{IsForLoss};
 ghost use Rattle.block_store.specs.Steps.{OnlyReadsBlocks, AnswersAreTrue};
 ghost use Rattle.block_store.specs.Store.{Holds};
@@ -48,6 +49,7 @@ impl VolumeSet {
         // Whatever the volume is: what was found, by so many reads, and on a refusal its cause.
         ensures count { IfOk result (λ found.
             IsVolumeWalked store.old.spaces self.now birth left.old left.new found.items) }
+        ensures caused { IfErr result (IsCaused store.old store.new missing.now) }
         ensures refused { IfErr result (IsVolumeWalkRefused store.old store.new missing.now
             self.now birth left.old left.new) }
         ensures cause { IfErr result (λ refusal. refusal ≢ Refusal.NoSpace) }
@@ -87,6 +89,7 @@ impl VolumeSet {
         // Whatever the volume is: what was found, by so many reads, and on a refusal its cause.
         ensures count { IfOk result (λ found. IsYoungerVolumeWalked since store.old.spaces self.now
             birth left.old left.new found.items) }
+        ensures caused { IfErr result (IsCaused store.old store.new missing.now) }
         ensures refused { IfErr result (IsYoungerVolumeRefused since store.old store.new missing.now
             self.now birth left.old left.new) }
         ensures cause { IfErr result (λ refusal. refusal ≢ Refusal.NoSpace) }
@@ -126,6 +129,7 @@ impl VolumeSet {
             → Holds store.old stored → (is : Spells stored bound self.now array) → bound ≤ birth
             → AnswersAreTrue store.old store.new → set ≡ is.set) }
         ensures found { IfOk result (IsSetThere store.old.spaces self.now birth) }
+        ensures caused { IfErr result (IsCaused store.old store.new missing.now) }
         ensures refused { IfErr result
             (IsSetMissed store.old store.new missing.now self.now birth left.old) }
         ensures cause { IfErr result (λ refusal. refusal ≢ Refusal.NoSpace) }

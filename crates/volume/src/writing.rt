@@ -6,6 +6,7 @@ ghost use Rattle.pool_model.specs.declared.volume.PlainVolume.{PlainVolume};
 ghost use Rattle.pool_model.specs.Pools.{is_snapshot};
 ghost use Rattle.volume_rules.specs.Overlay.{after_writes};
 ghost use Rattle.block_store.specs.Blocks.{Contents};
+ghost use Rattle.block_store.specs.Causes.{IsCaused};
 ghost use Rattle.block_store.specs.Losses.{IsForLoss};
 ghost use Rattle.block_store.specs.Steps.{OnlyReadsBlocks, AnswersAreTrue};
 ghost use Rattle.block_store.specs.Store.{Holds};
@@ -69,6 +70,7 @@ impl VolumeSet {
         ensures found { IfOk result (λ blocks. All (λ block.
             ¬ IsCovered self.now changes.now.name.now changes.now.items.now.writes block.id
             → IsWayRead store.old.spaces self.now birth block.id) blocks.items) }
+        ensures caused { IfErr result (IsCaused store.old store.new []) }
         ensures refused { IfErr result (λ refusal. (refusal ≡ Refusal.NoMemory)
             ⊎ IsReadRefused store.old store.new [] self.now birth
             (NeedsOldBytes self.now changes.now.name.now changes.now.items.now.writes) refusal) }
@@ -117,6 +119,7 @@ impl VolumeSet {
             × IsFound store.old.spaces self.now set.now block.id found) blocks.items) }
         ensures unread { All (IsCovered self.now changes.now.name.now changes.now.items.now.writes) ids.now
             → store.new ≡ store.old }
+        ensures caused { IfErr result (IsCaused store.old store.new []) }
         ensures refused { IfErr result (λ refusal. (refusal ≡ Refusal.NoMemory)
             ⊎ IsUnread store.old store.new [] self.now set.now (λ id. Contains ids.now id
             × ¬ IsCovered self.now changes.now.name.now changes.now.items.now.writes id) refusal) }

@@ -33,3 +33,6 @@ returns-clause-stays g c = read_kept (λ (number : ℕ). None) c.args.changes.no
 
 pub returns-clause-touched : goal.returns-clause-touched
 returns-clause-touched g c = read_at_most c.args.changes.now c.record.new.self c.args.dataset.now.previous c.in_ok-before.before c.in_ok-before.ensures.kept
+
+pub returns-in_err-before-clause-caused : goal.returns-in_err-before-clause-caused
+returns-in_err-before-clause-caused g c = passed_on _ _ _ c.from_residual.ensures.1 c.in_err-before.ensures.caused

@@ -16,6 +16,8 @@ use Rattle.dataset_chains.proofs.RecordsNow.{list_stays}
 use Rattle.dataset_chains.proofs.Refusing.{end_lost, lost_later}
 use Rattle.dataset_chains.proofs.SameLists.{keeps_lists, same_list, was_read}
 use Rattle.dataset_chains.proofs.Touching.{all_read, put_known, still_known, touches}
+use Rattle.block_store.proofs.Causes.{caused_behind_reads}
+use Rattle.volume.proofs.Refusing.{own_cause}
 use Rattle.dataset_chains.proofs.heads.overwrite.Goals as goal
 
 pub returns-in_err-since-clause-reads : goal.returns-in_err-since-clause-reads
@@ -173,3 +175,15 @@ returns-in_err-dataset-clause-known g c =
     passed_on _ _ _ c.from_residual.ensures.1
     (λ stored known group objects own blocks pool readings held are honest spells head of_head.
     c.in_err-dataset.ensures.known stored known group objects own blocks pool readings held are honest spells head)
+
+pub returns-in_err-dataset-clause-caused : goal.returns-in_err-dataset-clause-caused
+returns-in_err-dataset-clause-caused g c = passed_on _ _ _ c.from_residual.ensures.1 c.in_err-dataset.ensures.caused
+
+pub returns-in_err-since-clause-caused : goal.returns-in_err-since-clause-caused
+returns-in_err-since-clause-caused g c = passed_on _ _ _ c.from_residual-in_err-since.ensures.1 (caused_behind_reads _ _ _ _ _ c.record_of_kind.ensures.reads c.in_err-since.ensures.caused)
+
+pub returns-in_err-expect_rows-clause-caused : goal.returns-in_err-expect_rows-clause-caused
+returns-in_err-expect_rows-clause-caused g c = passed_on _ _ _ c.from_residual-in_err-expect_rows.ensures.1 (own_cause _ _ _ _ _ (inr c.in_err-expect_rows.ensures.refused))
+
+pub returns-in_err-add_to_list-clause-caused : goal.returns-in_err-add_to_list-clause-caused
+returns-in_err-add_to_list-clause-caused g c = passed_on _ _ _ c.from_residual-in_err-add_to_list.ensures.1 (caused_behind_reads _ _ _ _ _ (reads_on _ _ _ _ c.record_of_kind.ensures.reads c.group_before.ensures.reads) c.in_err-add_to_list.ensures.caused)

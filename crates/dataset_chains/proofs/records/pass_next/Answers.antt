@@ -54,3 +54,6 @@ returns-in_ok-change_record-clause-touched g c =
 pub returns-else-dataset-from-clause-touched : goal.returns-else-dataset-from-clause-touched
 returns-else-dataset-from-clause-touched g c = λ number.
     inl (read_at_most c.args.changes.now c.record.new.self c.args.before c.in_ok-dataset.dataset c.in_ok-dataset.ensures.kept number)
+
+pub returns-in_err-dataset-clause-caused : goal.returns-in_err-dataset-clause-caused
+returns-in_err-dataset-clause-caused g c = refused_on _ _ _ c.from_residual.ensures.1 c.in_err-dataset.ensures.caused

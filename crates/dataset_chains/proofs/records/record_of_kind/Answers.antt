@@ -34,3 +34,6 @@ returns-clause-value g c = λ stored known group objects own blocks pool reading
 
 pub returns-clause-touched : goal.returns-clause-touched
 returns-clause-touched g c = read_at_most c.args.changes.now c.record.new.self c.args.number c.in_ok-dataset.dataset c.in_ok-dataset.ensures.kept
+
+pub returns-in_err-dataset-clause-caused : goal.returns-in_err-dataset-clause-caused
+returns-in_err-dataset-clause-caused g c = passed_on _ _ _ c.from_residual.ensures.1 c.in_err-dataset.ensures.caused

@@ -36,3 +36,9 @@ returns-clause-touched g c =
     clones c.args.changes.now c.record_of_kind.new.changes c.change_record.new.self c.make_record.new.self c.make_list.new.self c.args.snapshot c.args.numbers.dataset c.args.numbers.dead_list _ _ _
     c.in_ok-origin.ensures.touched c.in_ok-change_record.ensures.put c.in_ok-make_record.ensures.put c.make_list.ensures.records
     (λ one. c.make_record.ensures.lists one ∙ c.change_record.ensures.lists one ∙ c.record_of_kind.ensures.lists one) c.in_ok-make_list.ensures.put
+
+pub returns-in_err-origin-clause-caused : goal.returns-in_err-origin-clause-caused
+returns-in_err-origin-clause-caused g c = passed_on _ _ _ c.from_residual.ensures.1 (inl c.in_err-origin.ensures.caused)
+
+pub returns-in_default-clause-caused : goal.returns-in_default-clause-caused
+returns-in_default-clause-caused g c = let full : c.in_ok-origin.origin.clones ≡ 2 ^ 64 - 1 = search rules in inr (refl, (c.in_ok-origin.origin, c.in_ok-origin.ensures.known_as, full))

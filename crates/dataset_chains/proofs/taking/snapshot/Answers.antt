@@ -9,6 +9,7 @@ use Rattle.dataset_chains.proofs.Refusing.{lost_later}
 use Rattle.dataset_chains.proofs.Snapped.{head_kept, snapped}
 use Rattle.dataset_chains.proofs.Touching.{takes}
 use Rattle.dataset_chains.proofs.Unused.{new_list_on}
+use Rattle.block_store.proofs.Causes.{caused_behind_reads}
 use Rattle.dataset_chains.proofs.taking.snapshot.Goals as goal
 
 pub returns-clause-value : goal.returns-clause-value
@@ -84,3 +85,9 @@ returns-clause-touched g c =
     c.in_ok-make_record.ensures.put c.in_ok-change_record.ensures.put c.make_list.ensures.records
     (λ one. c.change_record.ensures.lists one ∙ c.make_record.ensures.lists one ∙ c.pass_next.ensures.lists one ∙ c.record_of_kind.ensures.lists one)
     c.in_ok-make_list.ensures.put
+
+pub returns-in_err-dataset-clause-caused : goal.returns-in_err-dataset-clause-caused
+returns-in_err-dataset-clause-caused g c = passed_on _ _ _ c.from_residual.ensures.1 c.in_err-dataset.ensures.caused
+
+pub returns-in_err-pass_next-clause-caused : goal.returns-in_err-pass_next-clause-caused
+returns-in_err-pass_next-clause-caused g c = passed_on _ _ _ c.from_residual-in_err-pass_next.ensures.1 (caused_behind_reads _ _ _ _ _ c.record_of_kind.ensures.reads c.in_err-pass_next.ensures.caused)

@@ -6,6 +6,7 @@ use Rattle.meta_objset.specs.declared.record.DatasetKind.TheVariants.{Volume, Sn
 use Rattle.dataset_destroys.proofs.EachKind.{behind, is_used, kept_behind, made_of_head, made_of_snapshot, may_head, may_snapshot}
 use Rattle.dataset_destroys.proofs.Refusing.{passed_on}
 use Rattle.dataset_destroys.proofs.Touching.{own_lists_behind, touched_behind}
+use Rattle.block_store.proofs.Causes.{caused_behind_reads}
 use Rattle.dataset_destroys.proofs.destroying.destroy.Goals as goal
 
 pub returns-in_err-dataset-clause-refused : goal.returns-in_err-dataset-clause-refused
@@ -79,3 +80,9 @@ returns-in-Volume-clause-own_lists g c = on_ok_weaker c.destroy_head.result (λ 
     c.record.ensures.lists c.in_ok-dataset.ensures.kept c.in_ok-dataset.ensures.value stored objects own blocks pool readings held are honest spells Volume c.in-Volume.is in
     own_lists_behind objects c.args.changes.now c.record.new.self c.destroy_head.new.changes c.record.ensures.lists
     (there stored objects own blocks pool readings at.held at.are at.honest at.spells (may_head pool c.args.number at.kind_as may))) c.destroy_head.ensures.own_lists
+
+pub returns-in-Snapshot-clause-caused : goal.returns-in-Snapshot-clause-caused
+returns-in-Snapshot-clause-caused g c = IfErr-weaker c.destroy_snapshot.result _ _ (λ refusal. caused_behind_reads _ _ _ _ refusal c.in_ok-dataset.ensures.reads) c.destroy_snapshot.ensures.caused
+
+pub returns-in-Volume-clause-caused : goal.returns-in-Volume-clause-caused
+returns-in-Volume-clause-caused g c = IfErr-weaker c.destroy_head.result _ _ (λ refusal. caused_behind_reads _ _ _ _ refusal c.in_ok-dataset.ensures.reads) c.destroy_head.ensures.caused

@@ -19,3 +19,6 @@ returns-then-not-is_head-clause-known g c = λ stored objects told over number r
     let same : r ≡ c.in_ok-gone.gone = (c.in_ok-gone.ensures.value stored objects told over).1.one r has in
     let no : false ≡ true = c.if-not-is_head.ensures.1 (ap (λ (x : DatasetRecord). x.kind) (sym same) ∙ kind) in
     absurd (true≢false (sym no))
+
+pub returns-in_err-gone-clause-caused : goal.returns-in_err-gone-clause-caused
+returns-in_err-gone-clause-caused g c = passed_on _ _ _ c.from_residual.ensures.1 c.in_err-gone.ensures.caused

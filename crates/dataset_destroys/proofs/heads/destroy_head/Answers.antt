@@ -9,6 +9,8 @@ use Rattle.dataset_destroys.proofs.ReadSteps.{tells_first, tells_rest}
 use Rattle.dataset_destroys.proofs.Refusing.{passed_on}
 use Rattle.dataset_destroys.proofs.Touching.{AreBesideTouched, head_own_lists, head_touched}
 use Rattle.dataset_destroys.specs.Steps.{TellsObjects}
+use Rattle.block_store.proofs.Causes.{caused_behind_reads}
+use Rattle.volume.proofs.Refusing.{own_cause}
 use Rattle.dataset_destroys.proofs.heads.destroy_head.Goals as goal
 
 pub returns-in_err-place-clause-refused : goal.returns-in_err-place-clause-refused
@@ -134,3 +136,12 @@ returns-clause-own_lists g c = λ stored objects own blocks pool readings held a
     let tells = head_tells stored c.args.group objects old pool readings spells c.args.head may place c.in_ok-place.ensures.number it.1 in
     head_own_lists objects old c.find.new.changes c.leave.new.changes c.in_ok-place.ensures.lists c.free_list.new.self place.gone.dead_list _ _ tells.dead
     c.in_ok-free_list.ensures.put c.in_ok-leave.ensures.lists
+
+pub returns-in_err-place-clause-caused : goal.returns-in_err-place-clause-caused
+returns-in_err-place-clause-caused g c = passed_on _ _ _ c.from_residual.ensures.1 c.in_err-place.ensures.caused
+
+pub returns-in_err-young-clause-caused : goal.returns-in_err-young-clause-caused
+returns-in_err-young-clause-caused g c = passed_on _ _ _ c.from_residual-in_err-young.ensures.1 (caused_behind_reads _ _ _ _ _ c.in_ok-place.ensures.reads c.in_err-young.ensures.caused)
+
+pub returns-in_err-free_list-clause-caused : goal.returns-in_err-free_list-clause-caused
+returns-in_err-free_list-clause-caused g c = passed_on _ _ _ c.from_residual-in_err-free_list.ensures.1 (own_cause _ _ _ _ _ c.in_err-free_list.ensures.refused)

@@ -4,6 +4,7 @@ use Rattle.dataset_destroys.proofs.GivenOver.{emptied, given_over, still_there}
 use Rattle.dataset_destroys.proofs.ReadSteps.{list_lost, list_lost_on, tells_first, tells_rest}
 use Rattle.dataset_destroys.proofs.Refusing.{passed_on}
 use Rattle.dead_list.specs.Blocks.{IsSplit}
+use Rattle.block_store.proofs.Causes.{caused_behind_reads}
 use Rattle.dataset_destroys.proofs.lists.give_over.Goals as goal
 
 pub returns-in_err-dead-clause-refused : goal.returns-in_err-dead-clause-refused
@@ -61,3 +62,9 @@ returns-clause-value g c = λ stored objects dead own told over apart has_dead h
           (c.in_ok-put_list.ensures.over objects [] two.0 empty) (one.2 dead has_dead) (two.2 own has_own_first)
           (subst (λ since. IsSplit since c.in_ok-dead.dead parts.0 parts.1) c.since.ensures parts.3) parts.4,
     )
+
+pub returns-in_err-dead-clause-caused : goal.returns-in_err-dead-clause-caused
+returns-in_err-dead-clause-caused g c = passed_on _ _ _ c.from_residual.ensures.1 c.in_err-dead.ensures.caused
+
+pub returns-in_err-own-clause-caused : goal.returns-in_err-own-clause-caused
+returns-in_err-own-clause-caused g c = passed_on _ _ _ c.from_residual-in_err-own.ensures.1 (caused_behind_reads _ _ _ _ _ c.in_ok-dead.ensures.reads c.in_err-own.ensures.caused)

@@ -18,3 +18,6 @@ pub returns-then-after-number-clause-known : goal.returns-then-after-number-clau
 returns-then-after-number-clause-known g c = λ stored objects told over number r has linked.
     let same : r ≡ c.in_ok-after.after = (c.in_ok-after.ensures.value stored objects told over).1.one r has in
     absurd (c.if-after-number.true (ap (λ (x : DatasetRecord). x.previous) (sym same) ∙ linked))
+
+pub returns-in_err-after-clause-caused : goal.returns-in_err-after-clause-caused
+returns-in_err-after-clause-caused g c = passed_on _ _ _ c.from_residual.ensures.1 c.in_err-after.ensures.caused

@@ -24,3 +24,6 @@ pub returns-then-gone-ne0-clause-known : goal.returns-then-gone-ne0-clause-known
 returns-then-gone-ne0-clause-known g c = λ stored objects told over number r has kind clones.
     let same : r ≡ c.in_ok-gone.gone = (c.in_ok-gone.ensures.value stored objects told over).1.one r has in
     absurd (c.if-gone-ne0.true (ap (λ (x : DatasetRecord). x.clones) (sym same) ∙ clones))
+
+pub returns-in_err-gone-clause-caused : goal.returns-in_err-gone-clause-caused
+returns-in_err-gone-clause-caused g c = passed_on _ _ _ c.from_residual.ensures.1 c.in_err-gone.ensures.caused

@@ -17,3 +17,6 @@ pub returns-clause-value : goal.returns-clause-value
 returns-clause-value g c = λ stored objects told over.
     let there = c.in_ok-found.ensures.value stored objects told.own told.blocks told.held told.are told.honest over in
     read_same objects c.args.changes.now c.record.new.self c.args.number c.in_ok-found.found there.0 c.in_ok-found.ensures.lists c.in_ok-found.ensures.kept there.1 there.2
+
+pub returns-in_err-found-clause-caused : goal.returns-in_err-found-clause-caused
+returns-in_err-found-clause-caused g c = passed_on _ _ _ c.from_residual.ensures.1 c.in_err-found.ensures.caused

@@ -5,6 +5,8 @@ use Rattle.dataset_destroys.proofs.ReadSteps.{list_lost_on, same_lists, tells_fi
 use Rattle.dataset_destroys.proofs.Refusing.{passed_on}
 use Rattle.dataset_destroys.proofs.Touching.{AreBesideTouched, snapshot_own_lists, snapshot_touched}
 use Rattle.dataset_destroys.specs.Steps.{TellsObjects}
+use Rattle.block_store.proofs.Causes.{caused_behind_reads}
+use Rattle.volume.proofs.Refusing.{own_cause}
 use Rattle.dataset_destroys.proofs.snapshots.destroy_snapshot.Goals as goal
 
 pub returns-in_err-place-clause-known : goal.returns-in_err-place-clause-known
@@ -111,3 +113,12 @@ returns-clause-own_lists g c = λ stored known group objects own blocks pool rea
     let after = after_as known group objects old pool readings spells c.args.snapshot may place number it.1 in
     snapshot_own_lists objects old c.find.new.changes c.free_list.new.self c.in_ok-place.ensures.lists c.give_over.new.changes c.link_past.new.changes place.gone.dead_list place.after.dead_list
     _ _ _ gone.dead after.dead c.in_ok-give_over.ensures.touched c.in_ok-link_past.ensures.lists c.in_ok-free_list.ensures.put
+
+pub returns-in_err-place-clause-caused : goal.returns-in_err-place-clause-caused
+returns-in_err-place-clause-caused g c = passed_on _ _ _ c.from_residual.ensures.1 c.in_err-place.ensures.caused
+
+pub returns-in_err-give_over-clause-caused : goal.returns-in_err-give_over-clause-caused
+returns-in_err-give_over-clause-caused g c = passed_on _ _ _ c.from_residual-in_err-give_over.ensures.1 (caused_behind_reads _ _ _ _ _ c.in_ok-place.ensures.reads c.in_err-give_over.ensures.caused)
+
+pub returns-in_err-free_list-clause-caused : goal.returns-in_err-free_list-clause-caused
+returns-in_err-free_list-clause-caused g c = passed_on _ _ _ c.from_residual-in_err-free_list.ensures.1 (own_cause _ _ _ _ _ c.in_err-free_list.ensures.refused)

@@ -11,3 +11,6 @@ returns-then-not-is_of_volume-clause-known g c = λ stored other held is kind so
     let same : c.in_ok-set.set ≡ other = c.in_ok-set.ensures.value stored other held is honest in
     let no : false ≡ true = c.if-not-is_of_volume.ensures.1 (ap (λ set. set.kind) same ∙ kind) in
     absurd (true≢false (sym no))
+
+pub returns-in_err-set-clause-caused : goal.returns-in_err-set-clause-caused
+returns-in_err-set-clause-caused g c = passed_on _ _ _ c.from_residual.ensures.1 c.in_err-set.ensures.caused

@@ -7,6 +7,7 @@ use Rattle.objset.specs.Objects.{AreObjects}
 use Rattle.objset.specs.Within.{blocks_of_objects, blocks_of_set, reads_of}
 use Rattle.dataset_destroys.proofs.Refusing.{passed_on}
 use Rattle.dataset_destroys.proofs.YoungerBlocks.{few_reads, first_younger, none_younger, set_later, volume_once}
+use Rattle.block_store.proofs.Causes.{caused_behind_reads}
 use Rattle.dataset_destroys.proofs.younger.younger_blocks.Goals as goal
 
 pub returns-then-block-since-clause-value : goal.returns-then-block-since-clause-value
@@ -67,3 +68,9 @@ returns-clause-value g c = λ stored bound size block_size array held is le hone
     (true_after _ _ _ _ first rest honest)
     ∙ ap (λ (set : ObjectSet). younger c.args.since (blocks_of_set set is.has.own is.has.blocks)) same)
     ∙ first_younger c.args.since c.args.block.now is.set is.has.own is.has.blocks c.if-block-since.false
+
+pub returns-in_err-set-clause-caused : goal.returns-in_err-set-clause-caused
+returns-in_err-set-clause-caused g c = passed_on _ _ _ c.from_residual.ensures.1 c.in_err-set.ensures.caused
+
+pub returns-in_err-below-clause-caused : goal.returns-in_err-below-clause-caused
+returns-in_err-below-clause-caused g c = passed_on _ _ _ c.from_residual-in_err-below.ensures.1 (caused_behind_reads _ _ _ _ _ c.in_ok-set.ensures.reads c.in_err-below.ensures.caused)

@@ -12,6 +12,7 @@ use Rattle.volume.specs.Placing.{data_change}
 use Rattle.volume.proofs.Demanding.{objects_refused, places_with_set, set_refused}
 use Rattle.volume.proofs.Putting.{not_refused}
 use Rattle.volume.proofs.Refusing.{passed_on}
+use Rattle.block_store.proofs.Causes.{caused_behind}
 use Rattle.volume.proofs.placing.plan_change.Goals as goal
 
 -- a volume's set has two copies
@@ -87,3 +88,9 @@ pub returns-in_err-rewrite-clause-no_room : goal.returns-in_err-rewrite-clause-n
 returns-in_err-rewrite-clause-no_room g c =
     passed_on _ _ _ c.from_residual.ensures.1
     (λ is. inl (subst (λ (copies : SetCopies). HasNoRoom c.args.store.now c.change.new.store [] copies) (ap copies_of c.requires.kind) (c.in_err-rewrite.ensures.no_room is)))
+
+pub returns-in_err-rewrite-clause-caused : goal.returns-in_err-rewrite-clause-caused
+returns-in_err-rewrite-clause-caused g c = passed_on _ _ _ c.from_residual.ensures.1 c.in_err-rewrite.ensures.caused
+
+pub returns-in_err-block-clause-caused : goal.returns-in_err-block-clause-caused
+returns-in_err-block-clause-caused g c = passed_on _ _ _ c.from_residual-in_err-block.ensures.1 (caused_behind _ _ _ _ _ c.in_ok-rewrite.ensures.steps c.in_err-block.ensures.caused)

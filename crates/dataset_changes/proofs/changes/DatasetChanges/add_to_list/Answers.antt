@@ -4,6 +4,7 @@ use Rattle.dataset_changes.specs.Over.{IsListNow, IsListOver}
 use Rattle.dataset_changes.specs.declared.states.ListState.{ListState}
 use Rattle.dataset_changes.proofs.Overs.{over_list}
 use Rattle.dataset_changes.proofs.Steps.{end_unread, put_twice, same_objects}
+use Rattle.dataset_changes.proofs.Causes.{own_cause}
 use Rattle.dataset_changes.proofs.changes.DatasetChanges.add_to_list.Goals as goal
 
 pub returns-in_err-known-clause-refused : goal.returns-in_err-known-clause-refused
@@ -32,3 +33,9 @@ returns-clause-value g c = λ stored objects own blocks held are honest over lis
       over_list objects old c.insert_list.new.self over c.args.number (Some c.in_ok-with_blocks.field-0) put (λ q. c.in_ok-insert_list.ensures.records q ∙ c.remove_list-state.ensures.records q) longer.0,
       subst (λ (s : Option ListState). IsListNow object s (list ++ c.args.added.now)) (sym put.0) longer.1,
     )
+
+pub returns-in_err-known-clause-caused : goal.returns-in_err-known-clause-caused
+returns-in_err-known-clause-caused g c = passed_on _ _ _ c.from_residual.ensures.1 c.in_err-known.ensures.caused
+
+pub returns-in_err-with_blocks-clause-caused : goal.returns-in_err-with_blocks-clause-caused
+returns-in_err-with_blocks-clause-caused g c = passed_on _ _ _ c.from_residual-in_err-with_blocks.ensures.1 (own_cause _ _ _ _ _ c.in_err-with_blocks.ensures.refused)

@@ -16,3 +16,6 @@ returns-in_ok-end-in-None-clause-value g c = λ stored objects own blocks held a
     let object = objects c.args.number in
     added_none object list c.new-blocks.result c.in_ok-end-in-None.end (c.in_ok-end-in-None.ensures.value stored objects own blocks held are honest) c.new-blocks.ensures
     (subst (λ (state : Option ListState). IsListNow object state list) c.in-None.is now)
+
+pub returns-in_err-end-in-None-clause-caused : goal.returns-in_err-end-in-None-clause-caused
+returns-in_err-end-in-None-clause-caused g c = passed_on _ _ _ c.from_residual.ensures.1 c.in_err-end-in-None.ensures.caused

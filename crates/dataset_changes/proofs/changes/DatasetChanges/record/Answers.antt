@@ -1,12 +1,13 @@
 use Rattle.std.proofs.Common.{◌≡◌, Option, Some, None, MatchOption, inl, inr, ⊎_elim, sym, subst}
 use Rattle.std.proofs.lemmas.Result.{IfOk-weaker, IfErr-weaker}
-use Rattle.dnode_tree.proofs.Refusing.{ok_both}
+use Rattle.dnode_tree.proofs.Refusing.{ok_both, passed_on}
 use Rattle.meta_objset.specs.declared.record.DatasetRecord.{DatasetRecord}
 use Rattle.dataset_changes.specs.Over.{IsRecordNow}
 use Rattle.dataset_changes.specs.States.{IsKnownAs, record_at}
 use Rattle.dataset_changes.specs.declared.states.RecordState.{RecordState}
 use Rattle.dataset_changes.specs.declared.states.RecordState.TheVariants.{Read}
 use Rattle.dataset_changes.proofs.Overs.{over_record}
+use Rattle.dataset_changes.proofs.Causes.{own_cause}
 use Rattle.dataset_changes.proofs.changes.DatasetChanges.record.Goals as goal
 
 pub returns-clause-value : goal.returns-clause-value
@@ -38,3 +39,6 @@ returns-clause-known g c =
 
 pub returns-clause-found : goal.returns-clause-found
 returns-clause-found g c = IfOk-weaker c.read_record.result _ _ (λ found there none. there) c.read_record.ensures.found
+
+pub returns-in_err-dataset-clause-caused : goal.returns-in_err-dataset-clause-caused
+returns-in_err-dataset-clause-caused g c = passed_on _ _ _ c.from_residual.ensures.1 (own_cause _ _ _ _ _ (inr c.in_err-dataset.ensures.refused))

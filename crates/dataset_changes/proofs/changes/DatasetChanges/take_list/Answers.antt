@@ -46,3 +46,6 @@ returns-clause-value g c = λ stored objects own blocks held are honest over.
       now,
       λ list there. whole.1 list (subst (λ (s : Option ListState). IsListNow object s list) (sym found) there),
     )
+
+pub returns-in_err-list-clause-caused : goal.returns-in_err-list-clause-caused
+returns-in_err-list-clause-caused g c = passed_on _ _ _ c.from_residual.ensures.1 c.in_err-list.ensures.caused

@@ -1,4 +1,4 @@
-use Rattle.std.proofs.Common.{◌≡◌, List, Option, Some, IfSome, ap, sym, subst, ◌∙◌}
+use Rattle.std.proofs.Common.{◌≡◌, List, Option, Some, IfSome, ap, sym, subst, ◌∙◌, inl}
 use Rattle.std.proofs.lemmas.Result.{IfOk-weaker, IfErr-weaker}
 use Rattle.dnode_tree.proofs.Refusing.{ok_both, passed_on}
 use Rattle.block_pointer.specs.declared.block.Block.{Block}
@@ -8,6 +8,7 @@ use Rattle.dataset_changes.specs.Over.{IsListNow, IsListOver}
 use Rattle.dataset_changes.specs.declared.states.ListState.{ListState}
 use Rattle.dataset_changes.specs.declared.states.ListState.TheVariants.{Added}
 use Rattle.dataset_changes.proofs.Joining.{fit_joined, list_of_end, whole_with_added}
+use Rattle.dataset_changes.proofs.Causes.{own_cause}
 use Rattle.dataset_changes.proofs.changes.DatasetChanges.whole_list.Goals as goal
 
 pub returns-in-None-clause-value : goal.returns-in-None-clause-value
@@ -59,3 +60,9 @@ returns-in-Some-Added-clause-value g c =
       λ list now. whole.1 list (subst (λ (state : Option ListState). IsListNow object state list) was now),
     ))
     c.joined.ensures.value
+
+pub returns-in_err-list-in-Some-Added-clause-caused : goal.returns-in_err-list-in-Some-Added-clause-caused
+returns-in_err-list-in-Some-Added-clause-caused g c = passed_on _ _ _ c.from_residual.ensures.1 c.in_err-list-in-Some-Added.ensures.caused
+
+pub returns-in-Some-Added-clause-caused : goal.returns-in-Some-Added-clause-caused
+returns-in-Some-Added-clause-caused g c = IfErr-weaker c.joined.result _ _ (λ refusal memory. own_cause _ _ _ (Unit {0}) refusal (inl memory)) c.joined.ensures.refused

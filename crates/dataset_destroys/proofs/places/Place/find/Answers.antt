@@ -3,6 +3,7 @@ use Rattle.block_store.proofs.Steps.{reads_on}
 use Rattle.dataset_destroys.proofs.Finding.{after_there, before_first, before_there, kept_on, lone_there, snapshot_as}
 use Rattle.dataset_destroys.proofs.ReadSteps.{one_set_on, record_lost_on, same_on, tells_first, tells_rest, the_record_first}
 use Rattle.dataset_destroys.proofs.Refusing.{passed_on}
+use Rattle.block_store.proofs.Causes.{caused_behind_reads}
 use Rattle.dataset_destroys.proofs.places.Place.find.Goals as goal
 
 pub returns-in_err-gone-clause-known : goal.returns-in_err-gone-clause-known
@@ -76,3 +77,9 @@ returns-clause-value g c = λ stored objects told over.
         before_is = before_first objects _ _ c.in_ok-gone.gone.previous c.in_ok-before.before same last.1;
       },
     )
+
+pub returns-in_err-after-clause-caused : goal.returns-in_err-after-clause-caused
+returns-in_err-after-clause-caused g c = passed_on _ _ _ c.from_residual-in_err-after.ensures.1 (caused_behind_reads _ _ _ _ _ c.in_ok-gone.ensures.reads c.in_err-after.ensures.caused)
+
+pub returns-in_err-before-clause-caused : goal.returns-in_err-before-clause-caused
+returns-in_err-before-clause-caused g c = passed_on _ _ _ c.from_residual-in_err-before.ensures.1 (caused_behind_reads _ _ _ _ _ (reads_on _ _ _ _ c.in_ok-gone.ensures.reads c.in_ok-after.ensures.reads) c.in_err-before.ensures.caused)

@@ -81,3 +81,6 @@ pub returns-clause-unread : goal.returns-clause-unread
 returns-clause-unread g c = λ all.
     let IsOut : ℕ → Type 0 = IsCovered c.args.self.now c.args.changes.now.name.now c.args.changes.now.items.now.writes in
     c.whole_blocks.ensures.idle (c.deref.ensures.value ∙ none_needed IsOut (λ id same. same ≡ id) c.args.ids.now c.in_ok-needed.needed.items c.in_ok-needed.ensures all)
+
+pub returns-in_err-old-clause-caused : goal.returns-in_err-old-clause-caused
+returns-in_err-old-clause-caused g c = passed_on _ _ _ c.from_residual-in_err-old.ensures.1 c.in_err-old.ensures.caused

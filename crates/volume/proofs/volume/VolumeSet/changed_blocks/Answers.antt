@@ -14,6 +14,7 @@ use Rattle.volume.specs.Volume.{HasData}
 use Rattle.volume.specs.Writing.{IsChanged, IsCovered}
 use Rattle.volume.proofs.Ids.{are_blocks, same_ids, empty_ids, none_changed, items_below, after_is_with}
 use Rattle.volume.proofs.Refusing.{passed_on}
+use Rattle.block_store.proofs.Causes.{caused_behind_reads}
 use Rattle.volume.proofs.volume.VolumeSet.changed_blocks.Goals as goal
 
 pub returns-then-is_empty-clause-changed : goal.returns-then-is_empty-clause-changed
@@ -129,3 +130,9 @@ returns-clause-known g c =
     (subst (λ (set : ObjectSet). HasData stored _ set _ _ array) (sym (c.in_ok-set.ensures.value stored _ _ held is (omega arith) (true_before _ _ _ _ first rest honest))) is.has)
     (true_after _ _ _ _ first rest honest))
     c.blocks_of.ensures.known
+
+pub returns-in_err-set-clause-caused : goal.returns-in_err-set-clause-caused
+returns-in_err-set-clause-caused g c = passed_on _ _ _ c.from_residual-in_err-set.ensures.1 c.in_err-set.ensures.caused
+
+pub returns-clause-caused : goal.returns-clause-caused
+returns-clause-caused g c = IfErr-weaker c.blocks_of.result _ _ (λ refusal. caused_behind_reads _ _ _ _ refusal c.in_ok-set.ensures.reads) c.blocks_of.ensures.caused

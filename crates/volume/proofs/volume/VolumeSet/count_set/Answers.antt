@@ -28,3 +28,6 @@ returns-clause-value g c = λ stored bound array held is le honest.
 
 pub returns-clause-found : goal.returns-clause-found
 returns-clause-found g c = (c.in_ok-set.ensures.found, c.is_of_volume.ensures.0 c.if-not-is_of_volume.false)
+
+pub returns-in_err-set-clause-caused : goal.returns-in_err-set-clause-caused
+returns-in_err-set-clause-caused g c = passed_on _ _ _ c.from_residual.ensures.1 c.in_err-set.ensures.caused

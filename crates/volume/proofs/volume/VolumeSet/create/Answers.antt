@@ -30,3 +30,6 @@ returns-in_err-planned-clause-refused g c =
 
 pub returns-clause-places : goal.returns-clause-places
 returns-clause-places g c = (_, (c.new.result, c.new.ensures.items, refl), c.in_ok-planned.ensures.places)
+
+pub returns-in_err-planned-clause-caused : goal.returns-in_err-planned-clause-caused
+returns-in_err-planned-clause-caused g c = passed_on _ _ _ c.from_residual.ensures.1 c.in_err-planned.ensures.caused

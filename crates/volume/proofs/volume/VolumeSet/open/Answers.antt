@@ -8,6 +8,7 @@ use Rattle.volume.specs.Reading.{IsObjectFound}
 use Rattle.volume.proofs.Judging.{data_shape, judged}
 use Rattle.volume.proofs.Putting.{set_later}
 use Rattle.volume.proofs.Refusing.{passed_on}
+use Rattle.block_store.proofs.Causes.{caused_behind_reads}
 use Rattle.volume.proofs.volume.VolumeSet.open.Goals as goal
 
 pub returns-in_err-set-clause-refused : goal.returns-in_err-set-clause-refused
@@ -105,3 +106,9 @@ returns-clause-found g c =
     (c.is_of_volume.ensures.0 c.if-not-is_of_volume.false)
     (subst (λ (spaces : List VdevSpace). IsObjectFound spaces c.args.self.now c.in_ok-set.set c.in_ok-found.found) (ap (λ store. store.spaces) c.in_ok-set.ensures.reads.rest) c.in_ok-found.ensures.found)
     (c.has_shape.ensures.0 c.if-not-has_shape.false)
+
+pub returns-in_err-set-clause-caused : goal.returns-in_err-set-clause-caused
+returns-in_err-set-clause-caused g c = passed_on _ _ _ c.from_residual.ensures.1 c.in_err-set.ensures.caused
+
+pub returns-in_err-found-clause-caused : goal.returns-in_err-found-clause-caused
+returns-in_err-found-clause-caused g c = passed_on _ _ _ c.from_residual-in_err-found.ensures.1 (caused_behind_reads _ _ _ _ _ c.in_ok-set.ensures.reads c.in_err-found.ensures.caused)

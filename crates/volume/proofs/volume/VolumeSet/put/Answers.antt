@@ -9,6 +9,7 @@ use Rattle.volume.specs.Placing.{IsSetPlanned}
 use Rattle.volume.proofs.Demanding.{places_behind}
 use Rattle.volume.proofs.Putting.{data_with, planned_spells, may_put, good_writes, lacks_on, volume_as}
 use Rattle.volume.proofs.Refusing.{passed_on}
+use Rattle.block_store.proofs.Causes.{caused_behind_reads}
 use Rattle.volume.proofs.volume.VolumeSet.put.Goals as goal
 
 pub returns-in_err-set-clause-steps : goal.returns-in_err-set-clause-steps
@@ -100,3 +101,12 @@ pub returns-clause-places : goal.returns-clause-places
 returns-clause-places g c =
     places_behind c.args.store.now c.open.new.store c.plan_change.new.store c.args.self.now c.args.birth c.in_ok-set.set c.args.blocks c.in_ok-set.ensures.reads c.in_ok-set.ensures.found
     c.in_ok-planned.ensures.places
+
+pub returns-in_err-set-clause-caused : goal.returns-in_err-set-clause-caused
+returns-in_err-set-clause-caused g c = passed_on _ _ _ c.from_residual.ensures.1 c.in_err-set.ensures.caused
+
+pub returns-in_err-planned-clause-caused : goal.returns-in_err-planned-clause-caused
+returns-in_err-planned-clause-caused g c = passed_on _ _ _ c.from_residual-in_err-planned.ensures.1 (caused_behind_reads _ _ _ _ _ c.in_ok-set.ensures.reads c.in_err-planned.ensures.caused)
+
+pub returns-in_err-rewritten-clause-caused : goal.returns-in_err-rewritten-clause-caused
+returns-in_err-rewritten-clause-caused g c = passed_on _ _ _ c.from_residual-in_err-rewritten.ensures.1 tt

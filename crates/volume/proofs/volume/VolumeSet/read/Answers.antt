@@ -5,6 +5,7 @@ use Rattle.dnode.specs.declared.object_set.ObjectSet.{ObjectSet}
 use Rattle.dnode_tree.proofs.FurtherReads.{true_before, true_after}
 use Rattle.volume.specs.Volume.{HasData}
 use Rattle.volume.proofs.Refusing.{passed_on}
+use Rattle.block_store.proofs.Causes.{caused_behind_reads}
 use Rattle.volume.proofs.volume.VolumeSet.read.Goals as goal
 
 pub returns-in_err-set-clause-refused : goal.returns-in_err-set-clause-refused
@@ -48,3 +49,9 @@ returns-clause-known g c =
 
 pub returns-clause-found : goal.returns-clause-found
 returns-clause-found g c = IfOk-weaker c.read_data.result _ _ (λ read len. (c.in_ok-set.set, c.in_ok-set.ensures.found)) c.read_data.ensures.len
+
+pub returns-in_err-set-clause-caused : goal.returns-in_err-set-clause-caused
+returns-in_err-set-clause-caused g c = passed_on _ _ _ c.from_residual.ensures.1 c.in_err-set.ensures.caused
+
+pub returns-clause-caused : goal.returns-clause-caused
+returns-clause-caused g c = IfErr-weaker c.read_data.result _ _ (λ refusal. caused_behind_reads _ _ _ _ refusal c.in_ok-set.ensures.reads) c.read_data.ensures.caused

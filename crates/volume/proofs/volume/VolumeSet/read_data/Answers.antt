@@ -45,3 +45,6 @@ returns-clause-value g c = λ stored array held has honest.
     (c.in_ok-blocks.ensures.value stored array held has honest
     (subst (All IsBelow) (sym c.deref.ensures.value)
     (λ k d low. lies_below c.args.self.now c.args.offset (c.args.offset + c.args.len) (get_or c.in_ok-ids.ids.items k d) c.requires.within (c.in_ok-ids.ensures.lie k d low))))))
+
+pub returns-in_err-blocks-clause-caused : goal.returns-in_err-blocks-clause-caused
+returns-in_err-blocks-clause-caused g c = passed_on _ _ _ c.from_residual-in_err-blocks.ensures.1 c.in_err-blocks.ensures.caused

@@ -7,6 +7,7 @@ use Rattle.dnode_tree.proofs.FurtherReads.{true_before, true_after}
 use Rattle.objset.specs.Objects.{AreObjects}
 use Rattle.objset.specs.Within.{blocks_of_objects, blocks_of_set, reads_of, IsSetWalked}
 use Rattle.volume.proofs.Refusing.{passed_on}
+use Rattle.block_store.proofs.Causes.{caused_behind_reads}
 use Rattle.volume.proofs.volume.VolumeSet.walk_within.Goals as goal
 
 pub returns-in_err-set-clause-refused : goal.returns-in_err-set-clause-refused
@@ -80,3 +81,12 @@ returns-clause-count g c = record {
   once = c.in_ok-below.ensures.once;
   are = c.in_ok-with_first.ensures;
 }
+
+pub returns-in_err-set-clause-caused : goal.returns-in_err-set-clause-caused
+returns-in_err-set-clause-caused g c = passed_on _ _ _ c.from_residual.ensures.1 c.in_err-set.ensures.caused
+
+pub returns-in_err-below-clause-caused : goal.returns-in_err-below-clause-caused
+returns-in_err-below-clause-caused g c = passed_on _ _ _ c.from_residual-in_err-below.ensures.1 (caused_behind_reads _ _ _ _ _ c.in_ok-set.ensures.reads c.in_err-below.ensures.caused)
+
+pub returns-in_err-with_first-clause-caused : goal.returns-in_err-with_first-clause-caused
+returns-in_err-with_first-clause-caused g c = passed_on _ _ _ c.from_residual-in_err-with_first.ensures.1 tt

@@ -10,6 +10,7 @@ use Rattle.objset.specs.Within.{blocks_of_objects, blocks_of_set, reads_of}
 use Rattle.objset.specs.Younger.{IsYoungerSetWalked}
 use Rattle.volume.proofs.Refusing.{passed_on}
 use Rattle.volume.proofs.YoungerBlocks.{few_reads, first_younger, none_younger, some_read, volume_once}
+use Rattle.block_store.proofs.Causes.{caused_behind_reads}
 use Rattle.volume.proofs.volume.VolumeSet.walk_younger.Goals as goal
 
 pub returns-then-self-since-clause-blocks : goal.returns-then-self-since-clause-blocks
@@ -102,3 +103,12 @@ returns-clause-count g c = inr (record {
   once = c.in_ok-below.ensures.once;
   are = c.in_ok-with_first.ensures;
 })
+
+pub returns-in_err-set-clause-caused : goal.returns-in_err-set-clause-caused
+returns-in_err-set-clause-caused g c = passed_on _ _ _ c.from_residual.ensures.1 c.in_err-set.ensures.caused
+
+pub returns-in_err-below-clause-caused : goal.returns-in_err-below-clause-caused
+returns-in_err-below-clause-caused g c = passed_on _ _ _ c.from_residual-in_err-below.ensures.1 (caused_behind_reads _ _ _ _ _ c.in_ok-set.ensures.reads c.in_err-below.ensures.caused)
+
+pub returns-in_err-with_first-clause-caused : goal.returns-in_err-with_first-clause-caused
+returns-in_err-with_first-clause-caused g c = passed_on _ _ _ c.from_residual-in_err-with_first.ensures.1 tt

@@ -10,7 +10,7 @@ use Rattle.volume.specs.Reading.{IsFound}
 use Rattle.volume.specs.Volume.{HasBytes, part}
 use Rattle.volume.proofs.BlockData.{same_bytes, block_has, block_len, no_clash}
 use Rattle.volume.proofs.Needed.{zip_through, zip_long, zip_left, zip_right}
-use Rattle.volume.proofs.Refusing.{passed_on}
+use Rattle.volume.proofs.Refusing.{passed_on, own_cause}
 use Rattle.volume.proofs.volume.VolumeSet.whole_blocks.Goals as goal
 
 pub returns-in_err-found-clause-refused : goal.returns-in_err-found-clause-refused
@@ -85,3 +85,9 @@ returns-clause-known g c =
     (All-contains (λ id. id < c.args.self.now.size / c.args.self.now.block_size) c.args.ids.now there.0 below there.1) bad.1.4.1)))
     why)
     c.all_whole.ensures.refused
+
+pub returns-in_err-found-clause-caused : goal.returns-in_err-found-clause-caused
+returns-in_err-found-clause-caused g c = passed_on _ _ _ c.from_residual.ensures.1 c.in_err-found.ensures.caused
+
+pub returns-clause-caused : goal.returns-clause-caused
+returns-clause-caused g c = IfErr-weaker c.all_whole.result _ _ (own_cause _ _ _ _) c.all_whole.ensures.refused

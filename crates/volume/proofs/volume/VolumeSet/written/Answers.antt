@@ -7,6 +7,7 @@ use Rattle.volume.proofs.Demanding.{all_behind}
 use Rattle.volume.proofs.Ids.{no_blocks}
 use Rattle.volume.proofs.Putting.{lacks_on}
 use Rattle.volume.proofs.Refusing.{passed_on}
+use Rattle.block_store.proofs.Causes.{caused_behind_reads}
 use Rattle.volume.proofs.volume.VolumeSet.written.Goals as goal
 
 pub returns-in_err-blocks-clause-steps : goal.returns-in_err-blocks-clause-steps
@@ -78,3 +79,9 @@ returns-clause-refused g c =
       why = why;
     })))
     c.placed.ensures.refused
+
+pub returns-in_err-blocks-clause-caused : goal.returns-in_err-blocks-clause-caused
+returns-in_err-blocks-clause-caused g c = passed_on _ _ _ c.from_residual.ensures.1 c.in_err-blocks.ensures.caused
+
+pub returns-clause-caused : goal.returns-clause-caused
+returns-clause-caused g c = IfErr-weaker c.placed.result _ _ (λ refusal. caused_behind_reads _ _ _ _ refusal c.in_ok-blocks.ensures.reads) c.placed.ensures.caused
