@@ -1,2 +1,3 @@
+pub mod Causes
 pub mod Lists
 pub mod Refused

@@ -9,6 +9,7 @@ ghost use Rattle.dnode.specs.ObjectSet.{FitsObjectSet};
 ghost use Rattle.objset.specs.Objects.{Object, AreObjects};
 ghost use Rattle.object_table.specs.Ends.{IsEndFound, IsEndOf};
 ghost use Rattle.object_table.specs.Tables.{HasTable};
+ghost use Rattle.dead_list_objects.specs.Causes.{IsCausedOf};
 ghost use Rattle.dead_list_objects.specs.Lists.{dead_list_kind, HasDeadList, HasSomeDeadList, IsEndUnread, IsForLossOf, IsListFound, IsListRefused};
 
 use crate::kind::DEAD_LIST_KIND;
@@ -47,6 +48,7 @@ pub fn read_dead_list<D: Disk + Drop>(
     ensures found { IfOk result (IsListFound store.old.spaces set.now birth number) }
     ensures refused { IfErr result
         (IsListRefused store.old store.new missing.now set.now birth number) }
+    ensures caused { IfErr result (IsCausedOf store.old store.new missing.now) }
 
     // And it is read, over disks that answer truly, unless too many disks miss of a block.
     ensures known { IfErr result (λ refusal. (stored : Contents) (objects : ℕ → Option Object)
@@ -97,6 +99,7 @@ pub fn read_dead_list_end<D: Disk + Drop>(
     ensures found { IfOk result (IsEndFound store.old.spaces set.now birth dead_list_kind number) }
     ensures refused { IfErr result
         (IsEndUnread store.old store.new missing.now set.now birth number) }
+    ensures caused { IfErr result (IsCausedOf store.old store.new missing.now) }
 
     // And it is read, over disks that answer truly, unless too many disks miss of a block.
     ensures known { IfErr result (λ refusal. (stored : Contents) (objects : ℕ → Option Object)

@@ -7,6 +7,7 @@ pub mod LongerTables
 pub mod Extensions
 pub mod SoundTables
 pub mod EndsRead
+pub mod Causes
 pub mod Losses
 pub mod Readings
 pub mod ReadRefusals

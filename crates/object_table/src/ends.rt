@@ -2,6 +2,7 @@
 ghost use Rattle.std.specs.Prelude.{◌≡◌, ◌≢◌, ◌⊎◌, ◌+◌, ◌^◌, ◌<◌, ◌≤◌, ℕ, List, Option, Some, None, IfOk, IfErr, IfSome, length};
 ghost use Rattle.block_pointer.specs.declared.block.Block.{Block};
 ghost use Rattle.block_store.specs.Blocks.{Contents};
+ghost use Rattle.block_store.specs.Causes.{IsCaused};
 ghost use Rattle.block_store.specs.Losses.{IsForLoss};
 ghost use Rattle.block_store.specs.Steps.{OnlyReadsBlocks, AnswersAreTrue};
 ghost use Rattle.block_store.specs.Store.{Holds};
@@ -59,6 +60,7 @@ pub fn read_end<D: Disk + Drop>(
     ensures found { IfOk result (IsEndFound store.old.spaces set.now birth kind number) }
     ensures refused { IfErr result (λ refusal. (refusal ≡ Refusal.NoMemory)
         ⊎ IsEndRefused store.old store.new missing.now set.now birth kind number refusal) }
+    ensures caused { IfErr result (IsCaused store.old store.new missing.now) }
     ensures cause { IfErr result (λ refusal. refusal ≢ Refusal.NoSpace) }
 
     // And it is read, over disks that answer truly, unless too many disks miss of a block.
@@ -97,6 +99,7 @@ fn read_ends<D: Disk + Drop>(
         × IsDataFound store.old.spaces set.now birth number highest (Some ends.1.items)) }
     ensures refused { IfErr result (λ refusal. (refusal ≡ Refusal.NoMemory)
         ⊎ IsEndBlockRefused store.old store.new missing.now set.now birth number highest refusal) }
+    ensures caused { IfErr result (IsCaused store.old store.new missing.now) }
     ensures cause { IfErr result (λ refusal. refusal ≢ Refusal.NoSpace) }
     ensures known { IfErr result (λ refusal. (stored : Contents) (objects : ℕ → Option Object)
         (own : List Block) (blocks : ℕ → List Block) → Holds store.old stored
@@ -135,6 +138,7 @@ fn read_block<D: Disk + Drop>(
     ensures refused { IfErr result (λ refusal. ((refusal ≡ Refusal.BadPointer)
         × IsDataFound store.old.spaces set.now birth number id None)
         ⊎ IsDataRefused store.old store.new missing.now set.now birth number id refusal) }
+    ensures caused { IfErr result (IsCaused store.old store.new missing.now) }
     ensures cause { IfErr result (λ refusal. refusal ≢ Refusal.NoSpace) }
     ensures known { IfErr result (λ refusal. (stored : Contents) (objects : ℕ → Option Object)
         (own : List Block) (blocks : ℕ → List Block) → Holds store.old stored

@@ -2,6 +2,7 @@
 ghost use Rattle.std.specs.Prelude.{◌≡◌, ◌≢◌, ◌⊎◌, ◌↔◌, ◌+◌, ◌^◌, ◌<◌, ◌≤◌, ℕ, List, Option, Some, None, IsTrue, IfOk, IfErr};
 ghost use Rattle.block_pointer.specs.declared.block.Block.{Block};
 ghost use Rattle.block_store.specs.Blocks.{Contents};
+ghost use Rattle.block_store.specs.Causes.{IsCaused};
 ghost use Rattle.block_store.specs.Losses.{IsForLoss};
 ghost use Rattle.block_store.specs.Steps.{OnlyReadsBlocks, AnswersAreTrue};
 ghost use Rattle.block_store.specs.Store.{Holds};
@@ -56,6 +57,7 @@ pub fn read<D: Disk + Drop>(
         IsTableFound store.old.spaces set.now birth kind number rows.items) }
     ensures refused { IfErr result (λ refusal. (refusal ≡ Refusal.NoMemory)
         ⊎ IsTableRefused store.old store.new missing.now set.now birth kind number refusal) }
+    ensures caused { IfErr result (IsCaused store.old store.new missing.now) }
     ensures cause { IfErr result (λ refusal. refusal ≢ Refusal.NoSpace) }
 
     // And it is read, over disks that answer truly, unless too many disks miss of a block.
@@ -102,6 +104,7 @@ pub(crate) fn block_count<D: Disk + Drop>(
         IsNodeRefused store.old store.new missing.now set.now birth number refusal
         ⊎ ((refusal ≡ Refusal.BadPointer)
         × IsOtherFound store.old.spaces set.now birth kind number)) }
+    ensures caused { IfErr result (IsCaused store.old store.new missing.now) }
     ensures cause { IfErr result (λ refusal. refusal ≢ Refusal.NoSpace) }
     ensures known { IfErr result (λ refusal. (stored : Contents) (objects : ℕ → Option Object)
         (own : List Block) (blocks : ℕ → List Block) → Holds store.old stored
@@ -139,6 +142,7 @@ fn read_blocks<D: Disk + Drop>(
         AreBlocksFound store.old.spaces set.now birth number count bytes.items) }
     ensures refused { IfErr result
         (AreBlocksRefused store.old store.new missing.now set.now birth number count) }
+    ensures caused { IfErr result (IsCaused store.old store.new missing.now) }
     ensures cause { IfErr result (λ refusal. refusal ≢ Refusal.NoSpace) }
     ensures known { IfErr result (λ refusal. (stored : Contents) (objects : ℕ → Option Object)
         (own : List Block) (blocks : ℕ → List Block) → Holds store.old stored

@@ -1,4 +1,6 @@
 pub mod Among
+pub mod Causes
+pub mod Numbers
 pub mod Sets
 pub mod Going
 pub mod Planned

@@ -2,6 +2,7 @@
 ghost use Rattle.std.specs.Prelude.{◌≡◌, ◌≢◌, ◌⊎◌, ◌<◌, ◌≤◌, [], ℕ, List, Option, Some, None, length, slice_get, OnOk, IfOk, IfErr};
 ghost use Rattle.block_pointer.specs.declared.block.Block.{Block};
 ghost use Rattle.block_store.specs.Blocks.{Contents};
+ghost use Rattle.block_store.specs.Causes.{IsCaused};
 ghost use Rattle.block_store.specs.Losses.{IsForLoss};
 ghost use Rattle.block_store.specs.Places.{filled, planned};
 ghost use Rattle.block_store.specs.Releases.{AreReleased, copies_of_all};
@@ -15,6 +16,7 @@ ghost use Rattle.meta_objset.specs.declared.space_maps.MetaslabPlace.{MetaslabPl
 ghost use Rattle.objset.specs.Changes.{changed};
 ghost use Rattle.objset.specs.Objects.{Object, AreObjects};
 ghost use Rattle.pool_maps.specs.Maps.{AreMapsOf};
+ghost use Rattle.pool_maps.specs.Numbers.{LacksNumbers};
 ghost use Rattle.pool_maps.specs.Plans.{AreOfOthers, AreOrdered, AreSparing, LeaveMaps, MapAnew, MayBeMade};
 ghost use Rattle.pool_maps.specs.Plans.{OthersStay};
 ghost use Rattle.pool_maps.specs.Reached.{AreThere, UseNothing};
@@ -58,6 +60,8 @@ pub fn plan_maps<D: Disk + Drop>(
         × AreSparing store.old.spaces gone.now maps next changes.items all.items) }
     ensures refused { IfErr result (λ refusal. (refusal ≡ Refusal.NoMemory)
         ⊎ IsPlanRefused store.old store.new set.now birth gone.now changes.items next refusal) }
+    ensures caused { IfErr result (λ refusal. IsCaused store.old store.new [] refusal
+        ⊎ ((refusal ≡ Refusal.NoSpace) × LacksNumbers store.old.spaces next)) }
 
     // Of a set whose maps are those of the stored blocks the changes make one whose maps are those of the plan, and change no other
     // objects but as the changes so far do; what they make or change are maps, and their table.
@@ -110,6 +114,8 @@ pub fn first_maps<D: Disk + Drop>(
         × AreSparing store.old.spaces [] [] next changes.items all.items) }
     ensures refused { IfErr result (λ refusal. (refusal ≡ Refusal.NoMemory)
         ⊎ AreFirstRefused store.old store.new changes.items next refusal) }
+    ensures caused { IfErr result (λ refusal. IsCaused store.old store.new [] refusal
+        ⊎ ((refusal ≡ Refusal.NoSpace) × LacksNumbers store.old.spaces next)) }
 
     // Where there are no objects and nothing is in use, over disks that answer truly, the changes make maps that are those of the plan.
     ensures value { IfOk result (λ all. AreOfOthers (λ number. None) changes.items [] next

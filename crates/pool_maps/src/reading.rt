@@ -13,6 +13,7 @@ ghost use Rattle.objset.specs.Objects.{Object, AreObjects};
 ghost use Rattle.pool_maps.specs.Loads.{AreFreeFound, AreMapsUnread, AreReadMaps, AreSetsOf};
 ghost use Rattle.pool_maps.specs.Loads.{HasMapFor, HaveMaps, IsFreeFound, IsReadOf, IsRowUnread};
 ghost use Rattle.pool_maps.specs.Maps.{AreRowsOf, HasMapPlace};
+ghost use Rattle.space_map_objects.specs.Causes.{IsCausedOf};
 ghost use Rattle.space_map_objects.specs.Maps.{IsForLossOf, IsMapRefused};
 
 use crate::judging::are_rows;
@@ -60,6 +61,7 @@ pub fn read_maps<D: Disk + Drop>(
     ensures sets { IfOk result (λ read. AreSetsOf store.old.spaces read.items) }
     ensures refused { IfErr result (λ refusal. (refusal ≡ Refusal.NoMemory)
         ⊎ AreMapsUnread store.old store.new missing.now set.now birth refusal) }
+    ensures caused { IfErr result (IsCausedOf store.old store.new missing.now) }
 
     // And they are read, over disks that answer truly, unless too many disks miss of a block.
     ensures known { IfErr result (λ refusal. (stored : Contents) (objects : ℕ → Option Object)
@@ -96,6 +98,7 @@ fn read_each<D: Disk + Drop>(
         AllZip (IsFreeFound store.old.spaces set.now birth) rows.now read.items) }
     ensures refused { IfErr result (λ refusal. (refusal ≡ Refusal.NoMemory)
         ⊎ IsRowUnread store.old store.new missing.now set.now birth rows.now refusal) }
+    ensures caused { IfErr result (IsCausedOf store.old store.new missing.now) }
     ensures known { IfErr result (λ refusal. (stored : Contents) (objects : ℕ → Option Object)
         (own : List Block) (blocks : ℕ → List Block) → Holds store.old stored
         → AreObjects stored birth set.now objects own blocks → AnswersAreTrue store.old store.new
@@ -137,6 +140,7 @@ fn read_one<D: Disk + Drop>(
         → HasSectors store.old.spaces row.now.metaslab.vdev sectors
         → IsMapRefused store.old store.new missing.now set.now birth row.now.object sectors
         refusal) }
+    ensures caused { IfErr result (IsCausedOf store.old store.new missing.now) }
     ensures known { IfErr result (λ refusal. (stored : Contents) (objects : ℕ → Option Object)
         (own : List Block) (blocks : ℕ → List Block) → Holds store.old stored
         → AreObjects stored birth set.now objects own blocks → AnswersAreTrue store.old store.new

@@ -1,9 +1,11 @@
 //! The steps of a plan of space maps.
-ghost use Rattle.std.specs.Prelude.{◌≡◌, ◌⊎◌, ◌/◌, ◌<◌, ◌≤◌, [], ℕ, List, Option, Some, None, false, true, length, OnOk, IfOk, IfErr};
+ghost use Rattle.std.specs.Prelude.{◌≡◌, ◌⊎◌, ◌+◌, ◌/◌, ◌<◌, ◌≤◌, [], ℕ, List, Option, Some, None, false, true, length, slice_get, OnOk, IfOk, IfErr};
 ghost use Rattle.block_pointer.specs.declared.block.Block.{Block};
 ghost use Rattle.block_store.specs.Blocks.{Contents};
+ghost use Rattle.block_store.specs.Causes.{IsCaused};
 ghost use Rattle.block_store.specs.Losses.{IsForLoss};
 ghost use Rattle.block_store.specs.Releases.{AreReleased, copies_of_all};
+ghost use Rattle.block_store.specs.Shapes.{first_meta};
 ghost use Rattle.block_store.specs.Spaces.{VdevSpace};
 ghost use Rattle.block_store.specs.Steps.{OnlyReadsBlocks, AnswersAreTrue};
 ghost use Rattle.block_store.specs.Store.{Holds};
@@ -19,6 +21,7 @@ ghost use Rattle.objset.specs.declared.changes.Change.{Change};
 ghost use Rattle.space_map.specs.FreeRuns.{FreeRuns};
 ghost use Rattle.space_map_objects.specs.Maps.{HasMap, map_kind};
 ghost use Rattle.pool_maps.specs.Maps.{HasMapPlace};
+ghost use Rattle.pool_maps.specs.Numbers.{LacksNumbers};
 ghost use Rattle.pool_maps.specs.Plans.{Advances, AreAhead, AreAll, AreBelow, AreIn, AreOrdered, AreUnmade};
 ghost use Rattle.pool_maps.specs.Plans.{IsMade, IsPutIn, IsRewritten, IsSound, IsStep, IsThat, numbers_end};
 ghost use Rattle.pool_maps.specs.Refused.{IsMapRefused, IsSomeRefused, IsTaken};
@@ -87,6 +90,8 @@ impl MapPlan {
             → IsForLoss refusal ⊎ (refusal ≡ Refusal.NoSpace)) }
         ensures refused { IfErr result (λ refusal. (refusal ≡ Refusal.NoMemory)
             ⊎ IsSomeRefused store.old store.new set.now birth gone.now self.old refusal) }
+        ensures caused { IfErr result (λ refusal. IsCaused store.old store.new [] refusal
+            ⊎ ((refusal ≡ Refusal.NoSpace) × LacksNumbers store.old.spaces self.old.next)) }
     {
         for vdev in 0..store.vdev_count() {
             self.plan_vdev(set, store, alloc, birth, vdev, gone)?;
@@ -126,6 +131,13 @@ impl MapPlan {
             → IsForLoss refusal ⊎ (refusal ≡ Refusal.NoSpace)) }
         ensures refused { IfErr result (λ refusal. (refusal ≡ Refusal.NoMemory)
             ⊎ IsSomeRefused store.old store.new set.now birth gone.now self.old refusal) }
+        ensures numbers { OnOk result ((space : VdevSpace)
+            → slice_get store.old.spaces vdev ≡ Some space
+            → self.new.next ≤ self.old.next + first_meta space.shape) }
+        ensures caused { IfErr result (λ refusal. IsCaused store.old store.new [] refusal
+            ⊎ ((refusal ≡ Refusal.NoSpace) × ((space : VdevSpace)
+            → slice_get store.old.spaces vdev ≡ Some space
+            → numbers_end < self.old.next + first_meta space.shape))) }
     {
         let count = store.shape(vdev).first_meta();
         for index in 0..count {
@@ -170,6 +182,9 @@ impl MapPlan {
             → IsForLoss refusal ⊎ (refusal ≡ Refusal.NoSpace)) }
         ensures refused { IfErr result (λ refusal. (refusal ≡ Refusal.NoMemory)
             ⊎ IsMapRefused store.old store.new set.now birth gone.now self.old place refusal) }
+        ensures numbers { OnOk result (self.new.next ≤ self.old.next + 1) }
+        ensures caused { IfErr result (λ refusal. IsCaused store.old store.new [] refusal
+            ⊎ ((refusal ≡ Refusal.NoSpace) × (numbers_end ≤ self.old.next))) }
     {
         let update = update_of(store, alloc, place, gone)?;
         if update.entries.is_empty() {
@@ -218,6 +233,7 @@ impl MapPlan {
         ensures refused { IfErr result (λ refusal. (refusal ≡ Refusal.NoMemory)
             ⊎ (IsEndRefused store.old store.new [] set.now birth map_kind number refusal
             ⊎ ((refusal ≡ Refusal.BadPointer) × IsTaken self.old.changes.items number))) }
+        ensures caused { IfErr result (IsCaused store.old store.new []) }
     {
         let change = update_map(set, store, alloc, number, birth, update)?;
         self.put(number, change)

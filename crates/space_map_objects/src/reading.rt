@@ -8,6 +8,7 @@ ghost use Rattle.dnode.specs.ObjectSet.{FitsObjectSet};
 ghost use Rattle.objset.specs.Objects.{Object, AreObjects};
 ghost use Rattle.object_table.specs.Ends.{IsEndFound, IsEndOf};
 ghost use Rattle.object_table.specs.Tables.{HasTable};
+ghost use Rattle.space_map_objects.specs.Causes.{IsCausedOf};
 ghost use Rattle.space_map_objects.specs.Maps.{map_kind, HasMap, HasSomeMap, IsEndUnread, IsForLossOf, IsMapFound, IsMapRefused, LeavesFree, SpellsNoMap};
 
 use crate::kind::SPACE_MAP_KIND;
@@ -44,6 +45,7 @@ pub fn read_free_set<D: Disk + Drop>(
     ensures found { IfOk result (IsMapFound store.old.spaces set.now birth number sectors) }
     ensures refused { IfErr result
         (IsMapRefused store.old store.new missing.now set.now birth number sectors) }
+    ensures caused { IfErr result (IsCausedOf store.old store.new missing.now) }
 
     // And it is read, over disks that answer truly, unless too many disks miss of a block.
     ensures known { IfErr result (λ refusal. (stored : Contents) (objects : ℕ → Option Object)
@@ -94,6 +96,7 @@ pub fn read_map_end<D: Disk + Drop>(
     ensures found { IfOk result (IsEndFound store.old.spaces set.now birth map_kind number) }
     ensures refused { IfErr result
         (IsEndUnread store.old store.new missing.now set.now birth number) }
+    ensures caused { IfErr result (IsCausedOf store.old store.new missing.now) }
 
     // And it is read, over disks that answer truly, unless too many disks miss of a block.
     ensures known { IfErr result (λ refusal. (stored : Contents) (objects : ℕ → Option Object)

@@ -1,7 +1,7 @@
 use Rattle.std.proofs.Common.{ℕ, List, Result, Ok, Err, IfOk, IsPermutation, inl, inr, ⊎_elim, subst, sym, ◌∙◌}
 use Rattle.std.proofs.lemmas.Result.{IfOk-weaker, IfErr-weaker}
 use Rattle.dnode_tree.proofs.Refusing.{passed_on}
-use Rattle.dead_list_objects.proofs.Unread.{unread, lossy}
+use Rattle.dead_list_objects.proofs.Unread.{unread, unread_is_caused, judged_is_caused, lossy}
 use Rattle.block_pointer.specs.declared.block.Block.{Block}
 use Rattle.dead_list.specs.Rows.{SpellsList, SpellsNoList}
 use Rattle.dead_list_objects.proofs.reading.read_dead_list.Goals as goal
@@ -74,3 +74,11 @@ returns-clause-one g c =
     let same = c.deref.ensures.value ∙ c.in_ok-rows.ensures.one stored objects own blocks held are honest there.0 there.1 in
     one (other, subst (λ (bytes : List ℕ). SpellsList bytes other) (sym same) there.2))
     (ok_given {G = (other : List Block) × SpellsList c.deref.result.now other} c.list_of.result (λ given list. IsPermutation given.0 list) (λ given. c.list_of.ensures.only given.0 given.1))
+
+pub returns-in_err-rows-clause-caused : goal.returns-in_err-rows-clause-caused
+returns-in_err-rows-clause-caused g c =
+    passed_on _ _ _ c.from_residual.ensures.1 (unread_is_caused _ _ _ _ c.in_err-rows.ensures.caused)
+
+pub returns-clause-caused : goal.returns-clause-caused
+returns-clause-caused g c =
+    IfErr-weaker c.list_of.result _ _ (λ refusal why. judged_is_caused _ _ _ _ refusal why) c.list_of.ensures.refused

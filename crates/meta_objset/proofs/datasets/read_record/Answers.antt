@@ -3,11 +3,13 @@ use Rattle.std.specs.Prelude.{Vec, IsSomeAnd}
 use Rattle.std.specs.declared.alloc.Global.{Global}
 use Rattle.std.proofs.lemmas.Result.{IfOk-weaker, IfErr-weaker}
 use Rattle.block_store.proofs.Steps.{reads_on}
+use Rattle.block_store.proofs.Causes.{caused_behind_reads}
 use Rattle.dnode_tree.proofs.FurtherReads.{true_before, true_after}
 use Rattle.dnode_tree.proofs.Refusing.{passed_on, ok_both}
 use Rattle.dnode_tree.specs.Ways.{bytes_of}
 use Rattle.objset.specs.Found.{IsDataFound}
 use Rattle.object_table.proofs.Tables.{ok_for_all, some_is, spaces_stay}
+use Rattle.object_table.proofs.Causes.{judged_is_caused}
 use Rattle.meta_objset.specs.Record.{SpellsRecord}
 use Rattle.meta_objset.proofs.RecordObjects.{record_there}
 use Rattle.meta_objset.proofs.datasets.read_record.Goals as goal
@@ -153,3 +155,10 @@ returns-clause-one g c =
     let same : has.bytes ≡ c.deref.result.now = let e : has.bytes ≡ c.in-Some.bytes.items = cc in e ∙ sym c.deref.ensures.value in
     one other (subst (λ (bytes : List ℕ). SpellsRecord bytes other) same has.spelled))
     (ok_for_all c.record_of.result (SpellsRecord c.deref.result.now) (λ found r. found ≡ r) c.record_of.ensures.only)
+
+pub returns-in_err-bytes-clause-caused : goal.returns-in_err-bytes-clause-caused
+returns-in_err-bytes-clause-caused g c =
+    passed_on _ _ _ c.from_residual-in_err-bytes.ensures.1 (caused_behind_reads _ _ _ _ _ c.in_ok-expect_record.ensures.reads c.in_err-bytes.ensures.caused)
+
+pub returns-clause-caused : goal.returns-clause-caused
+returns-clause-caused g c = IfErr-weaker c.record_of.result _ _ (λ refusal why. judged_is_caused _ _ _ _ refusal (inr why)) c.record_of.ensures.refused

@@ -3,6 +3,7 @@ use Rattle.std.proofs.lemmas.Result.{IfOk-weaker, IfErr-weaker}
 use Rattle.dnode_tree.proofs.Refusing.{passed_on}
 use Rattle.object_table.specs.Found.{IsTableFound}
 use Rattle.object_table.specs.Tables.{HasTable}
+use Rattle.object_table.proofs.Causes.{judged_is_caused}
 use Rattle.meta_objset.specs.Reading.{config_kind}
 use Rattle.meta_objset.proofs.reading.read_config.Goals as goal
 
@@ -53,3 +54,6 @@ returns-clause-refused g c =
     )))
     why)
     c.config_of.ensures.refused
+
+pub returns-clause-caused : goal.returns-clause-caused
+returns-clause-caused g c = IfErr-weaker c.config_of.result _ _ (λ refusal why. judged_is_caused _ _ _ _ refusal why) c.config_of.ensures.refused

@@ -6,6 +6,7 @@ use Rattle.meta_objset.specs.Directory.{IsDirectory, rows_bytes}
 use Rattle.object_table.proofs.Tables.{ok_for_all}
 use Rattle.object_table.specs.Found.{IsTableFound}
 use Rattle.object_table.specs.Tables.{HasTable}
+use Rattle.object_table.proofs.Causes.{judged_is_caused}
 use Rattle.meta_objset.specs.Reading.{directory_kind}
 use Rattle.meta_objset.proofs.reading.read_directory.Goals as goal
 
@@ -63,3 +64,6 @@ returns-clause-one g c =
     (λ found one stored objects own blocks held are honest other has.
     one other (has.0, c.deref.ensures.value ∙ c.in_ok-rows.ensures.one stored objects own blocks held are honest _ has.1))
     (ok_for_all c.directory_of.result (λ (rows : List DirectoryRow). IsDirectory rows × (c.deref.result.now ≡ rows_bytes rows)) (λ found rows. found ≡ rows) (λ rows is. c.directory_of.ensures.only rows is.0 is.1))
+
+pub returns-clause-caused : goal.returns-clause-caused
+returns-clause-caused g c = IfErr-weaker c.directory_of.result _ _ (λ refusal why. judged_is_caused _ _ _ _ refusal why) c.directory_of.ensures.refused

@@ -6,6 +6,7 @@ use Rattle.meta_objset.specs.SpaceMaps.{AreSpaceMaps, maps_bytes, maps_kind}
 use Rattle.object_table.proofs.Tables.{ok_for_all}
 use Rattle.object_table.specs.Found.{IsTableFound}
 use Rattle.object_table.specs.Tables.{HasTable}
+use Rattle.object_table.proofs.Causes.{judged_is_caused}
 use Rattle.meta_objset.proofs.reading.read_space_maps.Goals as goal
 
 pub returns-in_err-rows-clause-known : goal.returns-in_err-rows-clause-known
@@ -62,3 +63,6 @@ returns-clause-one g c =
     (λ found one stored objects own blocks held are honest other has.
     one other (has.0, c.deref.ensures.value ∙ c.in_ok-rows.ensures.one stored objects own blocks held are honest _ has.1))
     (ok_for_all c.maps_of.result (λ (rows : List MetaslabMap). AreSpaceMaps rows × (c.deref.result.now ≡ maps_bytes rows)) (λ found rows. found ≡ rows) (λ rows is. c.maps_of.ensures.only rows is.0 is.1))
+
+pub returns-clause-caused : goal.returns-clause-caused
+returns-clause-caused g c = IfErr-weaker c.maps_of.result _ _ (λ refusal why. judged_is_caused _ _ _ _ refusal why) c.maps_of.ensures.refused

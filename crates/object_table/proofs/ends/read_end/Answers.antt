@@ -1,12 +1,14 @@
 use Rattle.std.proofs.Common.{◌≡◌, ℕ, ◌+◌, ◌-◌, List, inl, inr, ⊎_elim, sym, ap, subst, ◌∙◌, arith}
 use Rattle.std.proofs.lemmas.Result.{IfOk-weaker, IfErr-weaker}
 use Rattle.block_store.proofs.Steps.{reads_on}
+use Rattle.block_store.proofs.Causes.{caused_behind_reads}
 use Rattle.dnode_tree.proofs.FurtherReads.{true_before, true_after}
 use Rattle.dnode_tree.proofs.Refusing.{ok_both, passed_on}
 use Rattle.object_table.specs.Ends.{AreEndsOfSome}
 use Rattle.object_table.proofs.EndsRead.{ends_at, end_is, ends_read, ends_refused}
 use Rattle.object_table.proofs.SoundTables.{whole_blocks}
 use Rattle.object_table.proofs.Tables.{ok_for_all, table_of}
+use Rattle.object_table.proofs.Causes.{judged_is_caused}
 use Rattle.object_table.proofs.ends.read_end.Goals as goal
 
 pub returns-in_err-first-clause-reads : goal.returns-in_err-first-clause-reads
@@ -88,3 +90,10 @@ returns-clause-known g c =
           (omega (arith, object.4)) ends.0 ends.1),
     ))
     c.end_of.ensures.refused
+
+pub returns-in_err-first-clause-caused : goal.returns-in_err-first-clause-caused
+returns-in_err-first-clause-caused g c =
+    passed_on _ _ _ c.from_residual-in_err-first.ensures.1 (caused_behind_reads _ _ _ _ _ c.in_ok-count.ensures.reads c.in_err-first.ensures.caused)
+
+pub returns-clause-caused : goal.returns-clause-caused
+returns-clause-caused g c = IfErr-weaker c.end_of.result _ _ (λ refusal why. judged_is_caused _ _ _ _ refusal (inr why)) c.end_of.ensures.refused

@@ -1,5 +1,6 @@
 use Rattle.std.proofs.Common.{◌≡◌, Some, inl, inr, ⊎_elim, refl, sym, ap, ◌∙◌}
 use Rattle.block_store.proofs.Steps.{reads_none, reads_on}
+use Rattle.block_store.proofs.Causes.{caused_behind_reads}
 use Rattle.dnode_tree.proofs.FurtherReads.{true_before, true_after}
 use Rattle.dnode_tree.proofs.Refusing.{passed_on}
 use Rattle.object_table.proofs.ends.read_ends.Goals as goal
@@ -50,3 +51,7 @@ returns-clause-value g c =
       c.in_ok-first.ensures.value stored objects own blocks held are (true_before _ _ _ _ first rest honest) there is,
       c.in_ok-last-2.ensures.value stored objects own blocks (first.keeps stored held) are (true_after _ _ _ _ first rest honest) there is,
     )
+
+pub returns-in_err-last-2-clause-caused : goal.returns-in_err-last-2-clause-caused
+returns-in_err-last-2-clause-caused g c =
+    passed_on _ _ _ c.from_residual-in_err-last-2.ensures.1 (caused_behind_reads _ _ _ _ _ c.in_ok-first.ensures.reads c.in_err-last-2.ensures.caused)

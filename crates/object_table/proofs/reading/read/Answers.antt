@@ -1,11 +1,13 @@
 use Rattle.std.proofs.Common.{◌≡◌, ℕ, List, inl, inr, ⊎_elim, sym, ap, subst, ◌∙◌, arith}
 use Rattle.std.proofs.lemmas.Result.{IfOk-weaker, IfErr-weaker}
 use Rattle.block_store.proofs.Steps.{reads_on}
+use Rattle.block_store.proofs.Causes.{caused_behind_reads}
 use Rattle.dnode_tree.proofs.FurtherReads.{true_before, true_after}
 use Rattle.dnode_tree.proofs.Refusing.{passed_on}
 use Rattle.object_table.specs.Rows.{SpellsRows}
 use Rattle.object_table.specs.Tables.{bytes_to}
 use Rattle.object_table.proofs.Tables.{table_of, ok_for_all, bytes_read, rows_refused}
+use Rattle.object_table.proofs.Causes.{judged_is_caused}
 use Rattle.object_table.proofs.reading.read.Goals as goal
 
 pub returns-in_err-count-clause-known : goal.returns-in_err-count-clause-known
@@ -115,3 +117,10 @@ returns-clause-refused g c =
     ))))
     why)
     c.rows_of.ensures.refused
+
+pub returns-in_err-bytes-clause-caused : goal.returns-in_err-bytes-clause-caused
+returns-in_err-bytes-clause-caused g c =
+    passed_on _ _ _ c.from_residual-in_err-bytes.ensures.1 (caused_behind_reads _ _ _ _ _ c.in_ok-count.ensures.reads c.in_err-bytes.ensures.caused)
+
+pub returns-clause-caused : goal.returns-clause-caused
+returns-clause-caused g c = IfErr-weaker c.rows_of.result _ _ (λ refusal why. judged_is_caused _ _ _ _ refusal why) c.rows_of.ensures.refused

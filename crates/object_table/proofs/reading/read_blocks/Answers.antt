@@ -2,6 +2,7 @@ use Rattle.std.proofs.Common.{◌≡◌, ℕ, ◌+◌, List, ◌++◌, Option, S
 use Rattle.std.specs.Prelude.{Vec, IsSomeAnd}
 use Rattle.std.specs.declared.alloc.Global.{Global}
 use Rattle.block_store.proofs.Steps.{reads_on}
+use Rattle.block_store.proofs.Causes.{caused_behind_reads}
 use Rattle.dnode_tree.proofs.FurtherReads.{true_after}
 use Rattle.dnode_tree.proofs.Refusing.{passed_on}
 use Rattle.dnode_tree.specs.Ways.{bytes_of}
@@ -86,3 +87,7 @@ returns-in_default-clause-refused g c =
         hole = subst (λ spaces. IsDataFound spaces c.args.set.now c.args.birth c.args.number c.loop-id.id None) (spaces_stay _ _ _ c.loop-id.invariant.reads) hole;
       },
     ))
+
+pub returns-in_err-found-clause-caused : goal.returns-in_err-found-clause-caused
+returns-in_err-found-clause-caused g c =
+    passed_on _ _ _ c.from_residual.ensures.1 (caused_behind_reads _ _ _ _ _ c.loop-id.invariant.reads c.in_err-found.ensures.caused)

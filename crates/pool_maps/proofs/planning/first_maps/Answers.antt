@@ -4,6 +4,7 @@ use Rattle.block_store.specs.Blocks.{nothing_stored}
 use Rattle.dnode_tree.proofs.Refusing.{passed_on}
 use Rattle.meta_objset.specs.declared.space_maps.MetaslabMap.{MetaslabMap}
 use Rattle.objset.specs.declared.changes.ObjectChange.{ObjectChange}
+use Rattle.object_table.proofs.Causes.{judged_is_caused}
 use Rattle.pool_maps.specs.declared.steps.MapPlan.{MapPlan}
 use Rattle.pool_maps.specs.Plans.{IsForMetaslab, IsMapNumber}
 use Rattle.pool_maps.specs.Refused.{no_set}
@@ -96,3 +97,6 @@ returns-clause-known g c =
           c.in_ok-plan_all.ensures.step.goes_on))
     ])
     c.with_first_table.ensures.refused
+
+pub returns-clause-caused : goal.returns-clause-caused
+returns-clause-caused g c = IfErr-weaker c.with_first_table.result _ _ (λ refusal why. inl (judged_is_caused _ _ _ _ refusal why)) c.with_first_table.ensures.refused

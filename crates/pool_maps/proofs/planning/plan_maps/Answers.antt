@@ -9,13 +9,16 @@ use Rattle.block_store.proofs.Giving.{both_ok}
 use Rattle.block_store.proofs.Steps.{reads_on, true_before, true_after}
 use Rattle.dnode_tree.proofs.Refusing.{passed_on}
 use Rattle.metaslab.proofs.Holding.{cases}
+use Rattle.block_store.proofs.Causes.{caused_behind_reads}
 use Rattle.objset.specs.Changes.{changed}
 use Rattle.objset.specs.declared.changes.ObjectChange.{ObjectChange}
+use Rattle.object_table.proofs.Causes.{judged_is_caused}
 use Rattle.pool_maps.specs.declared.steps.MapPlan.{MapPlan}
 use Rattle.pool_maps.specs.Plans.{Advances, AreAhead, AreAll, IsForMetaslab, IsSound, LeaveMaps, MapAnew, MayBeMade, IsMapNumber, IsPutIn, OthersStay}
 use Rattle.pool_maps.proofs.Among.{only, others_stay}
 use Rattle.pool_maps.proofs.Underway.{spaces_stay}
 use Rattle.pool_maps.proofs.Whole.{ahead, anew_grown, anew_idle, below, sound, table_apart, unmade}
+use Rattle.pool_maps.specs.Numbers.{LacksNumbers}
 use Rattle.pool_maps.proofs.planning.plan_maps.Goals as goal
 
 pub returns-in_err-maps-clause-refused : goal.returns-in_err-maps-clause-refused
@@ -177,3 +180,17 @@ returns-clause-value g c =
           (anew.0, anew.1, stay, anew.2)
     ])
     (both_ok c.with_table.result _ _ c.with_table.ensures.same c.with_table.ensures.table)
+
+pub returns-in_err-maps-clause-caused : goal.returns-in_err-maps-clause-caused
+returns-in_err-maps-clause-caused g c = passed_on _ _ _ c.from_residual.ensures.1 (inl c.in_err-maps.ensures.caused)
+
+pub returns-in_err-plan_all-clause-caused : goal.returns-in_err-plan_all-clause-caused
+returns-in_err-plan_all-clause-caused g c =
+    let same = spaces_stay c.args.store.now c.read_space_maps.new.store [] c.read_space_maps.ensures.reads in
+    passed_on _ _ _ c.from_residual-in_err-plan_all.ensures.1 (elim c.in_err-plan_all.ensures.caused [
+      | inl cause ↦ inl (caused_behind_reads _ _ _ _ _ c.read_space_maps.ensures.reads cause)
+      | inr (space, few) ↦ inr (space, subst (λ (spaces : List VdevSpace). LacksNumbers spaces c.args.next) same few)
+    ])
+
+pub returns-clause-caused : goal.returns-clause-caused
+returns-clause-caused g c = IfErr-weaker c.with_table.result _ _ (λ refusal why. inl (judged_is_caused _ _ _ _ refusal why)) c.with_table.ensures.refused

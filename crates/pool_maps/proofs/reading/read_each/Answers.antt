@@ -4,6 +4,7 @@ use Rattle.block_store.specs.Spaces.{VdevSpace}
 use Rattle.block_store.proofs.Steps.{reads_on, true_after}
 use Rattle.dnode_tree.proofs.Refusing.{passed_on}
 use Rattle.meta_objset.specs.declared.space_maps.MetaslabMap.{MetaslabMap}
+use Rattle.space_map_objects.proofs.Unread.{caused_of_behind_reads}
 use Rattle.pool_maps.specs.Loads.{HasMapFor}
 use Rattle.pool_maps.specs.Maps.{HasMapPlace}
 use Rattle.pool_maps.proofs.ReadRows.{ReadUpTo, one_more}
@@ -68,3 +69,8 @@ returns-clause-value g c =
     let rows = c.args.rows.now in
     (subst (λ (done : List MetaslabMap). ReadUpTo c.args.store.now c.loop-row.store c.args.missing.now c.args.set.now c.args.birth done c.loop-row.read.items)
     (take_all c.loop-row.row-index rows c.loop-row-test.false) c.loop-row.invariant).value
+
+pub returns-in_err-free-clause-caused : goal.returns-in_err-free-clause-caused
+returns-in_err-free-clause-caused g c =
+    passed_on _ _ _ c.from_residual.ensures.1
+    (caused_of_behind_reads c.args.store.now c.loop-row.store c.read_one.new.store c.args.missing.now _ c.loop-row.invariant.reads c.in_err-free.ensures.caused)

@@ -10,7 +10,7 @@ use Rattle.pool_maps.specs.Maps.{AreRowsOf, HasMapPlace}
 use Rattle.pool_maps.proofs.ReadRows.{maps_unread}
 use Rattle.pool_maps.proofs.ReadSets.{sets_of_found, unread_behind}
 use Rattle.pool_maps.proofs.Underway.{spaces_stay}
-use Rattle.space_map_objects.proofs.Unread.{lossy}
+use Rattle.space_map_objects.proofs.Unread.{caused_of_behind_reads, lossy, unread_is_caused}
 use Rattle.pool_maps.proofs.reading.read_maps.Goals as goal
 
 pub returns-in_err-maps-clause-refused : goal.returns-in_err-maps-clause-refused
@@ -110,3 +110,14 @@ returns-clause-known g c =
     (subst (λ (spaces : List VdevSpace). HaveMaps objects spaces c.rows-2.result.now) (sym same)
     (subst (λ (them : List MetaslabMap). HaveMaps objects old.spaces them) (sym (c.rows-2.ensures.value ∙ maps_are)) have)))
     c.read_each.ensures.known
+
+pub returns-in_err-maps-clause-caused : goal.returns-in_err-maps-clause-caused
+returns-in_err-maps-clause-caused g c =
+    passed_on _ _ _ c.from_residual.ensures.1
+    (unread_is_caused c.args.store.now c.read_space_maps.new.store c.args.missing.now c.in_err-maps.field-0.0 c.in_err-maps.ensures.caused)
+
+pub returns-clause-caused : goal.returns-clause-caused
+returns-clause-caused g c =
+    IfErr-weaker c.read_each.result _ _
+    (λ refusal cause. caused_of_behind_reads c.args.store.now c.read_space_maps.new.store c.read_each.new.store c.args.missing.now refusal c.read_space_maps.ensures.reads cause)
+    c.read_each.ensures.caused

@@ -3,7 +3,7 @@ use Rattle.std.proofs.lemmas.Result.{IfOk-weaker, IfErr-weaker}
 use Rattle.dnode_tree.proofs.Refusing.{passed_on}
 use Rattle.object_table.specs.Found.{IsTableFound}
 use Rattle.object_table.specs.Tables.{HasTable}
-use Rattle.space_map_objects.proofs.Unread.{unread, lossy}
+use Rattle.space_map_objects.proofs.Unread.{unread, unread_is_caused, judged_is_caused, lossy}
 use Rattle.space_map_objects.specs.Maps.{LeavesFree, SpellsNoMap}
 use Rattle.space_map_objects.proofs.reading.read_free_set.Goals as goal
 
@@ -62,3 +62,11 @@ returns-clause-known g c =
     subst (λ (bytes : List ℕ). SpellsNoMap bytes c.args.sectors) same bad.1 map.1.2.entries map.1.2.spelled map.1.2.is_map))
     why)
     c.free_set_of.ensures.refused
+
+pub returns-in_err-rows-clause-caused : goal.returns-in_err-rows-clause-caused
+returns-in_err-rows-clause-caused g c =
+    passed_on _ _ _ c.from_residual.ensures.1 (unread_is_caused _ _ _ _ c.in_err-rows.ensures.caused)
+
+pub returns-clause-caused : goal.returns-clause-caused
+returns-clause-caused g c =
+    IfErr-weaker c.free_set_of.result _ _ (λ refusal why. judged_is_caused _ _ _ _ refusal why) c.free_set_of.ensures.refused

@@ -1,7 +1,10 @@
 use Rattle.std.proofs.Common.{rules, ◌≡◌, None, length, inl, inr, refl, arith}
 use Rattle.std.proofs.lemmas.Bool.Decides.{nat_tests}
 use Rattle.std.proofs.lemmas.Result.{IfErr-weaker}
+use Rattle.dnode_tree.proofs.Refusing.{passed_on}
+use Rattle.object_table.proofs.Causes.{judged_is_caused}
 use Rattle.pool_maps.proofs.Planned.{both_ok, empty_of, had_map, made_advances, made_step, not_empty, not_taken, ok_by, rewritten_advances, rewritten_step, stays_so}
+use Rattle.pool_maps.proofs.Causes.{making_is_caused}
 use Rattle.pool_maps.proofs.steps.MapPlan.plan_metaslab.Goals as goal
 
 pub returns-then-is_empty-clause-advances : goal.returns-then-is_empty-clause-advances
@@ -55,3 +58,18 @@ returns-clause-advances g c =
     made_advances objects c.args.store.now.spaces c.args.gone.now c.args.place c.in_ok-update.update c.in_ok-update.ensures.update c.args.self.now c.make.new.self
     made.0 made.1 sound unmade made.2 made.3)
     c.make.ensures.made
+
+pub returns-in_err-update-clause-caused : goal.returns-in_err-update-clause-caused
+returns-in_err-update-clause-caused g c = passed_on _ _ _ c.from_residual.ensures.1 (inl (judged_is_caused _ _ _ _ _ c.in_err-update.ensures.refused))
+
+pub returns-in-Some-clause-numbers : goal.returns-in-Some-clause-numbers
+returns-in-Some-clause-numbers g c = ok_by c.rewrite.result (λ value. let same = value.1.next in omega (arith, same)) c.rewrite.ensures.value
+
+pub returns-in-Some-clause-caused : goal.returns-in-Some-clause-caused
+returns-in-Some-clause-caused g c = IfErr-weaker c.rewrite.result _ _ (λ refusal cause. inl cause) c.rewrite.ensures.caused
+
+pub returns-clause-numbers : goal.returns-clause-numbers
+returns-clause-numbers g c = ok_by c.make.result (λ made. let one = made.1.next in omega (arith, one)) c.make.ensures.made
+
+pub returns-clause-caused : goal.returns-clause-caused
+returns-clause-caused g c = IfErr-weaker c.make.result _ _ (λ refusal why. making_is_caused _ _ _ _ _ refusal why) c.make.ensures.refused

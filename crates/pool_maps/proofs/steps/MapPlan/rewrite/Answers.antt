@@ -1,5 +1,7 @@
 use Rattle.std.proofs.Common.{inl, inr}
+use Rattle.std.proofs.lemmas.Result.{IfErr-weaker}
 use Rattle.dnode_tree.proofs.Refusing.{passed_on}
+use Rattle.object_table.proofs.Causes.{judged_is_caused}
 use Rattle.pool_maps.proofs.steps.MapPlan.rewrite.Goals as goal
 
 pub returns-in_err-change-clause-known : goal.returns-in_err-change-clause-known
@@ -13,3 +15,6 @@ returns-in_err-change-clause-refused g c =
       | inl memory ↦ inl memory
       | inr why ↦ inr (inl why)
     ])
+
+pub returns-clause-caused : goal.returns-clause-caused
+returns-clause-caused g c = IfErr-weaker c.put.result _ _ (λ refusal why. judged_is_caused _ _ _ _ refusal why) c.put.ensures.refused
