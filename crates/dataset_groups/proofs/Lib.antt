@@ -2,6 +2,7 @@ pub mod AddedDatasets
 pub mod AddedReach
 pub mod Asking
 pub mod Beginning
+pub mod Causes
 pub mod Copied
 pub mod Exchanges
 pub mod GoodNames

@@ -8,6 +8,7 @@ pub mod Writing
 pub mod Touched
 pub mod Demands
 pub mod Actions
+pub mod Causes
 pub mod Laws
 pub mod Destroys
 pub use Rattle.dataset_destroys.specs.Chains

@@ -1,7 +1,8 @@
 //! What the actions of a group make.
-ghost use Rattle.std.specs.Prelude.{◌≡◌, ◌⊎◌, ◌<◌, ◌≤◌, false, true, ℕ, List, [], Option, fold, OnOk, IfErr};
+ghost use Rattle.std.specs.Prelude.{◌≡◌, ◌⊎◌, ◌+◌, ◌*◌, ◌<◌, ◌≤◌, false, true, ℕ, List, [], Option, fold, length, OnOk, IfErr};
 ghost use Rattle.block_pointer.specs.declared.block.Block.{Block};
 ghost use Rattle.block_store.specs.Blocks.{Contents, Extends};
+ghost use Rattle.block_store.specs.Causes.{IsCaused};
 ghost use Rattle.block_store.specs.Plans.{Plans};
 ghost use Rattle.block_store.specs.Steps.{OnlyReadsAndPlans, AnswersAreTrue};
 ghost use Rattle.dataset_destroys.specs.Chains.{Reading};
@@ -12,6 +13,7 @@ ghost use Rattle.objset.specs.Objects.{Object, AreObjects};
 ghost use Rattle.pool_model.specs.Pools.{PlainPool, changed};
 ghost use Rattle.volume_rules.specs.GoodChanges.{is_good_making};
 ghost use Rattle.dataset_groups.specs.Actions.{AreActed};
+ghost use Rattle.dataset_groups.specs.Causes.{IsCloning, LacksNumbers};
 ghost use Rattle.dataset_groups.specs.Demands.{IsActionRefused, IsMakingRefused, MakesAll, MakesOne};
 ghost use Rattle.dataset_groups.specs.Groups.{SpellsGroup};
 ghost use Rattle.dataset_groups.specs.NewVolumes.{AreGoodChanges, numbers_end};
@@ -45,6 +47,9 @@ impl GroupDatasets {
         ensures within { self.old.next ≤ self.old.bounds.end
             → self.new.next ≤ self.old.bounds.end }
         ensures bounds { self.new.bounds ≡ self.old.bounds }
+        ensures next { (self.old.next ≤ self.new.next)
+            × (self.new.next ≤ self.old.next + 2 * length actions.now) }
+        ensures idle { OnOk result (self.new.next ≡ self.old.next → self.new ≡ self.old) }
         ensures one_set { AreOfOneSet self.old.changes self.new.changes }
 
         // The datasets are those after the actions.
@@ -57,6 +62,11 @@ impl GroupDatasets {
             → (later : Contents) × Plans store.new stored later × Extends planned later
             × AreActed group objects planned later self.old self.new pool
             (fold (λ p a. changed group p a.change) plain actions.now)) }
+
+        // Of a refusal for lack of disks or room, the block; or numbers are wanting.
+        ensures caused { IfErr result (λ refusal. IsCaused store.old store.new [] refusal
+            ⊎ ((refusal ≡ Refusal.NoSpace)
+            × LacksNumbers self.old.next self.old.bounds.end actions.now 0)) }
         ensures bad { IfErr result (λ refusal. refusal ≡ Refusal.BadConfig
             → ¬ AreGoodChanges actions.now) }
 
@@ -99,6 +109,8 @@ impl GroupDatasets {
         ensures within { self.old.next ≤ self.old.bounds.end
             → self.new.next ≤ self.old.bounds.end }
         ensures bounds { self.new.bounds ≡ self.old.bounds }
+        ensures next { (self.old.next ≤ self.new.next) × (self.new.next ≤ self.old.next + 2) }
+        ensures idle { OnOk result (self.new.next ≡ self.old.next → self.new ≡ self.old) }
         ensures one_set { AreOfOneSet self.old.changes self.new.changes }
         ensures value { OnOk result ((stored planned : Contents) → Plans store.old stored planned
             → AnswersAreTrue store.old store.new
@@ -109,6 +121,9 @@ impl GroupDatasets {
             → SpellsGroup planned group objects self.old pool readings plain
             → AreActed group objects planned later self.old self.new pool
             (changed group plain change.now))) }
+        ensures caused { IfErr result (λ refusal. IsCaused store.old store.new [] refusal
+            ⊎ ((refusal ≡ Refusal.NoSpace)
+            × ((self.old.bounds.end < self.old.next + 2) ⊎ IsCloning change.now))) }
         ensures bad { IfErr result (λ refusal. refusal ≡ Refusal.BadConfig
             → is_good_making change.now ≡ false) }
         ensures known { IfErr result (λ refusal. (stored planned : Contents)

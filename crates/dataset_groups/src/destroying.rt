@@ -2,6 +2,7 @@
 ghost use Rattle.std.specs.Prelude.{◌≡◌, ◌↔◌, ◌++◌, ◌∷◌, [], ℕ, List, Option, Any, IsTrue, OnOk, IfOk, IfErr};
 ghost use Rattle.block_pointer.specs.declared.block.Block.{Block};
 ghost use Rattle.block_store.specs.Blocks.{Contents};
+ghost use Rattle.block_store.specs.Causes.{IsCaused};
 ghost use Rattle.block_store.specs.Losses.{IsForLoss};
 ghost use Rattle.block_store.specs.Steps.{OnlyReadsBlocks, AnswersAreTrue};
 ghost use Rattle.block_store.specs.Store.{Holds};
@@ -60,6 +61,9 @@ impl GroupDatasets {
         ensures renamed { IfOk result (λ renamed. IsTrue renamed
             ↔ Any (IsNameThere self.old.directory) names.now) }
 
+        // Of a refusal for lack of disks or room, the block.
+        ensures caused { IfErr result (IsCaused store.old store.new []) }
+
         // And over disks that answer truly only memory is wanting, or disks.
         ensures known { IfErr result (λ refusal. (stored : Contents) (objects : ℕ → Option Object)
             (own : List Block) (blocks : ℕ → List Block) (pool : Pool) (readings : ℕ → Reading)
@@ -109,6 +113,7 @@ impl GroupDatasets {
             × (freed.new.items ≡ freed.old.items ++ gone)) }
         ensures there { IfOk result (λ there. IsTrue there
             ↔ IsNameThere self.old.directory name.now) }
+        ensures caused { IfErr result (IsCaused store.old store.new []) }
         ensures known { IfErr result (λ refusal. (stored : Contents) (objects : ℕ → Option Object)
             (own : List Block) (blocks : ℕ → List Block) (pool : Pool) (readings : ℕ → Reading)
             (plain : PlainPool) → Holds store.old stored

@@ -1,6 +1,7 @@
 //! Volumes that a group makes.
 ghost use Rattle.std.specs.Prelude.{◌≡◌, ◌⊎◌, ◌+◌, ◌<◌, ◌≤◌, false, true, ℕ, [], Option, OnOk, IfErr};
 ghost use Rattle.block_store.specs.Blocks.{Contents, Extends};
+ghost use Rattle.block_store.specs.Causes.{IsCaused};
 ghost use Rattle.block_store.specs.Plans.{Plans};
 ghost use Rattle.block_store.specs.Steps.{OnlyReadsAndPlans, AnswersAreTrue};
 ghost use Rattle.dataset_destroys.specs.Chains.{Reading};
@@ -51,6 +52,8 @@ impl GroupDatasets {
         ensures within { self.old.next ≤ self.old.bounds.end
             → self.new.next ≤ self.old.bounds.end }
         ensures bounds { self.new.bounds ≡ self.old.bounds }
+        ensures next { (self.old.next ≤ self.new.next) × (self.new.next ≤ self.old.next + 2) }
+        ensures idle { OnOk result (self.new.next ≡ self.old.next → self.new ≡ self.old) }
         ensures one_set { AreOfOneSet self.old.changes self.new.changes }
         ensures value { OnOk result ((stored planned : Contents) → Plans store.old stored planned
             → AnswersAreTrue store.old store.new
@@ -59,6 +62,8 @@ impl GroupDatasets {
             (plain : PlainPool) → SpellsGroup planned group objects self.old pool readings plain
             → AreActed group objects planned later self.old self.new pool
             (changed group plain (Create name.now size block_size)))) }
+        ensures caused { IfErr result (λ refusal. IsCaused store.old store.new [] refusal
+            ⊎ ((refusal ≡ Refusal.NoSpace) × (self.old.bounds.end < self.old.next + 2))) }
         ensures bad { IfErr result (λ refusal. refusal ≡ Refusal.BadConfig
             → is_good_making (Create name.now size block_size) ≡ false) }
         ensures known { IfErr result (λ refusal.

@@ -2,6 +2,7 @@
 ghost use Rattle.std.specs.Prelude.{◌≡◌, ◌≢◌, ◌⊎◌, ◌<◌, [], false, true, replicate, IfOk, IfErr, OnOk};
 ghost use Rattle.block_pointer.specs.Block.{FitsBlock};
 ghost use Rattle.block_store.specs.Blocks.{Contents, Extends};
+ghost use Rattle.block_store.specs.Causes.{IsCaused};
 ghost use Rattle.block_store.specs.Plans.{Plans};
 ghost use Rattle.block_store.specs.Steps.{OnlyReadsAndPlans, AnswersAreTrue};
 ghost use Rattle.dnode_tree.specs.Writes.{IsForRoom};
@@ -100,6 +101,7 @@ impl NewVolume {
             × IsReachExchanged group planned later []
             (blocks_of_volume object_set is.set is.has.own is.has.blocks) []
             × AddsData planned later) }
+        ensures caused { IfErr result (IsCaused store.old store.new []) }
         ensures cause { IfErr result (λ refusal. refusal ≢ Refusal.BadConfig) }
         ensures no_room { IfErr result (λ refusal. refusal ≡ Refusal.NoSpace
             → LacksRoom store.old store.new) }

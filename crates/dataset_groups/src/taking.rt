@@ -2,6 +2,7 @@
 ghost use Rattle.std.specs.Prelude.{◌≡◌, ◌⊎◌, ◌+◌, ◌<◌, ◌≤◌, false, true, ℕ, List, [], Option, None, Contains, OnOk, IfOk, IfErr, IfSome};
 ghost use Rattle.block_pointer.specs.declared.block.Block.{Block};
 ghost use Rattle.block_store.specs.Blocks.{Contents};
+ghost use Rattle.block_store.specs.Causes.{IsCaused};
 ghost use Rattle.block_store.specs.Losses.{IsForLoss};
 ghost use Rattle.block_store.specs.Steps.{OnlyReadsBlocks, AnswersAreTrue};
 ghost use Rattle.block_store.specs.Store.{Holds};
@@ -59,6 +60,8 @@ impl GroupDatasets {
         ensures within { self.old.next ≤ self.old.bounds.end
             → self.new.next ≤ self.old.bounds.end }
         ensures bounds { self.new.bounds ≡ self.old.bounds }
+        ensures next { (self.old.next ≤ self.new.next) × (self.new.next ≤ self.old.next + 2) }
+        ensures idle { OnOk result (self.new.next ≡ self.old.next → self.new ≡ self.old) }
         ensures one_set { AreOfOneSet self.old.changes self.new.changes }
         ensures value { OnOk result ((stored known : Contents) (objects : ℕ → Option Object)
             (own : List Block) (blocks : ℕ → List Block) (pool : Pool) (readings : ℕ → Reading)
@@ -68,6 +71,8 @@ impl GroupDatasets {
             → SpellsGroup known group objects self.old pool readings plain
             → AreActed group objects known known self.old self.new pool
             (changed group plain (Snapshot volume.now part.now))) }
+        ensures caused { IfErr result (λ refusal. IsCaused store.old store.new [] refusal
+            ⊎ ((refusal ≡ Refusal.NoSpace) × (self.old.bounds.end < self.old.next + 2))) }
         ensures bad { IfErr result (λ refusal. refusal ≡ Refusal.BadConfig
             → is_good_making (Snapshot volume.now part.now) ≡ false) }
         ensures known { IfErr result (λ refusal. (stored known : Contents)
@@ -120,6 +125,7 @@ impl GroupDatasets {
         ensures one_set { AreOfOneSet self.old.changes self.new.changes }
         ensures taken { OnOk result
             (IsTaken store.old store.new group head self.old name.now self.new) }
+        ensures caused { IfErr result (IsCaused store.old store.new []) }
         ensures refused { IfErr result (λ refusal. (last : DatasetChanges)
             × IsChainRefused store.old store.new self.old.changes last head kinds.Volume
             refusal) }

@@ -2,6 +2,7 @@
 ghost use Rattle.std.specs.Prelude.{◌≡◌, ◌≤◌, ◌<◌, ◌++◌, ◌∷◌, ◌⊎◌, [], ℕ, List, Option, All, OnOk, IfErr, fold};
 ghost use Rattle.block_pointer.specs.declared.block.Block.{Block};
 ghost use Rattle.block_store.specs.Blocks.{Contents, Extends};
+ghost use Rattle.block_store.specs.Causes.{IsCaused};
 ghost use Rattle.block_store.specs.Plans.{Plans};
 ghost use Rattle.block_store.specs.Steps.{OnlyReadsAndPlans, AnswersAreTrue};
 ghost use Rattle.dataset_destroys.specs.Chains.{Reading, SpellsChains};
@@ -80,6 +81,9 @@ impl GroupDatasets {
             × IsReachExchanged group planned later (reach_by pool self.old.directory)
             (reach_by new self.old.directory) gone × AddsData planned later) }
 
+        // Of a refusal for lack of disks or room, the block.
+        ensures caused { IfErr result (IsCaused store.old store.new []) }
+
         // Over disks that answer truly only room is wanting, or disks.
         ensures known { IfErr result (λ refusal. (stored planned : Contents) (bound : ℕ)
             (objects : ℕ → Option Object) (own : List Block) (blocks : ℕ → List Block)
@@ -137,6 +141,7 @@ impl GroupDatasets {
             × (gone : List Block) × (freed.new.items ≡ freed.old.items ++ gone)
             × (after : Pool) × IsHeadWritten planned later group objects self.old.changes
             self.new.changes pool after readings head.number array gone) }
+        ensures caused { IfErr result (IsCaused store.old store.new []) }
         ensures known { IfErr result (λ refusal. (stored planned : Contents) (bound : ℕ)
             (objects : ℕ → Option Object) (own : List Block) (blocks : ℕ → List Block)
             (pool : Pool) (readings : ℕ → Reading) (array : List ℕ)

@@ -1,4 +1,4 @@
-use Rattle.std.proofs.Common.{◌≡◌, ◌≤◌, [], List, inr, refl, sym, subst, ◌∙◌, true≢false}
+use Rattle.std.proofs.Common.{◌≡◌, ◌≤◌, [], List, inr, refl, sym, subst, ◌∙◌, true≢false, ⊎_elim, inl, arith}
 use Rattle.std.specs.Prelude.{fold, take}
 use Rattle.std.proofs.lemmas.List.{take_all}
 use Rattle.block_store.proofs.Steps.{steps_none, steps_on, true_after, true_before}
@@ -14,6 +14,8 @@ use Rattle.dataset_groups.specs.declared.datasets.NumberBounds.{NumberBounds}
 use Rattle.dataset_groups.proofs.AddedDatasets.{acts_none, acts_on}
 use Rattle.dataset_groups.proofs.MakingDemands.{action_refused, makes_more, makes_none, taken_more}
 use Rattle.dataset_groups.proofs.MakingSteps.{one_good, pool_more}
+use Rattle.block_store.proofs.Causes.{caused_behind}
+use Rattle.dataset_groups.proofs.Causes.{idle_on, lacks_of}
 use Rattle.dataset_groups.proofs.datasets.GroupDatasets.act_all.Goals as goal
 
 pub loop-action-init : goal.loop-action-init
@@ -23,6 +25,9 @@ loop-action-init g c = record {
   end = c.requires.end;
   within = λ within. within;
   bounds = refl;
+  next = (omega arith, omega arith);
+  within_list = omega arith;
+  idle = λ same. refl;
   one_set = (refl, refl);
   value = λ stored planned plans honest. (
     planned,
@@ -76,6 +81,9 @@ loop-action-preserved g c =
       end = subst (λ (b : NumberBounds). b.end ≤ numbers_end) (sym c.act_one.ensures.bounds) so_far.end;
       within = λ within. within_on c.args.self.now c.loop-action.self c.act_one.new.self so_far.bounds c.act_one.ensures.within (so_far.within within);
       bounds = c.act_one.ensures.bounds ∙ so_far.bounds;
+      next = (omega (arith, so_far.next.0, c.act_one.ensures.next.0), omega (arith, so_far.next.1, c.act_one.ensures.next.1));
+      within_list = omega (arith, c.loop-action-test.true);
+      idle = idle_on c.args.self.now c.loop-action.self c.act_one.new.self so_far.next.0 c.act_one.ensures.next.0 so_far.idle c.in_ok-act_one.ensures.idle;
       one_set = one_set_on c.args.self.now.changes c.loop-action.self.changes c.act_one.new.self.changes so_far.one_set c.act_one.ensures.one_set;
       value = λ stored planned plans honest.
           let one = so_far.value stored planned plans (true_before c.args.store.now c.loop-action.store c.act_one.new.store steps.reads honest) in
@@ -119,3 +127,25 @@ returns-clause-value g c = λ stored planned objects own blocks pool readings pl
       subst (λ (actions : List Action). AreActed c.args.group objects planned done.0 c.args.self.now c.loop-action.self pool (fold (λ p a. changed c.args.group p a.change) plain actions))
           (take_all c.loop-action.action-index c.args.actions.now c.loop-action-test.false) (done.3 objects own blocks pool readings plain are spells),
     )
+
+pub returns-in_err-act_one-clause-next : goal.returns-in_err-act_one-clause-next
+returns-in_err-act_one-clause-next g c =
+    let so_far = c.loop-action.invariant.next in
+    let one = c.act_one.ensures.next in
+    (omega (arith, so_far.0, one.0), omega (arith, so_far.1, one.1, c.loop-action-test.true))
+
+pub returns-in_err-act_one-clause-caused : goal.returns-in_err-act_one-clause-caused
+returns-in_err-act_one-clause-caused g c =
+    let so_far = c.loop-action.invariant in
+    passed_on _ _ _ c.from_residual.ensures.1
+    (⊎_elim (λ cause. inl (caused_behind c.args.store.now c.loop-action.store c.act_one.new.store [] _ so_far.steps cause))
+    (λ lacks. inr (lacks.0, lacks_of c.args.self.now c.loop-action.self c.args.actions.now c.loop-action.action-index c.action-item.result so_far.bounds so_far.next.1 c.loop-action-test.true c.action-item.is lacks.1))
+    c.in_err-act_one.ensures.caused)
+
+pub returns-clause-next : goal.returns-clause-next
+returns-clause-next g c =
+    let so_far = c.loop-action.invariant.next in
+    (so_far.0, omega (arith, so_far.1, c.loop-action.invariant.within_list))
+
+pub returns-clause-idle : goal.returns-clause-idle
+returns-clause-idle g c = c.loop-action.invariant.idle

@@ -1,4 +1,4 @@
-use Rattle.std.proofs.Common.{◌≡◌, ℕ, ◌≤◌, ◌<◌, [], List, Option, take}
+use Rattle.std.proofs.Common.{◌≡◌, ℕ, ◌+◌, ◌*◌, ◌≤◌, ◌<◌, [], List, Option, length, take}
 use Rattle.std.specs.Prelude.{fold}
 use Rattle.block_pointer.specs.declared.block.Block.{Block}
 use Rattle.block_store.specs.Blocks.{Contents, Extends}
@@ -23,6 +23,9 @@ invariant-loop-action g l = record {
   end : l.self.bounds.end ≤ numbers_end;
   within : l.fn.self.next ≤ l.fn.self.bounds.end → l.self.next ≤ l.fn.self.bounds.end;
   bounds : l.self.bounds ≡ l.fn.self.bounds;
+  next : (l.fn.self.next ≤ l.self.next) × (l.self.next ≤ l.fn.self.next + 2 * l.action-index);
+  within_list : l.action-index ≤ length l.actions;
+  idle : l.self.next ≡ l.fn.self.next → l.self ≡ l.fn.self;
   one_set : AreOfOneSet l.fn.self.changes l.self.changes;
   value : (stored planned : Contents) → Plans l.fn.store stored planned → AnswersAreTrue l.fn.store l.store
       → (later : Contents) × Plans l.store stored later × Extends planned later

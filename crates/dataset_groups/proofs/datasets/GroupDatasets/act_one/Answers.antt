@@ -1,4 +1,4 @@
-use Rattle.std.proofs.Common.{◌≡◌, true, [], inl, inr, refl, sym, ap, subst}
+use Rattle.std.proofs.Common.{◌≡◌, true, [], inl, inr, refl, sym, ap, subst, ⊎_elim}
 use Rattle.std.proofs.lemmas.Result.{IfErr-weaker, on_ok_weaker}
 use Rattle.block_store.proofs.Steps.{steps_none, steps_read}
 use Rattle.pool_model.specs.declared.item.Change.{Change}
@@ -6,6 +6,7 @@ use Rattle.pool_model.specs.Pools.{changed}
 use Rattle.volume_rules.specs.GoodChanges.{is_good_making}
 use Rattle.dataset_groups.specs.Actions.{AreActed}
 use Rattle.dataset_groups.specs.Demands.{MakesOne}
+use Rattle.dataset_groups.specs.Causes.{IsCloning}
 use Rattle.dataset_groups.proofs.datasets.GroupDatasets.act_one.Goals as goal
 
 -- ---- a volume
@@ -84,3 +85,21 @@ returns-in-Destroy-clause-refused g c = inr (inl (refl, ap is_good_making c.in-D
 
 pub returns-in-Destroy-clause-steps : goal.returns-in-Destroy-clause-steps
 returns-in-Destroy-clause-steps g c = steps_none c.args.store.now []
+
+-- ---- why it is refused
+
+pub returns-in-Create-clause-caused : goal.returns-in-Create-clause-caused
+returns-in-Create-clause-caused g c = IfErr-weaker c.create_one.result _ _ (λ refusal. ⊎_elim (λ cause. inl cause) (λ lacks. inr (lacks.0, inl lacks.1))) c.create_one.ensures.caused
+
+pub returns-in-Snapshot-clause-caused : goal.returns-in-Snapshot-clause-caused
+returns-in-Snapshot-clause-caused g c = IfErr-weaker c.take_one.result _ _ (λ refusal. ⊎_elim (λ cause. inl cause) (λ lacks. inr (lacks.0, inl lacks.1))) c.take_one.ensures.caused
+
+pub returns-in-Clone-clause-caused : goal.returns-in-Clone-clause-caused
+returns-in-Clone-clause-caused g c =
+    IfErr-weaker c.clone_one.result _ _
+    (λ refusal. ⊎_elim (λ cause. inl cause)
+    (⊎_elim (λ lacks. inr (lacks.0, inl lacks.1)) (λ most. inr (most.1.0, inr (subst IsCloning (sym c.in-Clone.is) tt)))))
+    c.clone_one.ensures.caused
+
+pub returns-in-Destroy-clause-caused : goal.returns-in-Destroy-clause-caused
+returns-in-Destroy-clause-caused g c = inl tt

@@ -1,5 +1,5 @@
-use Rattle.std.proofs.Common.{◌≡◌, ℕ, ◌+◌, ◌≤◌, true, List, [], inr, refl, sym, subst, arith}
-use Rattle.std.proofs.lemmas.Result.{IfErr-weaker, IfOk-weaker}
+use Rattle.std.proofs.Common.{◌≡◌, ℕ, ◌+◌, ◌≤◌, true, List, [], inr, refl, sym, subst, arith, inl, ⊎_elim}
+use Rattle.std.proofs.lemmas.Result.{IfErr-weaker, IfOk-weaker, on_ok_weaker}
 use Rattle.dead_list.specs.Datasets.{Snapshot as ASnapshot}
 use Rattle.object_table.proofs.Tables.{spaces_stay}
 use Rattle.pool_model.specs.declared.item.Change.TheVariants.{Clone}
@@ -13,6 +13,8 @@ use Rattle.dataset_groups.proofs.MoreDatasets.{passed_over}
 use Rattle.dataset_groups.proofs.OneChange.{for_clone, is_making, is_row_there, makes_one, not_made, row_of}
 use Rattle.dataset_groups.proofs.RowNames.{is_none, is_there}
 use Rattle.dataset_groups.proofs.ClonedDatasets.{clone_made, clone_there, row_is_snapshot, snapshot_not_there}
+use Rattle.dataset_groups.proofs.Causes.{caused_by_name}
+use Rattle.dnode_tree.proofs.Refusing.{passed_on}
 use Rattle.dataset_groups.proofs.datasets.GroupDatasets.clone_one.Goals as goal
 
 good_names : (snapshot name : List ℕ) → is_good_making (Clone snapshot name) ≡ true → (is_name_for SnapshotKind snapshot ≡ true) × (is_name name ≡ true)
@@ -89,3 +91,16 @@ returns-clause-refused g c =
     not_made c.args.store.now c.clone_as.new.store old.changes c.args.group old.directory old.next old.bounds.end change refusal making
     (record { origin = c.in-Some.origin; is = inr has; far = old.changes; one_set = (refl, refl); last = why.0; why = why.1 }))
     c.clone_as.ensures.refused
+
+pub returns-in_err-name-clause-caused : goal.returns-in_err-name-clause-caused
+returns-in_err-name-clause-caused g c = passed_on _ _ _ c.from_residual.ensures.1 (inl (caused_by_name c.args.store.now _ _ c.in_err-name.ensures.refused))
+
+pub returns-then-saturating_sub-lt2-clause-caused : goal.returns-then-saturating_sub-lt2-clause-caused
+returns-then-saturating_sub-lt2-clause-caused g c = inr (inl (refl, omega arith))
+
+pub returns-clause-caused : goal.returns-clause-caused
+returns-clause-caused g c =
+    IfErr-weaker c.clone_as.result _ _ (λ refusal. ⊎_elim (λ cause. inl cause) (λ most. inr (inr (c.in-Some.origin, most)))) c.clone_as.ensures.caused
+
+pub returns-clause-idle : goal.returns-clause-idle
+returns-clause-idle g c = on_ok_weaker c.clone_as.result (λ cloned same. let next = cloned.next in absurd (omega (arith, next, same))) c.clone_as.ensures.cloned

@@ -3,7 +3,7 @@ use Rattle.std.proofs.lemmas.Result.{IfErr-weaker, on_ok_weaker}
 use Rattle.block_store.proofs.Steps.{steps_none}
 use Rattle.block_store.specs.Store.{Store}
 use Rattle.block_store.specs.declared.refusal.Refusal.{Refusal}
-use Rattle.dnode_tree.proofs.Refusing.{passed_on}
+use Rattle.dnode_tree.proofs.Refusing.{passed_on, caused_by_memory}
 use Rattle.meta_objset.specs.declared.directory.DirectoryRow.{DirectoryRow}
 use Rattle.meta_objset.specs.declared.record.DatasetRecord.{DatasetRecord}
 use Rattle.meta_objset.specs.Directory.{LacksName}
@@ -19,6 +19,7 @@ use Rattle.dataset_groups.proofs.MakingDemands.{has_name}
 use Rattle.dataset_groups.proofs.NewTouches.{touches_one}
 use Rattle.dataset_groups.proofs.OneChange.{is_idle, is_making, makes_one}
 use Rattle.dataset_groups.proofs.RowNames.{is_none, is_there}
+use Rattle.dataset_groups.proofs.Causes.{caused_by_name}
 use Rattle.dataset_groups.proofs.datasets.GroupDatasets.create_one.Goals as goal
 
 pub returns-in_err-new-clause-steps : goal.returns-in_err-new-clause-steps
@@ -118,3 +119,19 @@ returns-clause-touched g c =
     inr (touches_one c.args.self.now.changes c.add.new.self.changes c.args.self.now.next c.record-dataset.result.dead_list
     (ap (λ (r : DatasetRecord). r.dead_list) c.record-dataset.ensures.value) added.touched))
     c.add.ensures.added
+
+pub returns-in_err-new-clause-caused : goal.returns-in_err-new-clause-caused
+returns-in_err-new-clause-caused g c = passed_on _ _ _ c.from_residual.ensures.1 (inl (caused_by_name c.args.store.now _ _ (inr c.in_err-new.ensures.refused)))
+
+pub returns-then-saturating_sub-lt2-clause-caused : goal.returns-then-saturating_sub-lt2-clause-caused
+returns-then-saturating_sub-lt2-clause-caused g c = inr (refl, omega arith)
+
+pub returns-in_err-object_set-clause-caused : goal.returns-in_err-object_set-clause-caused
+returns-in_err-object_set-clause-caused g c = passed_on _ _ _ c.from_residual-in_err-object_set.ensures.1 (inl c.in_err-object_set.ensures.caused)
+
+pub returns-clause-caused : goal.returns-clause-caused
+returns-clause-caused g c =
+    IfErr-weaker c.add.result _ _ (λ refusal memory. inl (caused_by_memory c.args.store.now c.planned.new.store [] refusal memory.0)) c.add.ensures.refused
+
+pub returns-clause-idle : goal.returns-clause-idle
+returns-clause-idle g c = on_ok_weaker c.add.result (λ added same. let next = added.next in absurd (omega (arith, next, same))) c.add.ensures.added

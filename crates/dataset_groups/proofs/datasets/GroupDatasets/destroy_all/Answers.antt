@@ -9,6 +9,7 @@ use Rattle.dataset_groups.specs.Destroys.{AreDestroyed, DestroysAll}
 use Rattle.dataset_groups.proofs.DestroyedDatasets.{none_behind}
 use Rattle.dataset_groups.proofs.DestroyedLists.{IsOneThere, behind_both, destroyed_none, destroyed_on, destroys_more, in_parts, last_destroyed, later_refused, may_first, may_rest, one_further, renamed_now, renamed_still, still_at_most}
 use Rattle.dataset_groups.proofs.datasets.GroupDatasets.destroy_all.Goals as goal
+use Rattle.block_store.proofs.Causes.{caused_behind_reads}
 use Rattle.dataset_groups.proofs.datasets.GroupDatasets.destroy_all.Goals.{else-branch, then-branch}
 
 pub loop-name-init : goal.loop-name-init
@@ -123,3 +124,8 @@ returns-clause-renamed g c =
 pub returns-clause-which : goal.returns-clause-which
 returns-clause-which g c =
     subst (λ (ns : List (List ℕ)). DestroysAll c.args.self.now c.loop-name.self ns) (take_all c.loop-name.name-index c.args.names.now c.loop-name-test.false) c.loop-name.invariant.which
+
+pub returns-in_err-destroy_one-clause-caused : goal.returns-in_err-destroy_one-clause-caused
+returns-in_err-destroy_one-clause-caused g c =
+    passed_on _ _ _ c.from_residual.ensures.1
+    (caused_behind_reads c.args.store.now c.loop-name.store c.destroy_one.new.store [] _ c.loop-name.invariant.reads c.in_err-destroy_one.ensures.caused)

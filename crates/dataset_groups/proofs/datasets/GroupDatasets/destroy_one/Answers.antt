@@ -98,3 +98,6 @@ returns-clause-which g c =
       bounds = c.remove_row.ensures.bounds;
       touched = subst (λ (changes : DatasetChanges). IsDestroyTouched old.changes changes row.object) (sym others.0) c.in_ok-destroy.ensures.touched;
     })
+
+pub returns-in_err-destroy-clause-caused : goal.returns-in_err-destroy-clause-caused
+returns-in_err-destroy-clause-caused g c = passed_on _ _ _ c.from_residual.ensures.1 c.in_err-destroy.ensures.caused

@@ -1,5 +1,5 @@
-use Rattle.std.proofs.Common.{◌≡◌, ℕ, ◌+◌, ◌≤◌, true, List, [], inr, refl, sym, subst, arith}
-use Rattle.std.proofs.lemmas.Result.{IfErr-weaker, IfOk-weaker}
+use Rattle.std.proofs.Common.{◌≡◌, ℕ, ◌+◌, ◌≤◌, true, List, [], inr, refl, sym, subst, arith, inl}
+use Rattle.std.proofs.lemmas.Result.{IfErr-weaker, IfOk-weaker, on_ok_weaker}
 use Rattle.dead_list.specs.Datasets.{Head}
 use Rattle.object_table.proofs.Tables.{spaces_stay}
 use Rattle.pool_model.specs.declared.item.Change.TheVariants.{Snapshot}
@@ -12,6 +12,8 @@ use Rattle.dataset_groups.proofs.MoreDatasets.{passed_over}
 use Rattle.dataset_groups.proofs.OneChange.{for_room, is_making, is_row_there, makes_one, not_made, row_of}
 use Rattle.dataset_groups.proofs.RowNames.{is_none, is_there}
 use Rattle.dataset_groups.proofs.TakenDatasets.{name_there, row_is_head, snapshot_made, volume_not_there}
+use Rattle.dataset_groups.proofs.Causes.{caused_by_name}
+use Rattle.dnode_tree.proofs.Refusing.{passed_on}
 use Rattle.dataset_groups.proofs.datasets.GroupDatasets.take_one.Goals as goal
 
 good_volume : (volume part : List ℕ) → is_good_making (Snapshot volume part) ≡ true → is_name volume ≡ true
@@ -87,3 +89,15 @@ returns-clause-refused g c =
     not_made c.args.store.now c.take.new.store old.changes c.args.group old.directory old.next old.bounds.end change refusal making
     (record { head = c.in-Some.head; is = inr has; far = old.changes; one_set = (refl, refl); last = why.0; why = why.1 }))
     c.take.ensures.refused
+
+pub returns-in_err-name-clause-caused : goal.returns-in_err-name-clause-caused
+returns-in_err-name-clause-caused g c = passed_on _ _ _ c.from_residual.ensures.1 (inl (caused_by_name c.args.store.now _ _ c.in_err-name.ensures.refused))
+
+pub returns-then-saturating_sub-lt2-clause-caused : goal.returns-then-saturating_sub-lt2-clause-caused
+returns-then-saturating_sub-lt2-clause-caused g c = inr (refl, omega arith)
+
+pub returns-clause-caused : goal.returns-clause-caused
+returns-clause-caused g c = IfErr-weaker c.take.result _ _ (λ refusal cause. inl cause) c.take.ensures.caused
+
+pub returns-clause-idle : goal.returns-clause-idle
+returns-clause-idle g c = on_ok_weaker c.take.result (λ taken same. let next = taken.next in absurd (omega (arith, next, same))) c.take.ensures.taken

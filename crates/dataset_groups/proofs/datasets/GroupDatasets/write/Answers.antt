@@ -20,6 +20,7 @@ use Rattle.dataset_groups.proofs.Copied.{adds_of_set}
 use Rattle.dataset_groups.proofs.OneHead.{entered_new, leads_after, left_was, newly_known, not_written, put_to, record_after, rewritten, size_after}
 use Rattle.dataset_groups.proofs.TouchedHeads.{one_touched}
 use Rattle.dataset_groups.specs.Heads.{reading_with}
+use Rattle.block_store.proofs.Causes.{caused_behind}
 use Rattle.dataset_groups.proofs.datasets.GroupDatasets.write.Goals as goal
 
 -- ---- whether there are blocks
@@ -144,3 +145,11 @@ returns-clause-places g c =
     let places = volume_places c.args.store.now c.placed.new.store c.args.group head (λ none. (c.in_ok-placed.ensures.idle none).0) c.in_ok-placed.ensures.places in
     subst (λ (spaces : List VdevSpace). (demands : List Demand) × HasHeadDemands c.args.store.now.spaces c.args.group head demands × HavePlaces c.args.store.now.spaces demands spaces)
     (sym (spaces_stay c.placed.new.store c.overwrite.new.store [] c.overwrite.ensures.reads)) places
+
+pub returns-in_err-placed-clause-caused : goal.returns-in_err-placed-clause-caused
+returns-in_err-placed-clause-caused g c = passed_on _ _ _ c.from_residual.ensures.1 c.in_err-placed.ensures.caused
+
+pub returns-in_err-overwrite-clause-caused : goal.returns-in_err-overwrite-clause-caused
+returns-in_err-overwrite-clause-caused g c =
+    passed_on _ _ _ c.from_residual-in_err-overwrite.ensures.1
+    (caused_behind c.args.store.now c.placed.new.store c.overwrite.new.store [] _ c.placed.ensures.steps c.in_err-overwrite.ensures.caused)

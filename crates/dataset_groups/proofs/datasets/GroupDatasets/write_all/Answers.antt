@@ -20,6 +20,7 @@ use Rattle.dataset_groups.proofs.Asking.{no_places, places_more, volume_demands_
 use Rattle.dataset_groups.proofs.HeadsDone.{reach_given, spelled_after}
 use Rattle.dataset_groups.proofs.HeadsWritten.{AreHeadsWritten, array, none_written, one_more, written_to}
 use Rattle.dataset_groups.proofs.TouchedHeads.{touches_more, touches_none}
+use Rattle.block_store.proofs.Causes.{caused_behind}
 use Rattle.dataset_groups.proofs.datasets.GroupDatasets.write_all.Goals as goal
 
 pub writing-init : goal.writing-init
@@ -218,3 +219,8 @@ returns-clause-places g c =
     let front = c.writing.invariant.front in
     subst (λ (done : List WrittenHead). HavePlacesFor c.args.store.now c.writing.store (HasHeadDemands c.args.store.now.spaces c.args.group) done)
     (all_done front.0 c.writing.left.items _ c.args.written.items c.in_default.ensures.items c.pop_front.ensures.rest front.1) front.3
+
+pub returns-in_err-write-clause-caused : goal.returns-in_err-write-clause-caused
+returns-in_err-write-clause-caused g c =
+    passed_on _ _ _ c.from_residual.ensures.1
+    (caused_behind c.args.store.now c.writing.store c.write.new.store [] _ c.writing.invariant.steps c.in_err-write.ensures.caused)

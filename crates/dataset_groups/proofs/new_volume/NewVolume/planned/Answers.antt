@@ -38,3 +38,6 @@ returns-clause-value g c = λ stored planned plans honest.
 
 pub returns-in_err-volume-clause-refused : goal.returns-in_err-volume-clause-refused
 returns-in_err-volume-clause-refused g c = passed_on _ _ _ c.from_residual.ensures.1 c.in_err-volume.ensures.refused
+
+pub returns-in_err-volume-clause-caused : goal.returns-in_err-volume-clause-caused
+returns-in_err-volume-clause-caused g c = passed_on _ _ _ c.from_residual.ensures.1 c.in_err-volume.ensures.caused
