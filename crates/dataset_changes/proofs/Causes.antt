@@ -1,10 +1,13 @@
--- Refusals that no disk and no room is the cause of.
-use Rattle.std.proofs.Common.{◌≡◌, ◌⊎◌, inl, inr, ℕ, List, sym, subst}
+-- Causes of dead lists that are not read.
+use Rattle.std.proofs.Common.{ℕ, List}
 use Rattle.block_store.specs.Causes.{IsCaused}
-use Rattle.block_store.specs.declared.refusal.Refusal.{Refusal}
-use Rattle.block_store.specs.declared.refusal.Refusal.TheVariants.{NoMemory, BadPointer}
 use Rattle.block_store.specs.Store.{Store}
+use Rattle.dead_list_objects.specs.Causes.{IsCausedOf}
+use Rattle.dead_list_objects.specs.declared.refusal.Refusal.{Refusal as ListRefusal}
+use Rattle.dead_list_objects.specs.declared.refusal.Refusal.TheVariants as of_lists
+use Rattle.dataset_changes.specs.Refused.{of_list}
 
-pub own_cause : (old new : Store) (missing : List ℕ) (Bad : Type 0) (refusal : Refusal) → (refusal ≡ NoMemory) ⊎ ((refusal ≡ BadPointer) × Bad) → IsCaused old new missing refusal
-own_cause old new missing Bad refusal (inl memory) = subst (λ r. IsCaused old new missing r) (sym memory) tt
-own_cause old new missing Bad refusal (inr bad) = subst (λ r. IsCaused old new missing r) (sym bad.0) tt
+pub of_list_caused : (old new : Store) (missing : List ℕ) (why : ListRefusal) → IsCausedOf old new missing why → IsCaused old new missing (of_list why)
+of_list_caused old new missing of_lists.NoMemory cause = tt
+of_list_caused old new missing of_lists.BadList cause = tt
+of_list_caused old new missing (of_lists.Unread why) cause = cause

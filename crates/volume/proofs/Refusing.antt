@@ -1,9 +1,7 @@
 -- What a refusal that is passed on says.
-use Rattle.std.proofs.Common.{◌≡◌, ◌⊎◌, inl, inr, ℕ, List, Ok, Err, Result, sym, subst}
+use Rattle.std.proofs.Common.{◌≡◌, ℕ, List, Ok, Err, Result, sym, subst}
 use Rattle.std.specs.Result.{IsErrAnd, IfErr}
-use Rattle.block_store.specs.Causes.{IsCaused}
 use Rattle.block_store.specs.declared.refusal.Refusal.{Refusal}
-use Rattle.block_store.specs.declared.refusal.Refusal.TheVariants.{NoMemory, BadPointer}
 use Rattle.block_store.specs.Store.{Store}
 use Rattle.dnode.specs.declared.object_set.ObjectSet.{ObjectSet}
 use Rattle.volume.specs.declared.volume.VolumeSet.{VolumeSet}
@@ -23,8 +21,3 @@ unread_among old new missing volume set Wanted Other refusal so unread = record 
   before = unread.before;
   why = unread.why;
 }
-
--- a refusal that no disk and no room is the cause of
-pub own_cause : (old new : Store) (missing : List ℕ) (Bad : Type 0) (refusal : Refusal) → (refusal ≡ NoMemory) ⊎ ((refusal ≡ BadPointer) × Bad) → IsCaused old new missing refusal
-own_cause old new missing Bad refusal (inl memory) = subst (λ r. IsCaused old new missing r) (sym memory) tt
-own_cause old new missing Bad refusal (inr bad) = subst (λ r. IsCaused old new missing r) (sym bad.0) tt

@@ -7,7 +7,7 @@ use Rattle.dataset_chains.specs.Refused.{HasKnown}
 use Rattle.dead_list.specs.Blocks.{IsSplit}
 use Rattle.dead_list.specs.Datasets.{group_before}
 use Rattle.dnode_tree.proofs.FurtherReads.{true_before, true_after}
-use Rattle.dnode_tree.proofs.Refusing.{passed_on}
+use Rattle.dnode_tree.proofs.Refusing.{caused_by_pointer, passed_on}
 use Rattle.dataset_chains.proofs.Chained.{alone_kept, objects_on, one_set_on}
 use Rattle.dataset_chains.proofs.FittingBlocks.{head_fits, left_misfit, no_misfit}
 use Rattle.dataset_chains.proofs.Overwritten.{IsRewrite, is as is_after, made, spelled}
@@ -17,7 +17,6 @@ use Rattle.dataset_chains.proofs.Refusing.{end_lost, lost_later}
 use Rattle.dataset_chains.proofs.SameLists.{keeps_lists, same_list, was_read}
 use Rattle.dataset_chains.proofs.Touching.{all_read, put_known, still_known, touches}
 use Rattle.block_store.proofs.Causes.{caused_behind_reads}
-use Rattle.volume.proofs.Refusing.{own_cause}
 use Rattle.dataset_chains.proofs.heads.overwrite.Goals as goal
 
 pub returns-in_err-since-clause-reads : goal.returns-in_err-since-clause-reads
@@ -183,7 +182,7 @@ pub returns-in_err-since-clause-caused : goal.returns-in_err-since-clause-caused
 returns-in_err-since-clause-caused g c = passed_on _ _ _ c.from_residual-in_err-since.ensures.1 (caused_behind_reads _ _ _ _ _ c.record_of_kind.ensures.reads c.in_err-since.ensures.caused)
 
 pub returns-in_err-expect_rows-clause-caused : goal.returns-in_err-expect_rows-clause-caused
-returns-in_err-expect_rows-clause-caused g c = passed_on _ _ _ c.from_residual-in_err-expect_rows.ensures.1 (own_cause _ _ _ _ _ (inr c.in_err-expect_rows.ensures.refused))
+returns-in_err-expect_rows-clause-caused g c = passed_on _ _ _ c.from_residual-in_err-expect_rows.ensures.1 (caused_by_pointer _ _ _ _ c.in_err-expect_rows.ensures.refused.0)
 
 pub returns-in_err-add_to_list-clause-caused : goal.returns-in_err-add_to_list-clause-caused
 returns-in_err-add_to_list-clause-caused g c = passed_on _ _ _ c.from_residual-in_err-add_to_list.ensures.1 (caused_behind_reads _ _ _ _ _ (reads_on _ _ _ _ c.record_of_kind.ensures.reads c.group_before.ensures.reads) c.in_err-add_to_list.ensures.caused)

@@ -10,7 +10,7 @@ use Rattle.dataset_destroys.proofs.Refusing.{passed_on}
 use Rattle.dataset_destroys.proofs.Touching.{AreBesideTouched, head_own_lists, head_touched}
 use Rattle.dataset_destroys.specs.Steps.{TellsObjects}
 use Rattle.block_store.proofs.Causes.{caused_behind_reads}
-use Rattle.volume.proofs.Refusing.{own_cause}
+use Rattle.object_table.proofs.Causes.{judged_is_caused}
 use Rattle.dataset_destroys.proofs.heads.destroy_head.Goals as goal
 
 pub returns-in_err-place-clause-refused : goal.returns-in_err-place-clause-refused
@@ -144,4 +144,4 @@ pub returns-in_err-young-clause-caused : goal.returns-in_err-young-clause-caused
 returns-in_err-young-clause-caused g c = passed_on _ _ _ c.from_residual-in_err-young.ensures.1 (caused_behind_reads _ _ _ _ _ c.in_ok-place.ensures.reads c.in_err-young.ensures.caused)
 
 pub returns-in_err-free_list-clause-caused : goal.returns-in_err-free_list-clause-caused
-returns-in_err-free_list-clause-caused g c = passed_on _ _ _ c.from_residual-in_err-free_list.ensures.1 (own_cause _ _ _ _ _ c.in_err-free_list.ensures.refused)
+returns-in_err-free_list-clause-caused g c = passed_on _ _ _ c.from_residual-in_err-free_list.ensures.1 (judged_is_caused _ _ _ _ _ c.in_err-free_list.ensures.refused)

@@ -6,7 +6,7 @@ use Rattle.dataset_destroys.proofs.Refusing.{passed_on}
 use Rattle.dataset_destroys.proofs.Touching.{AreBesideTouched, snapshot_own_lists, snapshot_touched}
 use Rattle.dataset_destroys.specs.Steps.{TellsObjects}
 use Rattle.block_store.proofs.Causes.{caused_behind_reads}
-use Rattle.volume.proofs.Refusing.{own_cause}
+use Rattle.object_table.proofs.Causes.{judged_is_caused}
 use Rattle.dataset_destroys.proofs.snapshots.destroy_snapshot.Goals as goal
 
 pub returns-in_err-place-clause-known : goal.returns-in_err-place-clause-known
@@ -121,4 +121,4 @@ pub returns-in_err-give_over-clause-caused : goal.returns-in_err-give_over-claus
 returns-in_err-give_over-clause-caused g c = passed_on _ _ _ c.from_residual-in_err-give_over.ensures.1 (caused_behind_reads _ _ _ _ _ c.in_ok-place.ensures.reads c.in_err-give_over.ensures.caused)
 
 pub returns-in_err-free_list-clause-caused : goal.returns-in_err-free_list-clause-caused
-returns-in_err-free_list-clause-caused g c = passed_on _ _ _ c.from_residual-in_err-free_list.ensures.1 (own_cause _ _ _ _ _ c.in_err-free_list.ensures.refused)
+returns-in_err-free_list-clause-caused g c = passed_on _ _ _ c.from_residual-in_err-free_list.ensures.1 (judged_is_caused _ _ _ _ _ c.in_err-free_list.ensures.refused)

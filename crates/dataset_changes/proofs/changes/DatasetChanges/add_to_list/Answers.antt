@@ -4,7 +4,7 @@ use Rattle.dataset_changes.specs.Over.{IsListNow, IsListOver}
 use Rattle.dataset_changes.specs.declared.states.ListState.{ListState}
 use Rattle.dataset_changes.proofs.Overs.{over_list}
 use Rattle.dataset_changes.proofs.Steps.{end_unread, put_twice, same_objects}
-use Rattle.dataset_changes.proofs.Causes.{own_cause}
+use Rattle.object_table.proofs.Causes.{judged_is_caused}
 use Rattle.dataset_changes.proofs.changes.DatasetChanges.add_to_list.Goals as goal
 
 pub returns-in_err-known-clause-refused : goal.returns-in_err-known-clause-refused
@@ -38,4 +38,4 @@ pub returns-in_err-known-clause-caused : goal.returns-in_err-known-clause-caused
 returns-in_err-known-clause-caused g c = passed_on _ _ _ c.from_residual.ensures.1 c.in_err-known.ensures.caused
 
 pub returns-in_err-with_blocks-clause-caused : goal.returns-in_err-with_blocks-clause-caused
-returns-in_err-with_blocks-clause-caused g c = passed_on _ _ _ c.from_residual-in_err-with_blocks.ensures.1 (own_cause _ _ _ _ _ c.in_err-with_blocks.ensures.refused)
+returns-in_err-with_blocks-clause-caused g c = passed_on _ _ _ c.from_residual-in_err-with_blocks.ensures.1 (judged_is_caused _ _ _ _ _ c.in_err-with_blocks.ensures.refused)

@@ -7,7 +7,7 @@ use Rattle.dataset_changes.specs.States.{IsKnownAs, record_at}
 use Rattle.dataset_changes.specs.declared.states.RecordState.{RecordState}
 use Rattle.dataset_changes.specs.declared.states.RecordState.TheVariants.{Read}
 use Rattle.dataset_changes.proofs.Overs.{over_record}
-use Rattle.dataset_changes.proofs.Causes.{own_cause}
+use Rattle.object_table.proofs.Causes.{judged_is_caused}
 use Rattle.dataset_changes.proofs.changes.DatasetChanges.record.Goals as goal
 
 pub returns-clause-value : goal.returns-clause-value
@@ -41,4 +41,4 @@ pub returns-clause-found : goal.returns-clause-found
 returns-clause-found g c = IfOk-weaker c.read_record.result _ _ (λ found there none. there) c.read_record.ensures.found
 
 pub returns-in_err-dataset-clause-caused : goal.returns-in_err-dataset-clause-caused
-returns-in_err-dataset-clause-caused g c = passed_on _ _ _ c.from_residual.ensures.1 (own_cause _ _ _ _ _ (inr c.in_err-dataset.ensures.refused))
+returns-in_err-dataset-clause-caused g c = passed_on _ _ _ c.from_residual.ensures.1 (judged_is_caused _ _ _ _ _ (inr c.in_err-dataset.ensures.refused))

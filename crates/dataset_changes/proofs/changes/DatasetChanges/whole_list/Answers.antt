@@ -8,7 +8,7 @@ use Rattle.dataset_changes.specs.Over.{IsListNow, IsListOver}
 use Rattle.dataset_changes.specs.declared.states.ListState.{ListState}
 use Rattle.dataset_changes.specs.declared.states.ListState.TheVariants.{Added}
 use Rattle.dataset_changes.proofs.Joining.{fit_joined, list_of_end, whole_with_added}
-use Rattle.dataset_changes.proofs.Causes.{own_cause}
+use Rattle.object_table.proofs.Causes.{judged_is_caused}
 use Rattle.dataset_changes.proofs.changes.DatasetChanges.whole_list.Goals as goal
 
 pub returns-in-None-clause-value : goal.returns-in-None-clause-value
@@ -65,4 +65,4 @@ pub returns-in_err-list-in-Some-Added-clause-caused : goal.returns-in_err-list-i
 returns-in_err-list-in-Some-Added-clause-caused g c = passed_on _ _ _ c.from_residual.ensures.1 c.in_err-list-in-Some-Added.ensures.caused
 
 pub returns-in-Some-Added-clause-caused : goal.returns-in-Some-Added-clause-caused
-returns-in-Some-Added-clause-caused g c = IfErr-weaker c.joined.result _ _ (λ refusal memory. own_cause _ _ _ (Unit {0}) refusal (inl memory)) c.joined.ensures.refused
+returns-in-Some-Added-clause-caused g c = IfErr-weaker c.joined.result _ _ (λ refusal memory. judged_is_caused _ _ _ (Unit {0}) refusal (inl memory)) c.joined.ensures.refused

@@ -5,7 +5,7 @@ use Rattle.dataset_destroys.proofs.HeadFinding.{head_there, is_good, unfit_by}
 use Rattle.dataset_destroys.proofs.ReadSteps.{record_lost_on, same_on, tells_first, tells_rest}
 use Rattle.dataset_destroys.proofs.Refusing.{passed_on}
 use Rattle.block_store.proofs.Causes.{caused_behind_reads}
-use Rattle.volume.proofs.Refusing.{own_cause}
+use Rattle.dnode_tree.proofs.Refusing.{caused_by_pointer}
 use Rattle.dataset_destroys.proofs.head_places.HeadPlace.find.Goals as goal
 
 pub returns-in_err-gone-clause-known : goal.returns-in_err-gone-clause-known
@@ -72,4 +72,4 @@ pub returns-in_err-before-clause-caused : goal.returns-in_err-before-clause-caus
 returns-in_err-before-clause-caused g c = passed_on _ _ _ c.from_residual-in_err-before.ensures.1 (caused_behind_reads _ _ _ _ _ c.in_ok-gone.ensures.reads c.in_err-before.ensures.caused)
 
 pub returns-in_err-judged-clause-caused : goal.returns-in_err-judged-clause-caused
-returns-in_err-judged-clause-caused g c = passed_on _ _ _ c.from_residual-in_err-judged.ensures.1 (own_cause _ _ _ _ _ (inr (c.in_err-judged.ensures.cause, tt)))
+returns-in_err-judged-clause-caused g c = passed_on _ _ _ c.from_residual-in_err-judged.ensures.1 (caused_by_pointer _ _ _ _ c.in_err-judged.ensures.cause)

@@ -10,7 +10,8 @@ use Rattle.volume.specs.Reading.{IsFound}
 use Rattle.volume.specs.Volume.{HasBytes, part}
 use Rattle.volume.proofs.BlockData.{same_bytes, block_has, block_len, no_clash}
 use Rattle.volume.proofs.Needed.{zip_through, zip_long, zip_left, zip_right}
-use Rattle.volume.proofs.Refusing.{passed_on, own_cause}
+use Rattle.dnode_tree.proofs.Refusing.{caused_by_memory, caused_by_pointer}
+use Rattle.volume.proofs.Refusing.{passed_on}
 use Rattle.volume.proofs.volume.VolumeSet.whole_blocks.Goals as goal
 
 pub returns-in_err-found-clause-refused : goal.returns-in_err-found-clause-refused
@@ -90,4 +91,4 @@ pub returns-in_err-found-clause-caused : goal.returns-in_err-found-clause-caused
 returns-in_err-found-clause-caused g c = passed_on _ _ _ c.from_residual.ensures.1 c.in_err-found.ensures.caused
 
 pub returns-clause-caused : goal.returns-clause-caused
-returns-clause-caused g c = IfErr-weaker c.all_whole.result _ _ (own_cause _ _ _ _) c.all_whole.ensures.refused
+returns-clause-caused g c = IfErr-weaker c.all_whole.result _ _ (λ refusal. ⊎_elim (caused_by_memory _ _ _ refusal) (λ bad. caused_by_pointer _ _ _ refusal bad.0)) c.all_whole.ensures.refused
