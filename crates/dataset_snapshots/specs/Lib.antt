@@ -1,3 +1,4 @@
+pub mod Causes
 pub mod Chaining
 pub mod Clones
 pub mod Contents

@@ -1,6 +1,7 @@
 use Rattle.std.proofs.lemmas.Result.{IfOk-weaker}
 use Rattle.dnode_tree.proofs.Refusing.{ok_both}
 use Rattle.dataset_snapshots.proofs.Rows.{names_same}
+use Rattle.block_store.specs.declared.refusal.Refusal.TheVariants.{NoMemory}
 use Rattle.dataset_snapshots.proofs.writing.changed_blocks.Goals as goal
 
 pub returns-clause-value : goal.returns-clause-value
@@ -22,3 +23,6 @@ returns-clause-found g c =
     })
     (ok_both c.changed_blocks.result _ _ c.changed_blocks.ensures.blocks
     (ok_both c.changed_blocks.result _ _ c.changed_blocks.ensures.changed (ok_both c.changed_blocks.result _ _ c.changed_blocks.ensures.judged c.changed_blocks.ensures.found)))
+
+pub returns-in_err-name-clause-caused : goal.returns-in_err-name-clause-caused
+returns-in_err-name-clause-caused g c = passed_on _ NoMemory _ c.from_residual.ensures.1 tt

@@ -24,3 +24,6 @@ returns-clause-refused g c =
 
 pub returns-clause-known : goal.returns-clause-known
 returns-clause-known g c = IfErr-weaker c.read.result _ _ (λ refusal known stored array held spells honest within. known stored array held spells honest) c.read.ensures.known
+
+pub returns-then-not-is_within-clause-caused : goal.returns-then-not-is_within-clause-caused
+returns-then-not-is_within-clause-caused g c = tt
