@@ -1,10 +1,9 @@
 //! Plans of blocks that are to be written.
-ghost use Rattle.std.specs.Prelude.{ℕ, List, ◌≡◌, false, true, ◌≤◌, ◌<◌, ◌+◌, ◌*◌, ◌⊎◌, filter, not, length, [], ◌++◌, OnOk, OnErr, IfOk, IfErr};
+ghost use Rattle.std.specs.Prelude.{◌≡◌, false, true, ◌≤◌, ◌<◌, ◌+◌, ◌*◌, ◌⊎◌, filter, not, length, [], ◌++◌, OnOk, OnErr, IfOk, IfErr};
 ghost use Rattle.block_pointer.specs.Block.{FitsBlock};
 ghost use Rattle.block_pointer.specs.Copies.{dvas};
 ghost use Rattle.raidz_io.specs.Places.{CanHold, IsOnDisks};
 ghost use Rattle.block_store.specs.Blocks.{Contents, FitsNew, IsBlockOf, count_of};
-ghost use Rattle.block_store.specs.Causes.{IsCaused};
 ghost use Rattle.block_store.specs.Places.{shapes_of, filled, planned, HaveMarks, AreChosen, TookSome, RanOut, IsPlaceIn, ArePlacesIn, IsExtentAt};
 ghost use Rattle.block_store.specs.Plans.{Plans, KeepsPlans, PlansToo, MoreIsDue, AreWritesAt};
 ghost use Rattle.block_store.specs.Store.{Keeps, KeepsStored, Stores, is_out, in_group, reaching};
@@ -197,7 +196,6 @@ impl<D: Disk + Drop> BlockStore<D> {
         ensures refused { IfErr result (λ refusal. (refusal ≡ Refusal.NoMemory)
             ⊎ ((refusal ≡ Refusal.NoSpace)
             × RanOut self.old.spaces new.property.sectors (count_of copies) self.new.spaces)) }
-        ensures caused { (missing : List ℕ) → IfErr result (IsCaused self.old self.new missing) }
         ensures err_spaces { OnErr result
             (TookSome self.old.spaces new.property.sectors (count_of copies) self.new.spaces) }
         ensures err_due { OnErr result (self.new.due ≡ self.old.due) }
