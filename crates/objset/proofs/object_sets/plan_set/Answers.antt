@@ -4,6 +4,8 @@ use Rattle.block_store.specs.Blocks.{Adds}
 use Rattle.block_store.proofs.Steps.{steps_plan}
 use Rattle.dnode.specs.ObjectSet.{object_set_bytes}
 use Rattle.objset.proofs.Outcomes.{if_ok}
+use Rattle.block_store.proofs.Causes.{plan_is_caused}
+use Rattle.std.proofs.lemmas.Result.{IfErr-weaker}
 use Rattle.objset.proofs.object_sets.plan_set.Goals as goal
 
 pub returns-clause-steps : goal.returns-clause-steps
@@ -30,4 +32,4 @@ returns-clause-planned g c =
 
 pub returns-clause-caused : goal.returns-clause-caused
 returns-clause-caused g c =
-    c.plan_write.ensures.caused []
+    IfErr-weaker c.plan_write.result _ _ (λ refusal why. plan_is_caused c.args.store.now c.plan_write.new.self [] _ _ refusal why) c.plan_write.ensures.refused

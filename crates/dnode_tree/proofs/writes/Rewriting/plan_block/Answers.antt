@@ -9,6 +9,7 @@ use Rattle.block_store.proofs.Steps.{no_room_now, steps_plan}
 use Rattle.dnode_tree.specs.Tree.{property_of}
 use Rattle.block_store.specs.Places.{AreChosen}
 use Rattle.dnode_tree.proofs.Spots.{one_placed, none_placed}
+use Rattle.block_store.proofs.Causes.{plan_is_caused}
 use Rattle.dnode_tree.proofs.writes.Rewriting.plan_block.Goals as goal
 
 pub returns-clause-fits : goal.returns-clause-fits
@@ -65,3 +66,7 @@ returns-clause-place g c =
     c.at.ensures
     (subst (λ p. AreChosen c.args.store.now.spaces [] p.sectors (count_of c.at.result) (dvas c.in_ok-planned.planned.copies) c.plan_write.new.self.spaces) c.property_at.ensures
     c.in_ok-planned.ensures.places))
+
+pub returns-in_err-planned-clause-caused : goal.returns-in_err-planned-clause-caused
+returns-in_err-planned-clause-caused g c =
+    λ missing. passed_on _ _ _ c.from_residual.ensures.1 (plan_is_caused c.args.store.now c.plan_write.new.self missing _ _ _ c.in_err-planned.ensures.refused)
