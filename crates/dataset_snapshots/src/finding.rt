@@ -73,6 +73,7 @@ pub fn find<D: Disk + Drop>(
 
     // Of a refusal for lack of disks or room, the block.
     ensures caused { IfErr result (IsCaused store.old store.new missing.now) }
+    ensures cause { IfErr result (λ refusal. refusal ≢ Refusal.NoSpace) }
 
     // And it is found, over disks that answer truly, unless too many disks miss of a block.
     ensures known { IfErr result (λ refusal. (stored : Contents) (pool : PlainPool)
@@ -115,6 +116,7 @@ pub fn directory_under<D: Disk + Drop>(
 
     // Of a refusal for lack of disks or room, the block.
     ensures caused { IfErr result (IsCaused store.old store.new missing.now) }
+    ensures cause { IfErr result (λ refusal. refusal ≢ Refusal.NoSpace) }
 
     // And it is read, over disks that answer truly, unless too many disks miss of a block.
     ensures known { IfErr result (λ refusal. (stored : Contents) (pool : PlainPool)
@@ -155,6 +157,7 @@ pub fn find_in<D: Disk + Drop>(
 
     // Of a refusal for lack of disks or room, the block.
     ensures caused { IfErr result (IsCaused store.old store.new missing.now) }
+    ensures cause { IfErr result (λ refusal. refusal ≢ Refusal.NoSpace) }
 
     // And it is found, over disks that answer truly, unless too many disks miss of a block.
     ensures known { IfErr result (λ refusal. (stored : Contents) (pool : PlainPool)
@@ -220,6 +223,7 @@ fn object_of<D: Disk + Drop>(
         ⊎ IsRowsRefused store.old store.new missing.now set.now birth directory_kind 1
         AreDirectoryRows refusal) }
     ensures caused { IfErr result (IsCaused store.old store.new missing.now) }
+    ensures cause { IfErr result (λ refusal. refusal ≢ Refusal.NoSpace) }
     ensures known { IfErr result (λ refusal. (stored : Contents) (objects : ℕ → Option Object)
         (own : List Block) (blocks : ℕ → List Block) (rows : List DirectoryRow)
         → Holds store.old stored → AreObjects stored birth set.now objects own blocks

@@ -1,5 +1,5 @@
 //! Ranges of volumes under a root.
-ghost use Rattle.std.specs.Prelude.{◌≡◌, ◌⊎◌, ◌↔◌, ◌+◌, ◌^◌, ◌<◌, ◌≤◌, ℕ, List, Some, IsTrue, IfOk, IfErr, length, slice_range};
+ghost use Rattle.std.specs.Prelude.{◌≡◌, ◌≢◌, ◌⊎◌, ◌↔◌, ◌+◌, ◌^◌, ◌<◌, ◌≤◌, ℕ, List, Some, IsTrue, IfOk, IfErr, length, slice_range};
 ghost use Rattle.block_store.specs.Blocks.{Contents};
 ghost use Rattle.block_store.specs.Causes.{IsCaused};
 ghost use Rattle.block_store.specs.Losses.{IsForLoss};
@@ -61,6 +61,7 @@ impl VolumeRange<'_> {
             ⊎ IsReadRefused store.old store.new missing.now dataset.now.volume birth
             (LiesIn dataset.now.volume self.now.offset (self.now.offset + self.now.len)) refusal)) }
         ensures caused { IfErr result (IsCaused store.old store.new missing.now) }
+        ensures cause { IfErr result (λ refusal. refusal ≢ Refusal.NoSpace) }
         ensures known { IfErr result (λ refusal. (stored : Contents) (array : List ℕ)
             → Holds store.old stored → Spells stored birth dataset.now.volume array
             → AnswersAreTrue store.old store.new
@@ -106,6 +107,7 @@ pub fn read_range<D: Disk + Drop>(
 
     // Of a refusal for lack of disks or room, the block.
     ensures caused { IfErr result (IsCaused store.old store.new missing.now) }
+    ensures cause { IfErr result (λ refusal. refusal ≢ Refusal.NoSpace) }
 
     // Over disks that answer truly a range of a volume that is there is read, unless too many disks miss of a block.
     ensures known { IfErr result (λ refusal. (stored : Contents) (pool : PlainPool)
@@ -152,6 +154,7 @@ pub fn read_range_in<D: Disk + Drop>(
 
     // Of a refusal for lack of disks or room, the block.
     ensures caused { IfErr result (IsCaused store.old store.new missing.now) }
+    ensures cause { IfErr result (λ refusal. refusal ≢ Refusal.NoSpace) }
 
     // Over disks that answer truly a range of a volume that is there is read, unless too many disks miss of a block.
     ensures known { IfErr result (λ refusal. (stored : Contents) (pool : PlainPool)

@@ -63,3 +63,6 @@ returns-clause-caused g c =
     IfErr-weaker c.read_directory.result _ _
     (λ refusal cause. caused_behind_reads c.args.store.now c.read_meta.new.store c.read_directory.new.store c.args.missing.now refusal c.in_ok-set.ensures.reads cause)
     c.read_directory.ensures.caused
+
+pub returns-in_err-set-clause-cause : goal.returns-in_err-set-clause-cause
+returns-in_err-set-clause-cause g c = passed_on _ _ _ c.from_residual.ensures.1 c.in_err-set.ensures.cause

@@ -87,3 +87,9 @@ pub returns-in_err-dataset-clause-caused : goal.returns-in_err-dataset-clause-ca
 returns-in_err-dataset-clause-caused g c =
     passed_on _ _ _ c.from_residual-in_err-dataset.ensures.1
     (caused_behind_reads c.args.store.now c.read_meta.new.store c.read_dataset.new.store c.args.missing.now _ c.in_ok-set.ensures.reads c.in_err-dataset.ensures.caused)
+
+pub returns-in_err-set-clause-cause : goal.returns-in_err-set-clause-cause
+returns-in_err-set-clause-cause g c = passed_on _ _ _ c.from_residual.ensures.1 c.in_err-set.ensures.cause
+
+pub returns-in_err-dataset-clause-cause : goal.returns-in_err-dataset-clause-cause
+returns-in_err-dataset-clause-cause g c = passed_on _ _ _ c.from_residual-in_err-dataset.ensures.1 c.in_err-dataset.ensures.cause

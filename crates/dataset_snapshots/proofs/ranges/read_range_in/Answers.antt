@@ -64,3 +64,6 @@ returns-clause-caused g c =
     IfErr-weaker c.read_of.result _ _
     (λ refusal cause. caused_behind_reads c.args.store.now c.find_in.new.store c.read_of.new.store c.args.missing.now refusal c.in_ok-found.ensures.reads cause)
     c.read_of.ensures.caused
+
+pub returns-in_err-found-clause-cause : goal.returns-in_err-found-clause-cause
+returns-in_err-found-clause-cause g c = passed_on _ _ _ c.from_residual.ensures.1 c.in_err-found.ensures.cause
