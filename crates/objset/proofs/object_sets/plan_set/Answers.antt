@@ -1,4 +1,4 @@
-use Rattle.std.proofs.Common.{refl, subst, arith}
+use Rattle.std.proofs.Common.{[], refl, subst, arith}
 use Rattle.std.proofs.lemmas.Result.{IfOk-at_ok}
 use Rattle.block_store.specs.Blocks.{Adds}
 use Rattle.block_store.proofs.Steps.{steps_plan}
