@@ -1,4 +1,4 @@
-use Rattle.std.proofs.Common.{◌-◌, ◌≤◌, ◌++◌, [], List, ap, sym, subst, ◌∙◌, refl, arith, ◌≡◌, ◌∷◌, inl, ⊎_elim}
+use Rattle.std.proofs.Common.{◌-◌, ◌≤◌, ◌++◌, [], List, ap, sym, subst, ◌∙◌, refl, arith, ◌≡◌, ◌∷◌, inl, inr, ⊎_elim}
 use Rattle.std.specs.Prelude.{All}
 use Rattle.std.proofs.lemmas.Result.{IfErr-weaker}
 use Rattle.block_store.proofs.Steps.{steps_on, steps_read, true_before, true_after}

@@ -1,4 +1,4 @@
-use Rattle.std.proofs.Common.{ℕ, refl, subst, sym}
+use Rattle.std.proofs.Common.{[], ℕ, refl, subst, sym}
 use Rattle.block_store.proofs.Steps.{reads_on}
 use Rattle.dataset_groups.specs.Over.{HasRecordNow}
 use Rattle.dataset_groups.specs.States.{birth_of, set_of}
