@@ -14,7 +14,7 @@ use Rattle.pool_model.specs.declared.step.Step.TheVariants.{Plan, Device}
 use Rattle.pool_model.specs.declared.step.Reply.{Reply}
 use Rattle.pool_model.specs.declared.step.Reply.TheVariants.{Planned, Moved, Replan, Committed, Refused}
 use Rattle.pool_model.specs.View.{View, Vdev, Given, DueCall, is_away, nothing_given, Sync, Idle, Unplanned, Due, is_syncing, is_planned, is_quiesced, is_suspended, open_after}
-use Rattle.pool_model.specs.Pools.{PlainPool}
+use Rattle.pool_model.specs.Pools.{Entry, PlainPool}
 use Rattle.pool_model.specs.Flow.{flow_of, with_committed}
 use Rattle.pool_model.specs.Refusals.{greatest, first_cause, refusal_of}
 use Rattle.pool_model.specs.Machine.{StepOf, IsPlan, IsQuiet, FailsOn, GoesOn, Ends, IsUnreadable, taken, committed_next, without_plan, dropped}
