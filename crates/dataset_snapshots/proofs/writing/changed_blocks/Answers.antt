@@ -1,5 +1,5 @@
 use Rattle.std.proofs.lemmas.Result.{IfOk-weaker}
-use Rattle.dnode_tree.proofs.Refusing.{ok_both}
+use Rattle.dnode_tree.proofs.Refusing.{ok_both, passed_on}
 use Rattle.dataset_snapshots.proofs.Rows.{names_same}
 use Rattle.block_store.specs.declared.refusal.Refusal.TheVariants.{NoMemory}
 use Rattle.dataset_snapshots.proofs.writing.changed_blocks.Goals as goal
