@@ -1,10 +1,9 @@
-use Rattle.std.proofs.Common.{⊎_elim, sym, subst, []}
+use Rattle.std.proofs.Common.{⊎_elim, sym, subst}
 use Rattle.std.proofs.lemmas.List.Sorted.{IsPermutation-sym}
 use Rattle.block_store.specs.Losses.{IsForLoss}
 use Rattle.block_store.specs.declared.refusal.Refusal.{Refusal}
 use Rattle.dataset_changes.proofs.Joining.{fit_list, loss_of}
 use Rattle.dataset_changes.proofs.Causes.{of_list_caused}
-use Rattle.block_store.specs.Causes.{IsCaused}
 use Rattle.dataset_changes.proofs.changes.DatasetChanges.read_list.Goals as goal
 
 pub returns-in-Ok-clause-fits : goal.returns-in-Ok-clause-fits
@@ -20,4 +19,4 @@ returns-in-Err-clause-known g c = λ stored objects own blocks held are honest l
     (loss_of _ (⊎_elim (λ loss. loss) (λ none. absurd (none (list, there))) (c.in-Err.ensures.known stored objects own blocks held are honest)))
 
 pub returns-in-Err-clause-caused : goal.returns-in-Err-clause-caused
-returns-in-Err-clause-caused g c = subst (λ (refusal : Refusal). IsCaused c.args.store.now _ [] refusal) (sym c.refusal_of.ensures) (of_list_caused _ _ _ _ c.in-Err.ensures.caused)
+returns-in-Err-clause-caused g c = of_list_caused _ _ _ _ _ c.refusal_of.ensures c.in-Err.ensures.caused

@@ -1,6 +1,6 @@
-use Rattle.std.proofs.Common.{◌≡◌, List, Option, Some, IfSome, ap, sym, subst, ◌∙◌, inl}
+use Rattle.std.proofs.Common.{◌≡◌, List, Option, Some, IfSome, ap, sym, subst, ◌∙◌}
 use Rattle.std.proofs.lemmas.Result.{IfOk-weaker, IfErr-weaker}
-use Rattle.dnode_tree.proofs.Refusing.{ok_both, passed_on}
+use Rattle.dnode_tree.proofs.Refusing.{caused_by_memory, ok_both, passed_on}
 use Rattle.block_pointer.specs.declared.block.Block.{Block}
 use Rattle.object_table.specs.declared.ends.TableEnd.{TableEnd}
 use Rattle.dataset_changes.specs.Fitting.{FitsListState}
@@ -8,7 +8,6 @@ use Rattle.dataset_changes.specs.Over.{IsListNow, IsListOver}
 use Rattle.dataset_changes.specs.declared.states.ListState.{ListState}
 use Rattle.dataset_changes.specs.declared.states.ListState.TheVariants.{Added}
 use Rattle.dataset_changes.proofs.Joining.{fit_joined, list_of_end, whole_with_added}
-use Rattle.object_table.proofs.Causes.{judged_is_caused}
 use Rattle.dataset_changes.proofs.changes.DatasetChanges.whole_list.Goals as goal
 
 pub returns-in-None-clause-value : goal.returns-in-None-clause-value
@@ -65,4 +64,4 @@ pub returns-in_err-list-in-Some-Added-clause-caused : goal.returns-in_err-list-i
 returns-in_err-list-in-Some-Added-clause-caused g c = passed_on _ _ _ c.from_residual.ensures.1 c.in_err-list-in-Some-Added.ensures.caused
 
 pub returns-in-Some-Added-clause-caused : goal.returns-in-Some-Added-clause-caused
-returns-in-Some-Added-clause-caused g c = IfErr-weaker c.joined.result _ _ (λ refusal memory. judged_is_caused _ _ _ (Unit {0}) refusal (inl memory)) c.joined.ensures.refused
+returns-in-Some-Added-clause-caused g c = IfErr-weaker c.joined.result _ _ (λ refusal. caused_by_memory _ _ _ refusal) c.joined.ensures.refused
