@@ -1,5 +1,6 @@
 -- Causes of what the space maps' plan is refused for.
-use Rattle.std.proofs.Common.{ℕ, ◌≡◌, ◌⊎◌, ◌≤◌, inl, inr, List}
+use Rattle.std.proofs.Common.{ℕ, ◌≡◌, ◌⊎◌, ◌≤◌, inl, inr, List, Result, Ok, Err}
+use Rattle.std.specs.Result.{IfErr}
 use Rattle.block_store.specs.Causes.{IsCaused}
 use Rattle.block_store.specs.declared.refusal.Refusal.{Refusal}
 use Rattle.block_store.specs.declared.refusal.Refusal.TheVariants.{NoMemory, NoSpace, BadPointer}
@@ -22,3 +23,9 @@ pub making_is_caused : (old new : Store) (missing : List ℕ) (Past Taken : Type
 making_is_caused old new missing Past Taken refusal (inl memory) = inl (judged_is_caused old new missing Taken refusal (inl memory))
 making_is_caused old new missing Past Taken refusal (inr (inl past)) = inr past
 making_is_caused old new missing Past Taken refusal (inr (inr taken)) = inl (judged_is_caused old new missing Taken refusal (inr taken))
+
+pub makings_are_caused : {T : Type 0} (result : Result T Refusal) (old new : Store) (missing : List ℕ) (Past Taken : Type 0)
+    → IfErr result (λ refusal. (refusal ≡ NoMemory) ⊎ (((refusal ≡ NoSpace) × Past) ⊎ ((refusal ≡ BadPointer) × Taken)))
+    → IfErr result (λ refusal. IsCaused old new missing refusal ⊎ ((refusal ≡ NoSpace) × Past))
+makings_are_caused (Ok made) old new missing Past Taken why = tt
+makings_are_caused (Err refusal) old new missing Past Taken why = making_is_caused old new missing Past Taken refusal why

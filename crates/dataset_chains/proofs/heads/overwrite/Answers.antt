@@ -186,3 +186,6 @@ returns-in_err-expect_rows-clause-caused g c = passed_on _ _ _ c.from_residual-i
 
 pub returns-in_err-add_to_list-clause-caused : goal.returns-in_err-add_to_list-clause-caused
 returns-in_err-add_to_list-clause-caused g c = passed_on _ _ _ c.from_residual-in_err-add_to_list.ensures.1 (caused_behind_reads _ _ _ _ _ (reads_on _ _ _ _ c.record_of_kind.ensures.reads c.group_before.ensures.reads) c.in_err-add_to_list.ensures.caused)
+
+pub returns-in_err-dataset-clause-refused : goal.returns-in_err-dataset-clause-refused
+returns-in_err-dataset-clause-refused g c = passed_on _ _ _ c.from_residual.ensures.1 (inr c.in_err-dataset.ensures.refused)

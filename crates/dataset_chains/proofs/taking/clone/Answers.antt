@@ -42,3 +42,6 @@ returns-in_err-origin-clause-caused g c = passed_on _ _ _ c.from_residual.ensure
 
 pub returns-in_default-clause-caused : goal.returns-in_default-clause-caused
 returns-in_default-clause-caused g c = let full : c.in_ok-origin.origin.clones ≡ 2 ^ 64 - 1 = search rules in inr (refl, (c.in_ok-origin.origin, c.in_ok-origin.ensures.known_as, full))
+
+pub returns-in_err-origin-clause-refused : goal.returns-in_err-origin-clause-refused
+returns-in_err-origin-clause-refused g c = passed_on _ _ _ c.from_residual.ensures.1 (inr c.in_err-origin.ensures.refused)
