@@ -1,4 +1,4 @@
-use Rattle.std.proofs.Common.{◌≡◌, ◌≤◌, ◌∷◌, ◌∙◌, inr, sym, ap, subst, arith}
+use Rattle.std.proofs.Common.{◌≡◌, ◌≤◌, ◌∷◌, ◌∙◌, inr, sym, ap, subst, arith, inl}
 use Rattle.block_store.proofs.Steps.{reads_on}
 use Rattle.dnode.specs.declared.object_set.ObjectSet.{ObjectSet}
 use Rattle.dnode_tree.proofs.FurtherReads.{true_before, true_after}
@@ -74,3 +74,6 @@ returns-in_err-set-clause-caused g c = passed_on _ _ _ c.from_residual.ensures.1
 
 pub returns-in_err-below-clause-caused : goal.returns-in_err-below-clause-caused
 returns-in_err-below-clause-caused g c = passed_on _ _ _ c.from_residual-in_err-below.ensures.1 (caused_behind_reads _ _ _ _ _ c.in_ok-set.ensures.reads c.in_err-below.ensures.caused)
+
+pub returns-in_err-set-clause-refused : goal.returns-in_err-set-clause-refused
+returns-in_err-set-clause-refused g c = passed_on _ _ _ c.from_residual.ensures.1 (inr (inl c.in_err-set.ensures.refused))
