@@ -126,3 +126,6 @@ returns-in_err-number-clause-cause g c = passed_on _ _ _ c.from_residual-in_err-
 
 pub returns-in_err-dataset-clause-cause : goal.returns-in_err-dataset-clause-cause
 returns-in_err-dataset-clause-cause g c = passed_on _ _ _ c.from_residual-in_err-dataset.ensures.1 c.in_err-dataset.ensures.cause
+
+pub returns-in_err-set-clause-refused : goal.returns-in_err-set-clause-refused
+returns-in_err-set-clause-refused g c = passed_on _ _ _ c.from_residual.ensures.1 (inr (inl c.in_err-set.ensures.refused))

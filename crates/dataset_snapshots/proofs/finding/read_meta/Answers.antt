@@ -1,4 +1,4 @@
-use Rattle.std.proofs.Common.{◌≡◌, sym, ap, ◌∙◌}
+use Rattle.std.proofs.Common.{◌≡◌, sym, ap, ◌∙◌, inl}
 use Rattle.dnode.specs.declared.object_set.ObjectSet.{ObjectSet}
 use Rattle.dnode.specs.declared.object_set.ObjectSetKind.TheVariants.{Meta, Volume}
 use Rattle.dnode_tree.proofs.Refusing.{passed_on}
@@ -19,3 +19,6 @@ returns-in_err-set-clause-caused g c = passed_on _ _ _ c.from_residual.ensures.1
 
 pub returns-in-Volume-clause-caused : goal.returns-in-Volume-clause-caused
 returns-in-Volume-clause-caused g c = tt
+
+pub returns-in_err-set-clause-refused : goal.returns-in_err-set-clause-refused
+returns-in_err-set-clause-refused g c = passed_on _ _ _ c.from_residual.ensures.1 (inl c.in_err-set.ensures.refused)

@@ -1,4 +1,4 @@
-use Rattle.std.proofs.Common.{◌≡◌, ℕ, ◌↔◌, ◌<◌, List, [], All, Contains, sym, ap, subst, ◌∙◌}
+use Rattle.std.proofs.Common.{◌≡◌, ℕ, ◌↔◌, ◌<◌, List, [], All, Contains, sym, ap, subst, ◌∙◌, inl, inr}
 use Rattle.std.specs.List.{AllZip}
 use Rattle.std.specs.List.Sorted.{IsStrictlyIncreasing}
 use Rattle.block_store.proofs.Steps.{reads_on}
@@ -175,3 +175,6 @@ returns-in_err-written-clause-caused g c =
 pub returns-clause-is_set : goal.returns-clause-is_set
 returns-clause-is_set g c = λ stored set held is honest.
     c.in_ok-set.ensures.value stored set held is (true_before _ _ _ _ c.in_ok-set.ensures.reads c.in_ok-written.ensures.reads honest)
+
+pub returns-in_err-set-clause-refused : goal.returns-in_err-set-clause-refused
+returns-in_err-set-clause-refused g c = passed_on _ _ _ c.from_residual-in_err-set.ensures.1 (inr (inl c.in_err-set.ensures.refused))

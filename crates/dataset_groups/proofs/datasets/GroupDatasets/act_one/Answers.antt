@@ -5,7 +5,7 @@ use Rattle.pool_model.specs.declared.item.Change.{Change}
 use Rattle.pool_model.specs.Pools.{changed}
 use Rattle.volume_rules.specs.GoodChanges.{is_good_making}
 use Rattle.dataset_groups.specs.Actions.{AreActed}
-use Rattle.dataset_groups.specs.Demands.{MakesOne}
+use Rattle.dataset_groups.specs.Demands.{MakesOne, IsMakingRefused}
 use Rattle.dataset_groups.specs.Causes.{IsCloning}
 use Rattle.dataset_groups.proofs.datasets.GroupDatasets.act_one.Goals as goal
 
@@ -103,3 +103,18 @@ returns-in-Clone-clause-caused g c =
 
 pub returns-in-Destroy-clause-caused : goal.returns-in-Destroy-clause-caused
 returns-in-Destroy-clause-caused g c = inl tt
+
+pub returns-in-Create-clause-refused : goal.returns-in-Create-clause-refused
+returns-in-Create-clause-refused g c = IfErr-weaker c.create_one.result _ _ (λ refusal why.
+    subst (λ (change : Change). IsMakingRefused c.args.store.now c.create_one.new.store c.args.self.now.changes c.args.group c.args.self.now.directory [] c.args.self.now.next c.args.self.now.bounds.end change
+    refusal) (sym c.in-Create.is) why) c.create_one.ensures.refused
+
+pub returns-in-Snapshot-clause-refused : goal.returns-in-Snapshot-clause-refused
+returns-in-Snapshot-clause-refused g c = IfErr-weaker c.take_one.result _ _ (λ refusal why.
+    subst (λ (change : Change). IsMakingRefused c.args.store.now c.take_one.new.store c.args.self.now.changes c.args.group c.args.self.now.directory [] c.args.self.now.next c.args.self.now.bounds.end change
+    refusal) (sym c.in-Snapshot.is) why) c.take_one.ensures.refused
+
+pub returns-in-Clone-clause-refused : goal.returns-in-Clone-clause-refused
+returns-in-Clone-clause-refused g c = IfErr-weaker c.clone_one.result _ _ (λ refusal why.
+    subst (λ (change : Change). IsMakingRefused c.args.store.now c.clone_one.new.store c.args.self.now.changes c.args.group c.args.self.now.directory [] c.args.self.now.next c.args.self.now.bounds.end change
+    refusal) (sym c.in-Clone.is) why) c.clone_one.ensures.refused
