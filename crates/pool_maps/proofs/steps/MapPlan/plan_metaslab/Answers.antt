@@ -1,10 +1,10 @@
-use Rattle.std.proofs.Common.{rules, ◌≡◌, None, length, inl, inr, refl, arith}
+use Rattle.std.proofs.Common.{rules, ◌≡◌, ⊎_elim, None, length, inl, inr, refl, arith}
 use Rattle.std.proofs.lemmas.Bool.Decides.{nat_tests}
 use Rattle.std.proofs.lemmas.Result.{IfErr-weaker}
-use Rattle.dnode_tree.proofs.Refusing.{passed_on}
+use Rattle.dnode_tree.proofs.Refusing.{caused_by_memory, caused_by_pointer, passed_on}
 use Rattle.object_table.proofs.Causes.{judged_is_caused}
 use Rattle.pool_maps.proofs.Planned.{both_ok, empty_of, had_map, made_advances, made_step, not_empty, not_taken, ok_by, rewritten_advances, rewritten_step, stays_so}
-use Rattle.pool_maps.proofs.Causes.{makings_are_caused}
+use Rattle.pool_maps.proofs.Causes.{caused_from}
 use Rattle.pool_maps.proofs.steps.MapPlan.plan_metaslab.Goals as goal
 
 pub returns-then-is_empty-clause-advances : goal.returns-then-is_empty-clause-advances
@@ -72,4 +72,6 @@ pub returns-clause-numbers : goal.returns-clause-numbers
 returns-clause-numbers g c = ok_by c.make.result (λ made. let one = made.1.next in omega (arith, one)) c.make.ensures.made
 
 pub returns-clause-caused : goal.returns-clause-caused
-returns-clause-caused g c = makings_are_caused c.make.result _ _ _ _ _ c.make.ensures.refused
+returns-clause-caused g c =
+    caused_from c.make.result _ _ c.make.ensures.refused
+    (λ refusal why. ⊎_elim (λ memory. inl (caused_by_memory _ _ _ _ memory)) (λ other. ⊎_elim inr (λ taken. inl (caused_by_pointer _ _ _ _ taken.0)) other) why)
