@@ -24,6 +24,7 @@ places_of_shapes [] = 0
 places_of_shapes (shape ∷ shapes) = first_meta shape + places_of_shapes shapes
 
 by_shapes : (spaces : List VdevSpace) → map_places spaces ≡ places_of_shapes (shapes_of spaces)
+unfolding places_of_shapes
 by_shapes [] = refl
 by_shapes (space ∷ spaces) = ap (λ n. first_meta space.shape + n) (by_shapes spaces)
 
