@@ -35,4 +35,4 @@ pub recorded_send : (C L M : RattleType) (g : Ghosts C.Denot) (l : LedgerGhosts 
 recorded_send C L M g l m c = search (sendable, inside_send)
 
 pub shared_sync : (C L M : RattleType) (g : Ghosts C.Denot) (l : LedgerGhosts L.Denot) (m : LedgerGhosts M.Denot) → IsSend C → IsSync (shared_row C L M g l m)
-shared_sync C L M g l m c = search (sendable, recorded_send, mutex.the_sync) depth 16
+shared_sync C L M g l m c = search (sendable, recorded_send, mutex.the_sync, heap.the_sync) depth 16

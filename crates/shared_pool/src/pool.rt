@@ -1,12 +1,14 @@
 //! The core under a lock.
 ghost use Rattle.std.specs.Prelude.{◌≡◌, ◌<◌};
 
+use crate::copies::copies_for;
 use crate::counts::Shares;
 use crate::handles::{Quiescer, Syncer, Writer};
 use crate::recorded::{Entry, Recorded};
 use crate::refusal::Refusal;
 use pool_model::{Reply, Step};
 use pool_steps::PoolSteps;
+use std::alloc::Global;
 use std::sync::ledger::Ledger;
 use std::sync::{Mutex, Wait};
 use std::thread::Threads;
@@ -15,6 +17,7 @@ use worker_items::Gate;
 /// A pool that threads share. Each thread takes its steps through handles: `Writer`, `Quiescer`, `Syncer`.
 #[derive(Drop)]
 pub struct SharedPool<C: PoolSteps, L: Ledger, M: Ledger> {
+    alloc: Global,
     recorded: Mutex<Recorded<C, L, M>>,
 }
 
@@ -26,6 +29,7 @@ impl<C: PoolSteps, L: Ledger, M: Ledger> SharedPool<C, L, M> {
 
     pub fn new(recorded: Recorded<C, L, M>) -> SharedPool<C, L, M> {
         SharedPool {
+            alloc: recorded.alloc(),
             recorded: Mutex::new(recorded),
         }
     }
@@ -74,7 +78,9 @@ impl<C: PoolSteps, L: Ledger, M: Ledger> SharedPool<C, L, M> {
         ensures called { Counts 1 result shares.old.calls.amount shares.new.calls.amount }
         ensures parts { shares.new.steps.parts ≡ shares.old.steps.parts }
     {
-        self.recorded.lock(rt).take_step(step, shares)
+        // Copied before the lock is taken: no other thread waits for it.
+        let copies = copies_for(self.alloc, &step);
+        self.recorded.lock(rt).take_copied(step, copies, shares)
     }
 
     /// Takes the step Plan with so many workers, at some such moment.

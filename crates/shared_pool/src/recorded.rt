@@ -3,7 +3,7 @@ ghost use Rattle.std.specs.Prelude.{◌≡◌, ◌+◌, ◌^◌, ◌≤◌, ◌<
 ghost use Rattle.shared_pool.specs.History.{entry};
 ghost use Rattle.shared_pool.specs.Weights.{is_writers, weight_of, writers_steps, Counts};
 
-use crate::copies::{copy_of_reply, copy_of_step, room_for_reply};
+use crate::copies::{Copies, copies_for, copy_of_reply};
 use crate::counts::{Books, Shares};
 use crate::refusal::Refusal;
 use pool_model::{Reply, Step};
@@ -84,6 +84,9 @@ impl<C: PoolSteps, L: Ledger, M: Ledger> Recorded<C, L, M> {
     ghost use Rattle.pool_model.specs.declared.step.Step.TheVariants as steps;
     ghost use Rattle.shared_pool.specs.History.{IsRecord, Takes, Seals, Tells};
     ghost use Rattle.shared_pool.specs.Hinders.{HindersStep, HindersSeal};
+    ghost use Rattle.pool_model.specs.Refusals.{takes_memory};
+    ghost use Rattle.pool_steps.specs.Room.{most_bytes};
+    ghost use Rattle.std.specs.Prelude.{true};
 
     /// An empty record, with room for all its steps, of a core that stands for a view, as far as what its disks answer is true.
     pub fn new(alloc: Global, core: C, books: Books<L, M>) -> Result<Recorded<C, L, M>, Refusal>
@@ -109,6 +112,10 @@ impl<C: PoolSteps, L: Ledger, M: Ledger> Recorded<C, L, M> {
         })
     }
 
+    pub(crate) fn alloc(&self) -> Global {
+        self.alloc
+    }
+
     /// Takes one step and records it, with its reply. What the record needs is got before, so that at an `Err` no step is
     /// taken. Of a step that takes no memory the record takes none either.
     pub fn take_step(&mut self, step: Step, shares: &mut Shares<L, M>) -> Result<Reply, Refusal>
@@ -122,11 +129,36 @@ impl<C: PoolSteps, L: Ledger, M: Ledger> Recorded<C, L, M> {
         ensures hindered { IfErr result (λ refusal. HindersStep step refusal self.old) }
         ensures same { OnErr result (self.new ≡ self.old) }
     {
+        let copies = copies_for(self.alloc, &step);
+        self.take_copied(step, copies, shares)
+    }
+
+    /// Takes one step and records its copy, with the reply. The copy was made before, so that who holds the lock needn't wait
+    /// for it; where memory ran out for it that is told only of a record that isn't full.
+    pub(crate) fn take_copied(
+        &mut self,
+        step: Step,
+        copies: Result<Copies, AllocError>,
+        shares: &mut Shares<L, M>,
+    ) -> Result<Reply, Refusal>
+        requires copy { IfOk copies (λ it. it.step ≡ step) }
+        requires empty { IfOk copies (λ it. it.room.items ≡ []) }
+        requires room { IfOk copies (λ it. most_bytes step ≤ vec_capacity it.room) }
+        requires memory { OnErr copies (takes_memory step ≡ true) }
+        ensures before { IsRecord C.PoolSteps self.old }
+        ensures after { IsRecord C.PoolSteps self.new }
+        ensures taken { IfOk result (λ reply. Takes C.PoolSteps self.old step reply self.new) }
+        ensures counted { Counts (weight_of step) result
+            shares.old.steps.amount shares.new.steps.amount }
+        ensures called { Counts 1 result shares.old.calls.amount shares.new.calls.amount }
+        ensures parts { shares.new.steps.parts ≡ shares.old.steps.parts }
+        ensures hindered { IfErr result (λ refusal. HindersStep step refusal self.old) }
+        ensures same { OnErr result (self.new ≡ self.old) }
+    {
         if self.entries.len() == ROOM {
             return Err(Refusal::RecordFull);
         }
-        let copy = copy_of_step(self.alloc, &step)?;
-        let room = room_for_reply(self.alloc, &step)?;
+        let Copies { step: copy, room } = copies?;
         let weight = weight_of(&step);
         let reply = self.core.take_step(step);
         let copied = copy_of_reply(room, &reply);
