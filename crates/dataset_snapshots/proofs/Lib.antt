@@ -1,6 +1,5 @@
 pub mod BelowNext
 pub mod BlocksOnce
-pub mod Causes
 pub mod Chained
 pub mod ChainCounts
 pub mod ChainIndexes

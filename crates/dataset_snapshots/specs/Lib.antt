@@ -1,4 +1,3 @@
-pub mod Causes
 pub mod Chaining
 pub mod Clones
 pub mod Contents

@@ -7,7 +7,6 @@ ghost use Rattle.block_store.specs.Store.{Holds};
 ghost use Rattle.dnode_tree.specs.Rewriting.{AreDistinct};
 ghost use Rattle.pool_maps.specs.Loads.{AreSetsOf};
 ghost use Rattle.pool_model.specs.Pools.{PlainPool};
-ghost use Rattle.space_map_objects.specs.Causes.{IsCausedOf};
 ghost use Rattle.space_map_objects.specs.Maps.{IsForLossOf};
 ghost use Rattle.dataset_snapshots.specs.Contents.{AreContentsFound, AreContentsOf, AreContentsRefused};
 ghost use Rattle.dataset_snapshots.specs.Mapped.{HasItsMaps};
@@ -75,9 +74,6 @@ pub fn contents_under<D: Disk + Drop>(
     ensures refused { IfErr result (AreContentsRefused store.old store.new missing.now birth
         root.now left.old left.new) }
     ensures cause { IfErr result (λ refusal. refusal ≢ Refusal.Unread NoSpace) }
-
-    // Of a refusal for lack of disks or room, the block.
-    ensures caused { IfErr result (IsCausedOf store.old store.new missing.now) }
 
     // And the contents of a whole pool that has its space maps, and each of these blocks once, are
     // read, over disks that answer truly, where as many may be read as these are, unless too many

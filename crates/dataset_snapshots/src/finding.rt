@@ -2,7 +2,6 @@
 ghost use Rattle.std.specs.Prelude.{◌≡◌, ◌≢◌, ◌⊎◌, ℕ, List, Option, Some, None, IfOk, IfErr};
 ghost use Rattle.block_pointer.specs.declared.block.Block.{Block};
 ghost use Rattle.block_store.specs.Blocks.{Contents};
-ghost use Rattle.block_store.specs.Causes.{IsCaused};
 ghost use Rattle.block_store.specs.Losses.{IsForLoss};
 ghost use Rattle.block_store.specs.Steps.{OnlyReadsBlocks, AnswersAreTrue};
 ghost use Rattle.block_store.specs.Store.{Holds};
@@ -71,10 +70,6 @@ pub fn find<D: Disk + Drop>(
     ensures refused { IfErr result (λ refusal. (refusal ≡ Refusal.NoMemory)
         ⊎ IsRefused store.old store.new missing.now birth root.now name.now refusal) }
 
-    // Of a refusal for lack of disks or room, the block.
-    ensures caused { IfErr result (IsCaused store.old store.new missing.now) }
-    ensures cause { IfErr result (λ refusal. refusal ≢ Refusal.NoSpace) }
-
     // And it is found, over disks that answer truly, unless too many disks miss of a block.
     ensures known { IfErr result (λ refusal. (stored : Contents) (pool : PlainPool)
         → Holds store.old stored → SpellsPool stored birth root.now pool
@@ -114,10 +109,6 @@ pub fn directory_under<D: Disk + Drop>(
         ⊎ (IsMetaRefused store.old store.new missing.now birth root.now refusal
         ⊎ IsDirectoryRefused store.old store.new missing.now birth root.now refusal)) }
 
-    // Of a refusal for lack of disks or room, the block.
-    ensures caused { IfErr result (IsCaused store.old store.new missing.now) }
-    ensures cause { IfErr result (λ refusal. refusal ≢ Refusal.NoSpace) }
-
     // And it is read, over disks that answer truly, unless too many disks miss of a block.
     ensures known { IfErr result (λ refusal. (stored : Contents) (pool : PlainPool)
         → Holds store.old stored → SpellsPool stored birth root.now pool
@@ -155,10 +146,6 @@ pub fn find_in<D: Disk + Drop>(
         ⊎ IsRefusedIn store.old store.new missing.now birth root.now directory.now name.now
         refusal) }
 
-    // Of a refusal for lack of disks or room, the block.
-    ensures caused { IfErr result (IsCaused store.old store.new missing.now) }
-    ensures cause { IfErr result (λ refusal. refusal ≢ Refusal.NoSpace) }
-
     // And it is found, over disks that answer truly, unless too many disks miss of a block.
     ensures known { IfErr result (λ refusal. (stored : Contents) (pool : PlainPool)
         → Holds store.old stored → (is : SpellsPool stored birth root.now pool)
@@ -189,7 +176,6 @@ pub(crate) fn read_meta<D: Disk + Drop>(
     ensures refused { IfErr result
         (IsMetaRefused store.old store.new missing.now birth root.now) }
     ensures cause { IfErr result (λ refusal. refusal ≢ Refusal.NoSpace) }
-    ensures caused { IfErr result (IsCaused store.old store.new missing.now) }
     ensures known { IfErr result (λ refusal. (stored : Contents) (set : ObjectSet)
         → Holds store.old stored → IsSetBlock stored birth root.now set → set.kind ≡ sets.Meta
         → AnswersAreTrue store.old store.new → IsForLoss refusal) }
@@ -222,8 +208,6 @@ fn object_of<D: Disk + Drop>(
     ensures refused { IfErr result (λ refusal. (refusal ≡ Refusal.NoMemory)
         ⊎ IsRowsRefused store.old store.new missing.now set.now birth directory_kind 1
         AreDirectoryRows refusal) }
-    ensures caused { IfErr result (IsCaused store.old store.new missing.now) }
-    ensures cause { IfErr result (λ refusal. refusal ≢ Refusal.NoSpace) }
     ensures known { IfErr result (λ refusal. (stored : Contents) (objects : ℕ → Option Object)
         (own : List Block) (blocks : ℕ → List Block) (rows : List DirectoryRow)
         → Holds store.old stored → AreObjects stored birth set.now objects own blocks
@@ -265,7 +249,6 @@ pub(crate) fn read_dataset<D: Disk + Drop>(
     ensures refused { IfErr result (λ refusal. (refusal ≡ Refusal.NoMemory)
         ⊎ IsRecordRefused store.old store.new missing.now set.now birth object refusal) }
     ensures cause { IfErr result (λ refusal. refusal ≢ Refusal.NoSpace) }
-    ensures caused { IfErr result (IsCaused store.old store.new missing.now) }
     ensures known { IfErr result (λ refusal. (stored : Contents) (objects : ℕ → Option Object)
         (own : List Block) (blocks : ℕ → List Block) (r : DatasetRecord)
         → Holds store.old stored → AreObjects stored birth set.now objects own blocks

@@ -1,10 +1,9 @@
 //! The first root of a pool.
-ghost use Rattle.std.specs.Prelude.{◌≡◌, ◌⊎◌, ◌++◌, ◌+◌, ◌*◌, ◌^◌, ◌<◌, ◌≤◌, ℕ, [], None, All, AllPairs, length, fold, IfOk, IfErr, OnOk};
+ghost use Rattle.std.specs.Prelude.{◌≡◌, ◌⊎◌, ◌++◌, ◌*◌, ◌^◌, ◌<◌, ◌≤◌, ℕ, [], None, All, AllPairs, length, fold, IfOk, IfErr, OnOk};
 ghost use Rattle.block_pointer.specs.declared.block.Block.{Block};
 ghost use Rattle.block_pointer.specs.Block.{FitsBlock};
 ghost use Rattle.block_pointer.specs.Copies.{dvas};
 ghost use Rattle.block_store.specs.Blocks.{Contents, Extends};
-ghost use Rattle.block_store.specs.Causes.{IsCaused};
 ghost use Rattle.block_store.specs.Places.{filled};
 ghost use Rattle.block_store.specs.Plans.{Plans};
 ghost use Rattle.block_store.specs.Steps.{OnlyReadsAndPlans, AnswersAreTrue};
@@ -16,9 +15,7 @@ ghost use Rattle.pool_maps.specs.Reached.{UseNothing};
 ghost use Rattle.vdev_label.specs.Config.{FitsConfig, config_bytes};
 ghost use Rattle.vdev_label.specs.Plain.{config_view};
 ghost use Rattle.volume_rules.specs.Parting.{with_made};
-ghost use Rattle.dataset_snapshots.specs.Causes.{LacksNumbersFrom};
 ghost use Rattle.dataset_snapshots.specs.Creating.{HasFirstTables};
-ghost use Rattle.dataset_groups.specs.Causes.{LacksNumbers};
 ghost use Rattle.dataset_groups.specs.Chains.{Reading};
 ghost use Rattle.dataset_groups.specs.Groups.{SpellsGroup};
 ghost use Rattle.dataset_groups.specs.Names.{reach_by};
@@ -94,11 +91,6 @@ pub fn first_group<D: Disk + Drop>(
         × (first.directory ≡ is.rows)
         × HasMapsBehind store.new.spaces [] is) }
 
-    // Of a refusal for lack of room, the block; or numbers of objects are wanting.
-    ensures caused { IfErr result (λ refusal. IsCaused store.old store.new [] refusal
-        ⊎ ((refusal ≡ Refusal.NoSpace)
-        × LacksNumbersFrom 5 store.old.spaces parted.now.made)) }
-
     // Over disks that answer truly, and where all may be made, only room is wanting.
     ensures known { IfErr result (λ refusal. (stored planned : Contents)
         → Plans store.old stored planned → UseNothing store.old.spaces filled
@@ -146,9 +138,6 @@ fn first_volumes<D: Disk + Drop>(
         (fold (λ p a. changed group p a.change) no_volumes actions.now)
         × IsReachExchanged group planned later [] (reach_by pool datasets.directory) []
         × AddsData planned later) }
-    ensures few { IfOk result (λ datasets. datasets.next ≤ 5 + 2 * length actions.now) }
-    ensures caused { IfErr result (λ refusal. IsCaused store.old store.new [] refusal
-        ⊎ ((refusal ≡ Refusal.NoSpace) × LacksNumbers 5 numbers_end actions.now 0)) }
     ensures known { IfErr result (λ refusal. (stored planned : Contents)
         → Plans store.old stored planned → AnswersAreTrue store.old store.new
         → AreGoodChanges actions.now

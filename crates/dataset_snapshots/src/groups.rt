@@ -1,19 +1,17 @@
 //! The root of a pool after a group.
-ghost use Rattle.std.specs.Prelude.{IsTrue, ◌↔◌, ◌≡◌, ◌⊎◌, ◌≤◌, ◌<◌, ◌-◌, ◌+◌, ◌*◌, ◌^◌, ◌++◌, ℕ, List, [], Option, Some, All, AllPairs, IfOk, IfErr, OnOk, ◌∷◌, length};
+ghost use Rattle.std.specs.Prelude.{IsTrue, ◌↔◌, ◌≡◌, ◌⊎◌, ◌≤◌, ◌<◌, ◌-◌, ◌*◌, ◌^◌, ◌++◌, ℕ, List, [], Option, Some, All, AllPairs, IfOk, IfErr, OnOk, ◌∷◌, length};
 ghost use Rattle.block_pointer.specs.Block.{FitsBlock};
 ghost use Rattle.block_pointer.specs.Copies.{dvas};
 ghost use Rattle.block_pointer.specs.declared.block.Block.{Block};
 ghost use Rattle.block_store.specs.Blocks.{Contents, Extends};
-ghost use Rattle.block_store.specs.Causes.{IsCaused};
 ghost use Rattle.block_store.specs.Losses.{IsForLoss};
 ghost use Rattle.block_store.specs.Places.{filled};
 ghost use Rattle.block_store.specs.Plans.{Plans};
 ghost use Rattle.block_store.specs.Steps.{OnlyReadsAndPlans, OnlyReadsBlocks, AnswersAreTrue, HasNoRoomFor};
 ghost use Rattle.block_store.specs.Store.{Holds};
-ghost use Rattle.dnode.specs.declared.object_set.ObjectSet.{ObjectSet};
 ghost use Rattle.dnode.specs.ObjectSet.{FitsObjectSet};
 ghost use Rattle.dnode.specs.declared.object_set.ObjectSetKind.TheVariants as sets;
-ghost use Rattle.objset.specs.Sets.{IsSetBlock, asked_of_set};
+ghost use Rattle.objset.specs.Sets.{asked_of_set};
 ghost use Rattle.dnode_tree.specs.Writes.{IsForRoom};
 ghost use Rattle.meta_objset.specs.Reading.{HasDirectory, directory_kind};
 ghost use Rattle.object_table.specs.Tables.{IsOfKind};
@@ -25,7 +23,6 @@ ghost use Rattle.pool_maps.specs.Plans.{AreOrdered, MapAnew};
 ghost use Rattle.pool_model.specs.declared.item.Write.{Write};
 ghost use Rattle.pool_model.specs.Pools.{MayBeDestroyed, PlainPool, all_destroyed, applied, written};
 ghost use Rattle.volume_rules.specs.Parting.{with_made};
-ghost use Rattle.dataset_snapshots.specs.Causes.{LacksNumbersFrom, LacksNumbersUnder};
 ghost use Rattle.dataset_snapshots.specs.Creating.{KeepsTables};
 ghost use Rattle.dataset_snapshots.specs.Demands.{AreMappedRefused, HasDatasetChanges, AreMisnumbered, AreVolumesRefused, HasGroupPlaces, HasMappedPlaces, HasRootPlaces, HasVolumePlaces, IsGroupRefused, IsRootRefused};
 ghost use Rattle.dataset_groups.specs.Destroys.{HasAtMost};
@@ -34,8 +31,7 @@ ghost use Rattle.dataset_groups.specs.NewVolumes.{AreGoodChanges, numbers_end};
 ghost use Rattle.dataset_snapshots.specs.Finding.{IsMetaRefused};
 ghost use Rattle.dataset_snapshots.specs.Groups.{AreOfDatasets, IsBegun, IsBegunFrom, IsNextOf, IsOpened, IsOpenedFrom, IsSetOf, SpellsAfter};
 ghost use Rattle.dataset_snapshots.specs.Groups.{AreNumbersBehind, HasRoomFor};
-ghost use Rattle.dataset_groups.specs.Causes.{LacksNumbers};
-ghost use Rattle.dataset_groups.specs.Groups.{first_number, next_behind};
+ghost use Rattle.dataset_groups.specs.Groups.{next_behind};
 ghost use Rattle.dataset_groups.specs.Leaving.{AddsData, AddsMeta, IsReachExchanged};
 ghost use Rattle.dataset_snapshots.specs.Mapped.{HasMapsBehind, HasMapsBy, StandsOnce};
 ghost use Rattle.dataset_snapshots.specs.Opening.{IsBegunFound, IsGroupFound, IsGroupUnread, IsVolumeUnread, most_blocks};
@@ -158,11 +154,6 @@ pub fn after_group<D: Disk + Drop>(
         × (after.directory ≡ then.rows)
         × HasMapsBehind store.new.spaces after.replaced.items then) }
 
-    // Of a refusal for lack of disks or room, the block; or numbers of objects are wanting.
-    ensures caused { IfErr result (λ refusal. IsCaused store.old store.new [] refusal
-        ⊎ ((refusal ≡ Refusal.NoSpace) × LacksNumbersUnder store.old store.new (group - 1)
-        root.now parted.now.made)) }
-
     // Over disks that answer truly, and where all may be made, only room is wanting, or disks.
     ensures known { IfErr result (λ refusal. (stored planned : Contents) (pool : PlainPool)
         → Plans store.old stored planned → (is : SpellsPool stored (group - 1) root.now pool)
@@ -228,10 +219,6 @@ fn open_group<D: Disk + Drop>(
         → AnswersAreTrue store.old store.new
         → IsOpenedFrom stored group (group - 1) root.now pool is parted.now.destroyed
         items.now.writes opened) }
-    ensures is_set { IfOk result (λ opened. (stored : Contents) (set : ObjectSet)
-        → Holds store.old stored → IsSetBlock stored (group - 1) root.now set
-        → AnswersAreTrue store.old store.new → opened.set ≡ set) }
-    ensures caused { IfErr result (IsCaused store.old store.new []) }
     ensures known { IfErr result (λ refusal. (stored : Contents) (pool : PlainPool)
         → Holds store.old stored → (is : SpellsPool stored (group - 1) root.now pool)
         → kept.now ≡ is.rows → MayBeDestroyed parted.now.destroyed pool
@@ -285,10 +272,6 @@ fn begin_group<D: Disk + Drop>(
         → Holds store.old stored → (is : SpellsPool stored birth root.now pool)
         → kept.now ≡ is.rows → AnswersAreTrue store.old store.new
         → IsBegunFrom stored birth root.now pool is destroyed.now items.now.writes begun) }
-    ensures is_set { IfOk result (λ begun. (stored : Contents) (set : ObjectSet)
-        → Holds store.old stored → IsSetBlock stored birth root.now set
-        → AnswersAreTrue store.old store.new → begun.set ≡ set) }
-    ensures caused { IfErr result (IsCaused store.old store.new []) }
     ensures known { IfErr result (λ refusal. (stored : Contents) (pool : PlainPool)
         → Holds store.old stored → (is : SpellsPool stored birth root.now pool)
         → kept.now ≡ is.rows → AnswersAreTrue store.old store.new → IsForLoss refusal) }
@@ -341,10 +324,6 @@ fn mapped_changes<D: Disk + Drop>(
         (volume_blocks_of is) (reach_by then.datasets then.rows) gone.new.items
         × (then.rows ≡ made.directory) × AddsData planned later
         × MapAnew is.objects store.new.spaces gone.new.items made.changes.items) }
-    ensures caused { IfErr result (λ refusal. IsCaused store.old store.new [] refusal
-        ⊎ ((refusal ≡ Refusal.NoSpace) × (LacksNumbers opened.datasets.next
-        opened.datasets.bounds.end actions.now 0
-        ⊎ LacksNumbersFrom (first_number opened.set) store.old.spaces actions.now))) }
     ensures known { IfErr result (λ refusal. (stored planned : Contents) (birth : ℕ)
         (root : Block) (pool : PlainPool) (writes : List Write)
         → Plans store.old stored planned → (is : SpellsPool stored birth root pool)
@@ -409,11 +388,6 @@ fn changes_of<D: Disk + Drop>(
         (volume_blocks_of is) (reach_by then.datasets then.rows) gone
         × (then.rows ≡ made.directory) × AddsData planned later
         × AreOfDatasets is.objects made.changes.items) }
-    ensures few { IfOk result (λ made.
-        made.next ≤ first_number opened.set + 2 * length actions.now) }
-    ensures caused { IfErr result (λ refusal. IsCaused store.old store.new [] refusal
-        ⊎ ((refusal ≡ Refusal.NoSpace) × LacksNumbers opened.datasets.next
-        opened.datasets.bounds.end actions.now 0)) }
     ensures known { IfErr result (λ refusal. (stored planned : Contents) (birth : ℕ)
         (root : Block) (pool : PlainPool) (writes : List Write)
         → Plans store.old stored planned → (is : SpellsPool stored birth root pool)
@@ -555,7 +529,6 @@ pub(crate) fn plan_root<D: Disk + Drop>(
     ensures no_room { IfErr result (λ refusal. refusal ≡ Refusal.NoSpace
         → HasNoRoom store.old store.new [] (copies_of sets.Meta)
         ⊎ HasNoRoomFor store.old store.new [] 2 3) }
-    ensures caused { IfErr result (IsCaused store.old store.new []) }
     ensures known { IfErr result (λ refusal. (stored planned : Contents) (bound : ℕ)
         (objects : ℕ → Option Object) (own : List Block) (blocks : ℕ → List Block)
         → Plans store.old stored planned → AreObjects stored bound set.now objects own blocks

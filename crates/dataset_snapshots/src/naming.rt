@@ -3,7 +3,6 @@ ghost use Rattle.std.specs.Prelude.{◌≡◌, ◌≢◌, ◌⊎◌, ◌∷◌, 
 ghost use Rattle.std.specs.List.{AllZip};
 ghost use Rattle.block_pointer.specs.declared.block.Block.{Block};
 ghost use Rattle.block_store.specs.Blocks.{Contents};
-ghost use Rattle.block_store.specs.Causes.{IsCaused};
 ghost use Rattle.block_store.specs.Losses.{IsForLoss};
 ghost use Rattle.block_store.specs.Steps.{OnlyReadsBlocks, AnswersAreTrue};
 ghost use Rattle.block_store.specs.Store.{Holds};
@@ -56,7 +55,6 @@ pub(crate) fn names_by<D: Disk + Drop>(
     ensures refused { IfErr result (AreNamesRefused store.old store.new missing.now birth root.now
         directory.now) }
     ensures cause { IfErr result (λ refusal. refusal ≢ Refusal.NoSpace) }
-    ensures caused { IfErr result (IsCaused store.old store.new missing.now) }
     ensures known { IfErr result (λ refusal. (stored : Contents) (pool : PlainPool)
         → Holds store.old stored → (is : SpellsPool stored birth root.now pool)
         → directory.now ≡ is.rows → AnswersAreTrue store.old store.new → IsForLoss refusal) }
@@ -101,7 +99,6 @@ fn names_of<D: Disk + Drop>(
         ⊎ (IsRowUnnamed store.old store.new missing.now set.now birth rows.now refusal
         ⊎ AreUnchained store.old.spaces set.now birth rows.now refusal)) }
     ensures cause { IfErr result (λ refusal. refusal ≢ Refusal.NoSpace) }
-    ensures caused { IfErr result (IsCaused store.old store.new missing.now) }
     ensures known { IfErr result (λ refusal. (stored : Contents) (objects : ℕ → Option Object)
         (own : List Block) (blocks : ℕ → List Block) (volumes : List PlainVolume)
         (pool : Pool) (readings : ℕ → Reading)

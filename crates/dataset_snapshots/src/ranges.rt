@@ -1,7 +1,6 @@
 //! Ranges of volumes under a root.
-ghost use Rattle.std.specs.Prelude.{◌≡◌, ◌≢◌, ◌⊎◌, ◌↔◌, ◌+◌, ◌^◌, ◌<◌, ◌≤◌, ℕ, List, Some, IsTrue, IfOk, IfErr, length, slice_range};
+ghost use Rattle.std.specs.Prelude.{◌≡◌, ◌⊎◌, ◌↔◌, ◌+◌, ◌^◌, ◌<◌, ◌≤◌, ℕ, List, Some, IsTrue, IfOk, IfErr, length, slice_range};
 ghost use Rattle.block_store.specs.Blocks.{Contents};
-ghost use Rattle.block_store.specs.Causes.{IsCaused};
 ghost use Rattle.block_store.specs.Losses.{IsForLoss};
 ghost use Rattle.block_store.specs.Steps.{OnlyReadsBlocks, AnswersAreTrue};
 ghost use Rattle.block_store.specs.Store.{Holds};
@@ -60,8 +59,6 @@ impl VolumeRange<'_> {
             × (dataset.now.record.size < self.now.offset + self.now.len))
             ⊎ IsReadRefused store.old store.new missing.now dataset.now.volume birth
             (LiesIn dataset.now.volume self.now.offset (self.now.offset + self.now.len)) refusal)) }
-        ensures caused { IfErr result (IsCaused store.old store.new missing.now) }
-        ensures cause { IfErr result (λ refusal. refusal ≢ Refusal.NoSpace) }
         ensures known { IfErr result (λ refusal. (stored : Contents) (array : List ℕ)
             → Holds store.old stored → Spells stored birth dataset.now.volume array
             → AnswersAreTrue store.old store.new
@@ -105,10 +102,6 @@ pub fn read_range<D: Disk + Drop>(
         ⊎ IsRangeRefused store.old store.new missing.now birth root.now range.now.name.now
         range.now.offset range.now.len refusal) }
 
-    // Of a refusal for lack of disks or room, the block.
-    ensures caused { IfErr result (IsCaused store.old store.new missing.now) }
-    ensures cause { IfErr result (λ refusal. refusal ≢ Refusal.NoSpace) }
-
     // Over disks that answer truly a range of a volume that is there is read, unless too many disks miss of a block.
     ensures known { IfErr result (λ refusal. (stored : Contents) (pool : PlainPool)
         (volume : PlainVolume) → Holds store.old stored
@@ -151,10 +144,6 @@ pub fn read_range_in<D: Disk + Drop>(
     ensures refused { IfErr result (λ refusal. (refusal ≡ Refusal.NoMemory)
         ⊎ IsRangeRefusedIn store.old store.new missing.now birth root.now directory.now
         range.now.name.now range.now.offset range.now.len refusal) }
-
-    // Of a refusal for lack of disks or room, the block.
-    ensures caused { IfErr result (IsCaused store.old store.new missing.now) }
-    ensures cause { IfErr result (λ refusal. refusal ≢ Refusal.NoSpace) }
 
     // Over disks that answer truly a range of a volume that is there is read, unless too many disks miss of a block.
     ensures known { IfErr result (λ refusal. (stored : Contents) (pool : PlainPool)

@@ -2,7 +2,6 @@
 ghost use Rattle.std.specs.Prelude.{◌≡◌, ◌≢◌, ◌⊎◌, ◌+◌, ◌++◌, ◌∷◌, ◌<◌, ◌≤◌, ℕ, All, List, Option, length, IfOk, IfErr, OnOk};
 ghost use Rattle.block_pointer.specs.declared.block.Block.{Block};
 ghost use Rattle.block_store.specs.Blocks.{Contents};
-ghost use Rattle.block_store.specs.Causes.{IsCaused};
 ghost use Rattle.block_store.specs.Losses.{IsForLoss};
 ghost use Rattle.block_store.specs.Steps.{OnlyReadsBlocks, AnswersAreTrue};
 ghost use Rattle.block_store.specs.Store.{Holds};
@@ -67,9 +66,6 @@ pub fn reach<D: Disk + Drop>(
         left.old left.new) }
     ensures cause { IfErr result (λ refusal. refusal ≢ Refusal.NoSpace) }
 
-    // Of a refusal for lack of disks or room, the block.
-    ensures caused { IfErr result (IsCaused store.old store.new missing.now) }
-
     // And a whole pool that has each block once is walked, over disks that answer truly, where as
     // many may be read as it has blocks, unless too many disks miss of a block.
     ensures known { IfErr result (λ refusal. (stored : Contents) (pool : PlainPool)
@@ -121,8 +117,6 @@ pub(crate) fn walk_meta<D: Disk + Drop>(
         root.now left.old left.new) }
     ensures cause { IfErr result (λ refusal. refusal ≢ Refusal.NoSpace) }
 
-    ensures caused { IfErr result (IsCaused store.old store.new missing.now) }
-
     // And the set of a whole pool that has each of these blocks once is walked, over disks that
     // answer truly, where as many may be read as they are, unless too many disks miss of a block.
     ensures known { IfErr result (λ refusal. (stored : Contents) (pool : PlainPool)
@@ -157,7 +151,6 @@ fn count_meta<D: Disk + Drop>(
     ensures refused { IfErr result
         (IsMetaMissed store.old store.new missing.now birth root.now left.old) }
     ensures cause { IfErr result (λ refusal. refusal ≢ Refusal.NoSpace) }
-    ensures caused { IfErr result (IsCaused store.old store.new missing.now) }
     ensures known { IfErr result (λ refusal. (stored : Contents) (set : ObjectSet)
         → Holds store.old stored → IsSetBlock stored birth root.now set → set.kind ≡ sets.Meta
         → 0 < left.old → AnswersAreTrue store.old store.new → IsForLoss refusal) }
@@ -193,7 +186,6 @@ fn walk_volumes<D: Disk + Drop>(
     ensures refused { IfErr result (AreVolumesUnwalked store.old store.new missing.now set.now birth
         left.old left.new) }
     ensures cause { IfErr result (λ refusal. refusal ≢ Refusal.NoSpace) }
-    ensures caused { IfErr result (IsCaused store.old store.new missing.now) }
     ensures known { IfErr result (λ refusal. (stored : Contents) (objects : ℕ → Option Object)
         (own : List Block) (blocks : ℕ → List Block) (pool : Pool) (readings : ℕ → Reading)
         (rows : List DirectoryRow) → Holds store.old stored
@@ -232,7 +224,6 @@ fn walk_rows<D: Disk + Drop>(
         ⊎ IsRowUnwalked store.old store.new missing.now set.now birth rows.now left.old left.new
         refusal) }
     ensures cause { IfErr result (λ refusal. refusal ≢ Refusal.NoSpace) }
-    ensures caused { IfErr result (IsCaused store.old store.new missing.now) }
     ensures known { IfErr result (λ refusal. (stored : Contents) (objects : ℕ → Option Object)
         (own : List Block) (blocks : ℕ → List Block) (pool : Pool) (readings : ℕ → Reading)
         → Holds store.old stored → AreObjects stored birth set.now objects own blocks
@@ -272,7 +263,6 @@ fn walk_dataset<D: Disk + Drop>(
     ensures refused { IfErr result (IsDatasetUnwalked store.old store.new missing.now set.now birth
         object left.old left.new) }
     ensures cause { IfErr result (λ refusal. refusal ≢ Refusal.NoSpace) }
-    ensures caused { IfErr result (IsCaused store.old store.new missing.now) }
     ensures known { IfErr result (λ refusal. (stored : Contents) (objects : ℕ → Option Object)
         (own : List Block) (blocks : ℕ → List Block) (pool : Pool) (readings : ℕ → Reading)
         → Holds store.old stored → AreObjects stored birth set.now objects own blocks
@@ -310,7 +300,6 @@ fn group_before<D: Disk + Drop>(
         ⊎ (((record.now).previous ≢ 0) × IsRecordRefused store.old store.new missing.now set.now
         birth (record.now).previous refusal)) }
     ensures cause { IfErr result (λ refusal. refusal ≢ Refusal.NoSpace) }
-    ensures caused { IfErr result (IsCaused store.old store.new missing.now) }
     ensures known { IfErr result (λ refusal. (stored : Contents) (objects : ℕ → Option Object)
         (own : List Block) (blocks : ℕ → List Block) (pool : Pool) (readings : ℕ → Reading)
         (object : ℕ) → Holds store.old stored

@@ -4,7 +4,6 @@ ghost use Rattle.std.specs.List.{AllZip};
 ghost use Rattle.std.specs.List.Sorted.{IsStrictlyIncreasing};
 ghost use Rattle.block_pointer.specs.declared.block.Block.{Block};
 ghost use Rattle.block_store.specs.Blocks.{Contents};
-ghost use Rattle.block_store.specs.Causes.{IsCaused};
 ghost use Rattle.block_store.specs.Losses.{IsForLoss};
 ghost use Rattle.block_store.specs.Steps.{OnlyReadsBlocks, AnswersAreTrue};
 ghost use Rattle.block_store.specs.Store.{Holds};
@@ -94,7 +93,6 @@ pub(crate) fn read_written<D: Disk + Drop>(
         → AnswersAreTrue store.old store.new
         → All (IsReadFrom stored birth there items.now.writes datasets.old.directory) read.items
         × KeepsGroup there datasets.old datasets.new) }
-    ensures caused { IfErr result (IsCaused store.old store.new []) }
     ensures known { IfErr result (λ refusal. (stored : Contents) (there : ℕ → Option Object)
         (own : List Block) (blocks : ℕ → List Block) (volumes : List PlainVolume)
         → Holds store.old stored
@@ -150,7 +148,6 @@ fn read_one<D: Disk + Drop>(
         → AnswersAreTrue store.old store.new → AreOver there datasets.old.changes
         → IsReadFrom stored birth there items.now.writes datasets.old.directory head
         × KeepsGroup there datasets.old datasets.new × AreOver there datasets.new.changes) }
-    ensures caused { IfErr result (IsCaused store.old store.new []) }
     ensures known { IfErr result (λ refusal. (stored : Contents) (there : ℕ → Option Object)
         (own : List Block) (blocks : ℕ → List Block) (volumes : List PlainVolume)
         → Holds store.old stored
@@ -197,7 +194,6 @@ fn changed_blocks<D: Disk + Drop>(
         → AnswersAreTrue store.old store.new
         → IsArrayWith plain.bytes (block_size_of volume.now) blocks.items
         (after_writes plain items.now.writes).bytes) }
-    ensures caused { IfErr result (IsCaused store.old store.new []) }
     ensures known { IfErr result (λ refusal. (stored : Contents) (array : List ℕ)
         → Holds store.old stored → Spells stored birth volume.now array
         → AnswersAreTrue store.old store.new → IsForLoss refusal) }

@@ -1,10 +1,8 @@
 -- Directories that are kept, where other blocks are known.
-use Rattle.std.proofs.Common.{◌≡◌, ◌⊎◌, ◌-◌, ℕ, List, [], Option, Some, None, inl, inr, sym, ◌∙◌, subst, arith}
+use Rattle.std.proofs.Common.{◌≡◌, ℕ, List, Option, Some, None, sym, ◌∙◌, subst, arith}
 use Rattle.block_pointer.specs.declared.block.Block.{Block}
 use Rattle.block_store.specs.Blocks.{Contents, Extends}
-use Rattle.block_store.specs.Causes.{IsCaused}
 use Rattle.block_store.specs.declared.refusal.Refusal.{Refusal as StoreRefusal}
-use Rattle.block_store.specs.declared.refusal.Refusal.TheVariants as store
 use Rattle.block_store.specs.Store.{Store}
 use Rattle.dataset_snapshots.proofs.Readings.{roots_spell_one_pool}
 use Rattle.dataset_snapshots.proofs.Standing.{roots_stand}
@@ -13,15 +11,17 @@ use Rattle.dataset_snapshots.specs.Pools.{SpellsPool}
 use Rattle.dataset_snapshots.specs.Reach.{reach_of}
 use Rattle.meta_objset.specs.declared.directory.DirectoryRow.{DirectoryRow}
 use Rattle.pool_model.specs.Pools.{Entry, PlainPool}
-use Rattle.volume_rules.specs.Parting.{Parted, parted_of}
-use Rattle.dataset_snapshots.specs.Causes.{LacksNumbersFrom, LacksNumbersUnder}
+use Rattle.volume_rules.specs.Parting.{Parted, parted_of, with_made}
+use Rattle.dataset_snapshots.specs.Demands.{IsGroupRefused}
+use Rattle.dataset_snapshots.specs.FirstGroup.{IsFirstRefused}
 use Rattle.objset.specs.Objects.{Object}
+use Rattle.vdev_label.specs.declared.label.Config.{Config}
 use Rattle.pool_commit.specs.Configs.{HasConfigAs}
 use Rattle.vdev_label.specs.Plain.{PlainVdev, config_view}
 use Rattle.pool_commit.specs.declared.kept.KeptGroup.{KeptGroup}
 use Rattle.pool_commit.specs.Backs.{LeadsTo, SpellsGroup}
 use Rattle.pool_commit.specs.Directories.{SpellsBy}
-use Rattle.pool_commit.specs.Room.{IsNextCaused, LacksNumbers}
+use Rattle.pool_commit.specs.Room.{IsNextRefused}
 
 -- the same objects have the same table
 config_of_same : (objects now : ℕ → Option Object) (vdevs : List PlainVdev) → now ≡ objects → HasConfigAs (objects 2) vdevs → HasConfigAs (now 2) vdevs
@@ -68,21 +68,21 @@ config_led stored group kept pool root is spells same =
     let one = roots_spell_one_pool stored group group root pool pool is by.0 in
     config_of_same by.0.objects is.objects (config_view kept.config.value) one.4 by.2
 
--- ---- why the next group is refused
+-- ---- why the next group is refused, by the directory that is kept
 
-pub first_caused : (old new : Store) (group : ℕ) (last : Option Block) (items : Entry) (parted : Parted) (refusal : StoreRefusal) → parted ≡ parted_of items.actions → last ≡ None
-    → IsCaused old new [] refusal ⊎ ((refusal ≡ store.NoSpace) × LacksNumbersFrom 5 old.spaces parted.made) → IsNextCaused old new group last items refusal
-first_caused old new group last items parted refusal is none (inl caused) = inl caused
-first_caused old new group last items parted refusal is none (inr (space, lacks)) = inr (
-  space,
-  subst (λ (o : Option Block). LacksNumbers old new group o items) (sym none) (subst (λ (p : Parted). LacksNumbersFrom 5 old.spaces p.made) is lacks),
-)
+pub first_refused : (old new : Store) (kept : KeptGroup) (group : ℕ) (items : Entry) (parted : Parted) (config : Config) (refusal : StoreRefusal) → parted ≡ parted_of items.actions
+    → kept.root ≡ None → config ≡ kept.config.value → IsFirstRefused old new group (config_view config) (with_made items parted) refusal
+    → IsNextRefused old new kept.root kept.directory.value (config_view kept.config.value) group items refusal
+first_refused old new kept group items parted config refusal is none its why =
+    subst (λ (o : Option Block). IsNextRefused old new o kept.directory.value (config_view kept.config.value) group items refusal) (sym none)
+    (subst (λ (at : Config). IsFirstRefused old new group (config_view at) (with_made items (parted_of items.actions)) refusal) its
+    (subst (λ (p : Parted). IsFirstRefused old new group (config_view config) (with_made items p) refusal) is why))
 
-pub later_caused : (old new : Store) (group : ℕ) (last : Option Block) (root : Block) (items : Entry) (parted : Parted) (refusal : StoreRefusal) → parted ≡ parted_of items.actions
-    → last ≡ Some root → IsCaused old new [] refusal ⊎ ((refusal ≡ store.NoSpace) × LacksNumbersUnder old new (group - 1) root parted.made)
-    → IsNextCaused old new group last items refusal
-later_caused old new group last root items parted refusal is some (inl caused) = inl caused
-later_caused old new group last root items parted refusal is some (inr (space, lacks)) = inr (
-  space,
-  subst (λ (o : Option Block). LacksNumbers old new group o items) (sym some) (subst (λ (p : Parted). LacksNumbersUnder old new (group - 1) root p.made) is lacks),
-)
+pub later_refused : (old new : Store) (kept : KeptGroup) (root : Block) (group : ℕ) (items : Entry) (parted : Parted) (rows : List DirectoryRow) (refusal : StoreRefusal)
+    → parted ≡ parted_of items.actions → kept.root ≡ Some root → rows ≡ kept.directory.value
+    → IsGroupRefused old new root rows group parted.destroyed (with_made items parted) refusal
+    → IsNextRefused old new kept.root kept.directory.value (config_view kept.config.value) group items refusal
+later_refused old new kept root group items parted rows refusal is some by why =
+    subst (λ (o : Option Block). IsNextRefused old new o kept.directory.value (config_view kept.config.value) group items refusal) (sym some)
+    (subst (λ (p : Parted). IsGroupRefused old new root kept.directory.value group p.destroyed (with_made items p) refusal) is
+    (subst (λ (list : List DirectoryRow). IsGroupRefused old new root list group parted.destroyed (with_made items parted) refusal) by why))

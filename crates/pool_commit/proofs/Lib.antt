@@ -27,6 +27,7 @@ pub mod Refusing
 pub mod Reopened
 pub mod Suspending
 pub mod Writing
+pub use Rattle.dataset_snapshots.proofs.Losses as SnapshotsLosses
 pub use Rattle.dataset_snapshots.proofs.Readings as SnapshotsReadings
 pub use Rattle.dataset_snapshots.proofs.Standing as SnapshotsStanding
 pub use Rattle.dataset_snapshots.proofs.MapsReadSets

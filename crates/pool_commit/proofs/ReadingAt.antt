@@ -8,7 +8,7 @@ use Rattle.pool_model.specs.Refusals.{read_refusal}
 use Rattle.pool_model.specs.View.{View}
 use Rattle.volume_rules.specs.Overlay.{bytes_or_zeros, HasRangeAt, StandsThere}
 use Rattle.pool_commit.specs.declared.refusal.Refusal.{Refusal}
-use Rattle.pool_commit.specs.Reading.{IsLost, IsLostAt}
+use Rattle.pool_commit.specs.Reading.{IsLostAt, IsLostUnder}
 use Rattle.pool_commit.specs.State.{State}
 use Rattle.pool_commit.proofs.ReadCauses.{no_cause_within, zeros_within}
 
@@ -30,6 +30,7 @@ no_cause_there pool name size offset len there within few =
     no_cause_within offset len name pool there.0 there.1 (omega arith) few
 
 -- a name that is given could not be read
-pub lost_at : (v : View) (old new : State) (given : Option (List ℕ)) (name : List ℕ) (refusal : Refusal) → given ≡ Some name → IsLost v [] old new old.store refusal
-    → IsLostAt v old new given refusal
-lost_at v old new given name refusal is lost = subst (λ (o : Option (List ℕ)). IsLostAt v old new o refusal) (sym is) lost
+pub lost_at : (v : View) (old new : State) (given : Option (List ℕ)) (name : List ℕ) (offset len : ℕ) (refusal : Refusal) → given ≡ Some name
+    → IsLostUnder v old new v.committed name offset len [] refusal → IsLostAt v old new given offset len refusal
+lost_at v old new given name offset len refusal is lost =
+    subst (λ (o : Option (List ℕ)). IsLostAt v old new o offset len refusal) (sym is) lost

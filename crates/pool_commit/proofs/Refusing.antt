@@ -1,20 +1,16 @@
 -- Refusals of the layers below.
-use Rattle.std.proofs.Common.{ℕ, ◌≡◌, ◌⊎◌, ◌∙◌, [], Option, Result, Ok, Err, inl, inr, refl, subst, sym}
-use Rattle.std.specs.Result.{IfErr}
+use Rattle.std.proofs.Common.{◌≡◌, ◌⊎◌, ◌∙◌, ap, subst, inl, inr, refl}
 use Rattle.block_store.specs.declared.refusal.Refusal.{Refusal as StoreRefusal}
 use Rattle.block_store.specs.declared.refusal.Refusal.TheVariants as store
-use Rattle.block_pointer.specs.declared.block.Block.{Block}
-use Rattle.block_store.specs.Causes.{IsCaused, RanShort}
-use Rattle.block_store.specs.Losses.{IsBlockLost, IsForLoss}
+use Rattle.block_store.specs.Losses.{IsForLoss}
 use Rattle.block_store.specs.Steps.{AnswersAreTrue}
 use Rattle.block_store.specs.Store.{Store}
+use Rattle.dnode_tree.specs.ReadRefusals.{IsForRead}
 use Rattle.dnode_tree.specs.Writes.{IsForRoom}
 use Rattle.pool_commit.specs.declared.refusal.Refusal.{Refusal}
 use Rattle.pool_commit.specs.declared.refusal.Refusal.TheVariants.{NoMemory, DiskFault, NoSpace, BadConfig}
 use Rattle.pool_commit.specs.Causes.{of_store}
-use Rattle.pool_model.specs.Pools.{Entry}
-use Rattle.pool_commit.specs.Reading.{IsFaultIn}
-use Rattle.pool_commit.specs.Room.{IsNextCaused, LacksNumbers}
+use Rattle.pool_commit.specs.Reading.{IsFaultIn, IsReadFault}
 
 -- a fault of disks is one of the store
 pub only_lost : (cause : StoreRefusal) → of_store cause ≡ DiskFault → cause ≡ store.DiskFault
@@ -42,14 +38,20 @@ not_for_plan cause memory space lost (inl (inl is)) = memory is
 not_for_plan cause memory space lost (inl (inr is)) = space is
 not_for_plan cause memory space lost (inr is) = lost is
 
+no_room_for_reads : ¬ IsForRead store.NoSpace
+no_room_for_reads (inl is) = cc
+no_room_for_reads (inr (inl is)) = cc
+no_room_for_reads (inr (inr (inl is))) = cc
+no_room_for_reads (inr (inr (inr is))) = cc
+
 -- a read of a pool that is whole is refused for want of memory or for a fault
-pub read_faults : (old new : Store) (cause : StoreRefusal) → ¬ (cause ≡ store.NoSpace) → (AnswersAreTrue old new → IsForLoss cause) → (of_store cause ≡ NoMemory) ⊎ IsFaultIn old new (of_store cause)
-read_faults old new store.NoMemory no_room known = inl refl
-read_faults old new store.DiskFault no_room known = inr (inl refl)
-read_faults old new store.NoSpace no_room known = absurd (no_room refl)
-read_faults old new store.BadPointer no_room known = inr (inr (inl refl, (λ true. not_for_loss store.BadPointer (λ e. cc) (λ e. cc) (known true))))
-read_faults old new store.BadDigest no_room known = inr (inr (inr refl, (λ true. not_for_loss store.BadDigest (λ e. cc) (λ e. cc) (known true))))
-read_faults old new store.BadConfig no_room known = inr (inr (inl refl, (λ true. not_for_loss store.BadConfig (λ e. cc) (λ e. cc) (known true))))
+pub read_faults : (old new : Store) (cause : StoreRefusal) → IsForRead cause → (AnswersAreTrue old new → IsForLoss cause) → (of_store cause ≡ NoMemory) ⊎ IsFaultIn old new (of_store cause)
+read_faults old new store.NoMemory for known = inl refl
+read_faults old new store.DiskFault for known = inr (inl refl)
+read_faults old new store.NoSpace for known = absurd (no_room_for_reads for)
+read_faults old new store.BadPointer for known = inr (inr (inl refl, (λ true. not_for_loss store.BadPointer (λ e. cc) (λ e. cc) (known true))))
+read_faults old new store.BadDigest for known = inr (inr (inr refl, (λ true. not_for_loss store.BadDigest (λ e. cc) (λ e. cc) (known true))))
+read_faults old new store.BadConfig for known = inr (inr (inl refl, (λ true. not_for_loss store.BadConfig (λ e. cc) (λ e. cc) (known true))))
 
 -- and a plan, or for want of room
 pub plan_faults : (old new : Store) (cause : StoreRefusal) → (AnswersAreTrue old new → IsForRoom cause ⊎ (cause ≡ store.DiskFault))
@@ -61,6 +63,15 @@ plan_faults old new store.BadPointer known = inr (inr (inr (inl refl, (λ true. 
 plan_faults old new store.BadDigest known = inr (inr (inr (inr refl, (λ true. not_for_plan store.BadDigest (λ e. cc) (λ e. cc) (λ e. cc) (known true)))))
 plan_faults old new store.BadConfig known = inr (inr (inr (inl refl, (λ true. not_for_plan store.BadConfig (λ e. cc) (λ e. cc) (λ e. cc) (known true)))))
 
+-- want of memory is no fault
+memory_is_none : ¬ IsReadFault NoMemory
+memory_is_none (inl is) = cc
+memory_is_none (inr (inl is)) = cc
+memory_is_none (inr (inr is)) = cc
+
+pub no_fault_of_memory : (refusal : Refusal) (cause : StoreRefusal) → refusal ≡ of_store cause → IsReadFault refusal → ¬ (cause ≡ store.NoMemory)
+no_fault_of_memory refusal cause answered fault memory = memory_is_none (subst IsReadFault (answered ∙ ap of_store memory) fault)
+
 -- no refusal of the store is one of a configuration
 pub no_config : (cause : StoreRefusal) → ¬ (of_store cause ≡ BadConfig)
 no_config store.NoMemory is = cc
@@ -69,20 +80,3 @@ no_config store.NoSpace is = cc
 no_config store.BadPointer is = cc
 no_config store.BadDigest is = cc
 no_config store.BadConfig is = cc
-
--- what is known twice of a refusal
-pub IfErr-both : {T E : Type 0} (result : Result T E) (P Q R : E → Type 0) → ((refusal : E) → P refusal → Q refusal → R refusal) → IfErr result P → IfErr result Q → IfErr result R
-IfErr-both (Ok x) P Q R both one two = tt
-IfErr-both (Err refusal) P Q R both one two = both refusal one two
-
--- of the next root: the block that was lost
-pub next_lost : (begun new : Store) (group : ℕ) (last : Option Block) (items : Entry) (cause : StoreRefusal) → cause ≡ store.DiskFault → IsNextCaused begun new group last items cause
-    → IsBlockLost begun new []
-next_lost begun new group last items cause is (inl caused) = subst (λ (r : StoreRefusal). IsCaused begun new [] r) is caused
-next_lost begun new group last items cause is (inr (space, lacks)) = absurd (let clash : store.DiskFault ≡ store.NoSpace = sym is ∙ space in cc)
-
--- and what was wanting
-pub room_lacks : (begun new : Store) (group : ℕ) (last : Option Block) (items : Entry) (cause : StoreRefusal) → cause ≡ store.NoSpace → IsNextCaused begun new group last items cause
-    → RanShort begun new [] ⊎ LacksNumbers begun new group last items
-room_lacks begun new group last items cause is (inl caused) = inl (subst (λ (r : StoreRefusal). IsCaused begun new [] r) is caused)
-room_lacks begun new group last items cause is (inr (space, lacks)) = inr lacks

@@ -14,7 +14,6 @@ use Rattle.raidz_io.proofs.Placed.{placed_at}
 use Rattle.block_store.specs.declared.refusal.Refusal.{Refusal as StoreRefusal}
 use Rattle.block_store.specs.declared.refusal.Refusal.TheVariants as store
 use Rattle.block_store.specs.Spaces.{VdevSpace}
-use Rattle.block_store.specs.Causes.{IsCaused}
 use Rattle.block_store.specs.Losses.{IsBlockLost, IsForLoss}
 use Rattle.block_store.specs.Places.{shapes_of}
 use Rattle.block_store.specs.Reading.{HaveFailed}
@@ -22,18 +21,25 @@ use Rattle.block_store.specs.Steps.{AnswersAreTrue}
 use Rattle.block_store.specs.Store.{Store, outs, outs_from, is_out}
 use Rattle.block_store.proofs.ReadingLost.{absent_earlier}
 use Rattle.block_store.proofs.ReadingSteps.{reads_on}
-use Rattle.pool_model.specs.Pools.{PlainPool, volume_at}
+use Rattle.meta_objset.specs.declared.directory.DirectoryRow.{DirectoryRow}
+use Rattle.pool_model.specs.Pools.{Entry, PlainPool, volume_at}
 use Rattle.pool_model.specs.Refusals.{read_refusal}
 use Rattle.pool_model.specs.View.{View, Vdev, lost_in}
+use Rattle.dataset_snapshots.proofs.Losses.{losses_by_rows, losses_of_destroys, losses_of_first_groups, losses_of_groups}
+use Rattle.dataset_snapshots.proofs.ReadRefusals.{reads_need_no_room}
+use Rattle.dataset_snapshots.specs.Ranges.{IsRangeRefusedIn}
+use Rattle.volume_rules.specs.Parting.{destroyed_by, made_by}
+use Rattle.pool_commit.specs.declared.kept.KeptGroup.{KeptGroup}
 use Rattle.pool_commit.specs.declared.refusal.Refusal.{Refusal}
 use Rattle.pool_commit.specs.declared.refusal.Refusal.TheVariants.{DiskFault, NoMemory}
 use Rattle.pool_commit.specs.Backs.{Backs}
 use Rattle.pool_commit.specs.Calls.{unread_between}
 use Rattle.pool_commit.specs.Causes.{of_store}
 use Rattle.pool_commit.specs.Config.{shown, vdevs_of}
-use Rattle.pool_commit.specs.Reading.{IsFaultIn, IsLost, IsLostForPlan, IsReadCause, LosesOn, is_lost}
-use Rattle.pool_commit.specs.Room.{BeginsPlan}
-use Rattle.pool_commit.specs.State.{State}
+use Rattle.vdev_label.specs.Plain.{PlainVdev, config_view}
+use Rattle.pool_commit.specs.Reading.{IsFaultIn, IsLost, IsLostForPlan, IsLostUnder, IsReadCause, IsUnreadForPlan, IsUnreadOf, LosesOn, is_lost}
+use Rattle.pool_commit.specs.Room.{IsNextRefused}
+use Rattle.pool_commit.specs.State.{State, group_at}
 use Rattle.pool_commit.proofs.Planning.{same_vdevs}
 use Rattle.pool_commit.proofs.Refusing.{only_lost, read_faults}
 use Rattle.pool_commit.proofs.Tolerating.{vdev_at, lost_disks, length_lost, among_lost, absent_is_lost}
@@ -128,32 +134,58 @@ lost_in_states v missing old new start refusal disks from loses (inr (inr is, un
 
 -- ---- reads and plans
 
--- the block that was lost, where that is the cause
-pub block_lost : (old new : Store) (missing : List ℕ) (cause : StoreRefusal) (refusal : Refusal) → refusal ≡ of_store cause → IsCaused old new missing cause
-    → refusal ≡ DiskFault → IsBlockLost old new missing
-block_lost old new missing cause refusal answered caused is =
-    subst (λ (r : StoreRefusal). IsCaused old new missing r) (only_lost cause (sym answered ∙ is)) caused
+-- what a range was refused for by rows that are those that are kept
+pub by_kept_rows : (old new : Store) (missing : List ℕ) (birth : ℕ) (root : Block) (rows kept : List DirectoryRow) (name : List ℕ) (offset len : ℕ) (cause : StoreRefusal) → rows ≡ kept
+    → (cause ≡ store.NoMemory) ⊎ IsRangeRefusedIn old new missing birth root rows name offset len cause
+    → (cause ≡ store.NoMemory) ⊎ IsRangeRefusedIn old new missing birth root kept name offset len cause
+by_kept_rows old new missing birth root rows kept name offset len cause same =
+    subst (λ (list : List DirectoryRow). (cause ≡ store.NoMemory) ⊎ IsRangeRefusedIn old new missing birth root list name offset len cause) same
 
--- a range of a whole pool that is there is refused for want of memory or for a fault
-pub read_refused : (old new : Store) (name : List ℕ) (offset len : ℕ) (pool : PlainPool) (cause : StoreRefusal) (refusal : Refusal) → refusal ≡ of_store cause
-    → read_refusal offset len (volume_at name pool) ≡ None → ¬ (cause ≡ store.NoSpace) → (AnswersAreTrue old new → IsForLoss cause)
+-- a range was refused by the directory that is kept
+pub unread_of : (old new : Store) (kept : KeptGroup) (birth : ℕ) (root : Block) (name : List ℕ) (offset len : ℕ) (missing : List ℕ) (cause : StoreRefusal) (refusal : Refusal)
+    → kept.root ≡ Some root → refusal ≡ of_store cause → IsRangeRefusedIn old new missing birth root kept.directory.value name offset len cause
+    → IsUnreadOf old new kept birth name offset len missing refusal
+unread_of old new kept birth root name offset len missing cause refusal is answered why = record {
+  root = root;
+  is_root = is;
+  cause = cause;
+  unread = why;
+  for_read = reads_need_no_room.ranges_in old new missing birth root kept.directory.value name offset len cause why;
+  answered = answered;
+}
+
+-- and of a pool that is whole one that is there, for want of memory or for a fault
+pub read_refused : (old new : Store) (kept : KeptGroup) (birth : ℕ) (root : Block) (name : List ℕ) (offset len : ℕ) (missing : List ℕ) (pool : PlainPool) (cause : StoreRefusal)
+    (refusal : Refusal) → kept.root ≡ Some root → refusal ≡ of_store cause → read_refusal offset len (volume_at name pool) ≡ None
+    → IsRangeRefusedIn old new missing birth root kept.directory.value name offset len cause → (AnswersAreTrue old new → IsForLoss cause)
     → (refusal ≡ NoMemory) ⊎ (IsReadCause (read_refusal offset len (volume_at name pool)) refusal
-    ⊎ ((read_refusal offset len (volume_at name pool) ≡ None) × IsFaultIn old new refusal))
-read_refused old new name offset len pool cause refusal answered none no_room known =
+    ⊎ ((read_refusal offset len (volume_at name pool) ≡ None) × IsUnreadOf old new kept birth name offset len missing refusal × IsFaultIn old new refusal))
+read_refused old new kept birth root name offset len missing pool cause refusal is answered none why known =
     ⊎_elim (λ memory. inl (answered ∙ memory))
-    (λ fault. inr (inr (none, subst (IsFaultIn old new) (sym answered) fault)))
-    (read_faults old new cause no_room known)
+    (λ fault. inr (inr (none, unread_of old new kept birth root name offset len missing cause refusal is answered why, subst (IsFaultIn old new) (sym answered) fault)))
+    (read_faults old new cause (reads_need_no_room.ranges_in old new missing birth root kept.directory.value name offset len cause why) known)
 
-pub lost_by_reads : (v : View) (old : State) (new : Store) (missing : List ℕ) (refusal : Refusal) → Backs old v → OnlyReads old.store.disks new.disks
-    → (refusal ≡ DiskFault → IsBlockLost old.store new missing) → IsFaultIn old.store new refusal
-    → IsLost v missing old (record old { store = new }) old.store refusal
-lost_by_reads v old new missing refusal backs reads lost fault =
-    lost_in_states v missing old (record old { store = new }) old.store refusal refl (record { vdevs = backs.vdevs; out = backs.out; reads = reads }) lost fault
+pub lost_under : (v : View) (old : State) (new : Store) (group : ℕ) (kept : KeptGroup) (name : List ℕ) (offset len : ℕ) (missing : List ℕ) (refusal : Refusal)
+    → Backs old v → group_at old.kept group ≡ Some kept → OnlyReads old.store.disks new.disks
+    → IsUnreadOf old.store new kept group name offset len missing refusal → IsFaultIn old.store new refusal
+    → IsLostUnder v old (record old { store = new }) group name offset len missing refusal
+lost_under v old new group kept name offset len missing refusal backs is_kept reads is fault = record {
+  unread = record { under = kept; kept = is_kept; unread = is };
+  lost = lost_in_states v missing old (record old { store = new }) old.store refusal refl (record { vdevs = backs.vdevs; out = backs.out; reads = reads })
+      (λ lost. losses_by_rows.ranges old.store new missing group is.root kept.directory.value name offset len is.cause is.unread (only_lost is.cause (sym is.answered ∙ lost))) fault;
+}
 
-pub lost_for_plan : (v : View) (old new : State) (begun : Store) (begins : BeginsPlan old begun) (refusal : Refusal) → Backs (record old { store = begun; planned = None }) v
-    → OnlyReads begun.disks new.store.disks → (refusal ≡ DiskFault → IsBlockLost begun new.store []) → IsFaultIn begun new.store refusal → IsLostForPlan v old new refusal
-lost_for_plan v old new begun begins refusal backs reads lost fault = record {
-  begun = begun;
-  begins = begins;
-  lost = lost_in_states v [] old new begun refusal begins.is_begun.disks (record { vdevs = backs.vdevs; out = backs.out; reads = reads }) lost fault;
+next_lost : (old new : Store) (last : Option Block) (rows : List DirectoryRow) (vdevs : List PlainVdev) (group : ℕ) (items : Entry) (refusal : StoreRefusal)
+    → IsNextRefused old new last rows vdevs group items refusal → refusal ≡ store.DiskFault → IsBlockLost old new []
+next_lost old new (Some root) rows vdevs group items refusal why is = losses_of_groups losses_of_destroys old new root rows group (destroyed_by items) (made_by items) refusal why is
+next_lost old new None rows vdevs group items refusal why is = losses_of_first_groups old new group vdevs (made_by items) refusal why is
+
+pub lost_for_plan : (v : View) (old new : State) (items : Entry) (refusal : Refusal) (is : IsUnreadForPlan old new items refusal)
+    → Backs (record old { store = is.refused.begun; planned = None }) v → OnlyReads is.refused.begun.disks new.store.disks
+    → IsFaultIn is.refused.begun new.store refusal → IsLostForPlan v old new items refusal
+lost_for_plan v old new items refusal is backs reads fault = record {
+  unread = is;
+  lost = lost_in_states v [] old new is.refused.begun refusal is.refused.is_begun.disks (record { vdevs = backs.vdevs; out = backs.out; reads = reads })
+      (λ lost. next_lost is.refused.begun new.store old.kept.last.root old.kept.last.directory.value (config_view old.kept.last.config.value) is.refused.group items is.cause is.refused.why
+      (only_lost is.cause (sym is.answered ∙ lost))) fault;
 }

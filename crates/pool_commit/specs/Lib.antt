@@ -21,6 +21,7 @@ pub mod Space
 pub mod Suspension
 pub mod Writing
 pub use Rattle.dataset_snapshots.specs.Contents
+pub use Rattle.dataset_snapshots.specs.Finding as SnapshotsFinding
 pub use Rattle.dataset_snapshots.specs.Mapped
 pub use Rattle.dataset_snapshots.specs.Pools
 pub use Rattle.dataset_snapshots.specs.Reach

@@ -5,20 +5,26 @@ use Rattle.raidz_io.specs.Reads.{OnlyReads, AreUntouched, IsHonestSince}
 use Rattle.block_pointer.specs.declared.block.Block.{Block}
 use Rattle.block_pointer.specs.declared.dva.Dva.{Dva}
 use Rattle.block_pointer.specs.Copies.{dvas}
+use Rattle.block_store.specs.declared.refusal.Refusal.{Refusal as StoreRefusal}
 use Rattle.block_store.specs.Store.{Store, outs}
 use Rattle.block_store.specs.Losses.{IsBlockLost}
 use Rattle.block_store.specs.Steps.{AnswersAreTrue}
+use Rattle.dataset_snapshots.specs.Ranges.{IsRangeRefusedIn}
+use Rattle.dnode_tree.specs.ReadRefusals.{IsForRead}
+use Rattle.pool_model.specs.Pools.{Entry}
 use Rattle.pool_model.specs.View.{View, Vdev, is_away, lost_in}
 use Rattle.pool_model.specs.declared.refusal.Refusal.TheVariants as causes
 use Rattle.pool_model.specs.declared.refusal.Refusal.{Refusal as Cause}
 use Rattle.pool_model.specs.declared.step.Step.TheVariants.{ReadUnder}
 use Rattle.pool_model.specs.Refusals.{refusal_of}
+use Rattle.pool_commit.specs.declared.kept.KeptGroup.{KeptGroup}
 use Rattle.pool_commit.specs.declared.refusal.Refusal.{Refusal}
 use Rattle.pool_commit.specs.declared.refusal.Refusal.TheVariants.{DiskFault, BadPointer, BadDigest, NoSuchName, OutOfRange, GroupGone}
 use Rattle.pool_commit.specs.Backs.{Backs}
 use Rattle.pool_commit.specs.Calls.{unread_between}
-use Rattle.pool_commit.specs.Room.{BeginsPlan}
-use Rattle.pool_commit.specs.State.{State}
+use Rattle.pool_commit.specs.Causes.{of_store}
+use Rattle.pool_commit.specs.Room.{IsPlanRefused}
+use Rattle.pool_commit.specs.State.{State, group_at}
 
 -- what the disks answered since is true
 abbrev pub PoolAnswersTruly : State → State → Type 0
@@ -34,6 +40,10 @@ pub record OnlyReadsPool (old new : State) (missing : List ℕ) : Type 0 where
 -- the disks that are missing for a read: away, named, or failing in it
 abbrev pub is_lost : View → List ℕ → List ℕ → ℕ → Bool
 is_lost v missing unread disk = is_away v disk || (list_any (λ d. d == disk) missing || list_any (λ d. d == disk) unread)
+
+-- a block could not be read
+abbrev pub IsReadFault : Refusal → Type 0
+IsReadFault refusal = (refusal ≡ DiskFault) ⊎ ((refusal ≡ BadPointer) ⊎ (refusal ≡ BadDigest))
 
 -- a block could not be read: for lack of disks, or as not all that they answered is true
 abbrev pub IsFaultIn : Store → Store → Refusal → Type 0
@@ -65,16 +75,47 @@ IsLost v missing old new since BadPointer = ¬ PoolAnswersTruly old new
 IsLost v missing old new since BadDigest = ¬ PoolAnswersTruly old new
 IsLost v missing old new since refusal = ⊥
 
--- so it is of what the committed pool has at a name, where there are bytes to be read
-abbrev pub IsLostAt : View → State → State → Option (List ℕ) → Refusal → Type 0
-IsLostAt v old new None refusal = ⊥
-IsLostAt v old new (Some name) refusal = IsLost v [] old new old.store refusal
+-- a range of the volume of that name was refused, as it is read by the group's root and the directory that is kept: that is the answer,
+-- and neither room nor a block of the directory is the cause
+pub record IsUnreadOf (old new : Store) (kept : KeptGroup) (birth : ℕ) (name : List ℕ) (offset len : ℕ) (missing : List ℕ)
+    (refusal : Refusal) : Type 0 where
+  pub root : Block
+  pub is_root : kept.root ≡ Some root
+  pub cause : StoreRefusal
+  pub unread : IsRangeRefusedIn old new missing birth root kept.directory.value name offset len cause
+  pub for_read : IsForRead cause
+  pub answered : refusal ≡ of_store cause
 
--- and since a plan was begun
-pub record IsLostForPlan (v : View) (old new : State) (refusal : Refusal) : Type 0 where
-  pub begun : Store
-  pub begins : BeginsPlan old begun
-  pub lost : IsLost v [] old new begun refusal
+-- so it is under a kept group
+pub record IsUnreadUnder (old new : State) (group : ℕ) (name : List ℕ) (offset len : ℕ) (missing : List ℕ) (refusal : Refusal) : Type 0 where
+  pub under : KeptGroup
+  pub kept : group_at old.kept group ≡ Some under
+  pub unread : IsUnreadOf old.store new.store under group name offset len missing refusal
+
+-- so it is under a kept group, with no disk missing but those that are out, where there are bytes to be read
+abbrev pub IsUnreadAt : State → State → ℕ → Option (List ℕ) → ℕ → ℕ → Refusal → Type 0
+IsUnreadAt old new group None offset len refusal = ⊥
+IsUnreadAt old new group (Some name) offset len refusal = IsUnreadUnder old new group name offset len [] refusal
+
+-- since a plan was begun the root after the items was refused: that is the answer
+pub record IsUnreadForPlan (old new : State) (items : Entry) (refusal : Refusal) : Type 0 where
+  pub cause : StoreRefusal
+  pub refused : IsPlanRefused old new.store items cause
+  pub answered : refusal ≡ of_store cause
+
+-- there is such a refusal, and this is why
+pub record IsLostUnder (v : View) (old new : State) (group : ℕ) (name : List ℕ) (offset len : ℕ) (missing : List ℕ) (refusal : Refusal) : Type 0 where
+  pub unread : IsUnreadUnder old new group name offset len missing refusal
+  pub lost : IsLost v missing old new old.store refusal
+
+-- so it is of the committed group, where there are bytes to be read
+abbrev pub IsLostAt : View → State → State → Option (List ℕ) → ℕ → ℕ → Refusal → Type 0
+IsLostAt v old new None offset len refusal = ⊥
+IsLostAt v old new (Some name) offset len refusal = IsLostUnder v old new v.committed name offset len [] refusal
+
+pub record IsLostForPlan (v : View) (old new : State) (items : Entry) (refusal : Refusal) : Type 0 where
+  pub unread : IsUnreadForPlan old new items refusal
+  pub lost : IsLost v [] old new unread.refused.begun refusal
 
 -- the view has no cause against the read
 abbrev pub HasNoCause : View → ℕ → List ℕ → ℕ → ℕ → Type 0

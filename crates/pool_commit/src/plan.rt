@@ -3,7 +3,6 @@ ghost use Rattle.std.specs.Prelude.{◌≡◌, ◌⊎◌, ◌↔◌, ◌<◌, �
 ghost use Rattle.block_pointer.specs.Block.{FitsBlock};
 ghost use Rattle.block_pointer.specs.declared.block.Block.{Block};
 ghost use Rattle.block_store.specs.Blocks.{Contents, Extends, AreDistinct, AreStored};
-ghost use Rattle.block_store.specs.Causes.{IsCaused};
 ghost use Rattle.block_store.specs.Places.{filled};
 ghost use Rattle.block_store.specs.Plans.{Plans};
 ghost use Rattle.block_store.specs.Releases.{copies_of_all, AreReleased, AreAllInUse};
@@ -22,13 +21,14 @@ ghost use Rattle.volume_rules.specs.Parting.{with_made};
 ghost use Rattle.block_store.specs.declared.refusal.Refusal.TheVariants as lost_blocks;
 ghost use Rattle.dataset_snapshots.specs.Groups.{IsReachExchanged};
 ghost use Rattle.dataset_snapshots.specs.Laws.{AreGoodChanges};
-ghost use Rattle.dataset_snapshots.specs.Causes.{LacksNumbersFrom};
+ghost use Rattle.dataset_snapshots.specs.FirstGroup.{IsFirstRefused};
 ghost use Rattle.vdev_label.specs.Plain.{config_view};
 ghost use Rattle.pool_commit.specs.Configs.{FitsTable};
 ghost use Rattle.pool_commit.specs.Backs.{Backs, BeginsWithMaps, LeadsTo, LeavesMaps, SpellsGroup, SpellsRoot};
 ghost use Rattle.pool_commit.specs.Directories.{SpellsBy};
-ghost use Rattle.pool_commit.specs.Reading.{PoolAnswersTruly, IsLostForPlan};
-ghost use Rattle.pool_commit.specs.Room.{LacksRoom, IsNextCaused};
+ghost use Rattle.pool_commit.specs.Reading.{PoolAnswersTruly, IsReadFault};
+ghost use Rattle.pool_commit.specs.Reading.{IsUnreadForPlan, IsLostForPlan};
+ghost use Rattle.pool_commit.specs.Room.{LacksRoom, IsNextRefused};
 ghost use Rattle.pool_commit.specs.Space.{GivesBack};
 ghost use Rattle.pool_commit.specs.State.{HasNoPlan};
 ghost use Rattle.pool_commit.specs.StateOf.{state_of, disks_in, outs_in};
@@ -79,9 +79,8 @@ fn first_root<D: Disk + Drop>(
         → Plans store.old stored planned → UseNothing store.old.spaces filled
         → AnswersAreTrue store.old store.new → AreGoodChanges parted.now.made
         → IsForRoom refusal ⊎ (refusal ≡ lost_blocks.DiskFault)) }
-    ensures caused { IfErr result (λ refusal. IsCaused store.old store.new [] refusal
-        ⊎ ((refusal ≡ lost_blocks.NoSpace)
-        × LacksNumbersFrom 5 store.old.spaces parted.now.made)) }
+    ensures refused { IfErr result (IsFirstRefused store.old store.new group
+        (config_view config.now) (with_made items.now parted.now)) }
 {
     small_configs_fit();
     first_group(store, alloc, config, group, parted, items)
@@ -128,8 +127,8 @@ fn root_after<D: Disk + Drop>(
         → AnswersAreTrue store.old store.new → MakesGoodVolumes items.now
         → GroupTakesEffect group pool items.now
         → IsForRoom refusal ⊎ (refusal ≡ lost_blocks.DiskFault)) }
-    ensures caused { IfErr result
-        (IsNextCaused store.old store.new group last.now.root items.now) }
+    ensures refused { IfErr result (IsNextRefused store.old store.new last.now.root
+        last.now.directory.value (config_view last.now.config.value) group items.now) }
 {
     let parted = part(alloc, items.actions())?;
     match &last.root {
@@ -232,8 +231,8 @@ fn group_after<D: Disk + Drop>(
         → AnswersAreTrue store.old store.new → MakesGoodVolumes items.now
         → GroupTakesEffect group pool items.now
         → IsForRoom refusal ⊎ (refusal ≡ lost_blocks.DiskFault)) }
-    ensures caused { IfErr result
-        (IsNextCaused store.old store.new group last.now.root items.now) }
+    ensures refused { IfErr result (IsNextRefused store.old store.new last.now.root
+        last.now.directory.value (config_view last.now.config.value) group items.now) }
 {
     let config = Arc::try_clone(&last.config)?;
     let names = names_after(&last.names, alloc, group, items)?;
@@ -308,19 +307,23 @@ impl<D: Disk + Drop> Commit<D> {
             → (calls : List DueCall) × IsPlan v calls
             × Backs (state_of self.new) (record v { sync = Due calls })) }
 
-        // Some block finds no place behind what was planned, or no number is left for an object of what the group makes.
+        // One of the group's own blocks finds no place, behind what is stored and others of them, or no number is left for an
+        // object of a new volume.
         ensures full { IfErr result (λ refusal. refusal ≡ Refusal.NoSpace
             → LacksRoom (state_of self.old) items.now) }
 
         ensures bad { IfErr result (λ refusal. refusal ≡ Refusal.BadConfig
             → ¬ MakesGoodVolumes items.now) }
 
+        // A block that the group changes was read last, and could not be read.
+        ensures unread { IfErr result (λ refusal. IsReadFault refusal
+            → IsUnreadForPlan (state_of self.old) (state_of self.new) items.now refusal) }
         ensures refused { IfErr result (λ refusal. (v : View) → Backs (state_of self.old) v
             → is_planned v.sync ≡ false → v.committed < 2 ^ 62
             → items.now ≡ v.ledger (suc v.committed) → MakesGoodVolumes items.now
             → GroupTakesEffect (suc v.committed) (v.pools v.committed) items.now
             → (refusal ≡ Refusal.NoMemory)
-            ⊎ (IsLostForPlan v (state_of self.old) (state_of self.new) refusal
+            ⊎ (IsLostForPlan v (state_of self.old) (state_of self.new) items.now refusal
             ⊎ (refusal ≡ Refusal.NoSpace))) }
     {
         let group = self.kept.committed().saturating_add(1);

@@ -6,15 +6,15 @@ ghost use Rattle.pool_model.specs.Pools.{volume_at};
 ghost use Rattle.pool_model.specs.View.{View};
 ghost use Rattle.volume_rules.specs.Overlay.{HasRangeAt, StandsThere};
 ghost use Rattle.block_store.specs.Blocks.{Contents};
-ghost use Rattle.block_store.specs.Losses.{IsBlockLost};
 ghost use Rattle.block_store.specs.Steps.{OnlyReadsBlocks, AnswersAreTrue};
 ghost use Rattle.block_store.specs.Store.{Holds};
 ghost use Rattle.pool_model.specs.Pools.{PlainPool};
 ghost use Rattle.pool_model.specs.Refusals.{read_refusal};
 ghost use Rattle.pool_commit.specs.Backs.{Backs, SpellsGroup};
 ghost use Rattle.pool_commit.specs.StateOf.{state_of};
-ghost use Rattle.pool_commit.specs.Reading.{PoolAnswersTruly, OnlyReadsPool, IsFaultIn};
-ghost use Rattle.pool_commit.specs.Reading.{HasNoCause, IsUnderCause, IsReadCause, IsLost, IsLostAt};
+ghost use Rattle.pool_commit.specs.Reading.{PoolAnswersTruly, OnlyReadsPool, IsReadFault};
+ghost use Rattle.pool_commit.specs.Reading.{IsFaultIn, IsUnreadOf, IsUnreadUnder, IsLostUnder};
+ghost use Rattle.pool_commit.specs.Reading.{HasNoCause, IsUnderCause, IsReadCause, IsLostAt, IsUnreadAt};
 
 use crate::commit::Commit;
 use crate::kept::KeptGroup;
@@ -48,9 +48,11 @@ fn read_of<D: Disk + Drop>(
         → (refusal ≡ Refusal.NoMemory)
         ⊎ (IsReadCause (read_refusal range.now.offset range.now.len (volume_at range.now.name.now pool)) refusal
         ⊎ ((read_refusal range.now.offset range.now.len (volume_at range.now.name.now pool) ≡ None)
-        × IsFaultIn store.old store.new refusal))) }
-    ensures lost { IfErr result (λ refusal. refusal ≡ Refusal.DiskFault
-        → IsBlockLost store.old store.new missing.now) }
+        × IsUnreadOf store.old store.new kept.now birth range.now.name.now range.now.offset range.now.len
+        missing.now refusal × IsFaultIn store.old store.new refusal))) }
+    ensures unread { IfErr result (λ refusal. IsReadFault refusal
+        → IsUnreadOf store.old store.new kept.now birth range.now.name.now range.now.offset range.now.len
+        missing.now refusal) }
 {
     let Some(shape) = kept.names().find(range.name) else {
         return Err(Refusal::NoSuchName);
@@ -86,8 +88,13 @@ impl<D: Disk + Drop> Commit<D> {
         ensures refused { IfErr result (λ refusal. (v : View) → Backs (state_of self.old) v
             → (refusal ≡ Refusal.NoMemory) ⊎ (IsUnderCause v group name.now offset len refusal
             ⊎ (HasNoCause v group name.now offset len
-            × IsLost v missing.now (state_of self.old) (state_of self.new)
-            (state_of self.old).store refusal))) }
+            × IsLostUnder v (state_of self.old) (state_of self.new) group name.now offset len
+            missing.now refusal))) }
+
+        // A block in which the range lies was read last, and could not be read.
+        ensures unread { IfErr result (λ refusal. IsReadFault refusal
+            → IsUnreadUnder (state_of self.old) (state_of self.new) group name.now offset len
+            missing.now refusal) }
     {
         let Some(kept) = self.kept.group(group) else {
             return Err(Refusal::GroupGone);
@@ -117,7 +124,10 @@ impl<D: Disk + Drop> Commit<D> {
             → StandsThere (option_copied name.entry) (v.pools v.committed) size → offset + len ≤ size
             → (refusal ≡ Refusal.NoMemory)
             ⊎ IsLostAt v (state_of self.old) (state_of self.new) (option_copied name.entry)
-            refusal) }
+            offset len refusal) }
+        ensures unread { IfErr result (λ refusal. IsReadFault refusal
+            → IsUnreadAt (state_of self.old) (state_of self.new)
+            (state_of self.old).kept.committed (option_copied name.entry) offset len refusal) }
     {
         let Some(name) = name else {
             return Ok(vec![in alloc; 0; len as usize]?);

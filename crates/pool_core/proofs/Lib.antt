@@ -5,6 +5,7 @@ pub mod ReadSteps
 pub mod Running
 pub mod Moving
 pub mod Sharing
+pub use Rattle.pool_commit.proofs.SnapshotsLosses
 pub use Rattle.pool_commit.proofs.SnapshotsReadings
 pub use Rattle.pool_commit.proofs.SnapshotsStanding
 pub use Rattle.pool_commit.proofs.Disks as CommitDisks

@@ -30,7 +30,7 @@ use Rattle.pool_commit.specs.declared.kept.Planned.{Planned as PlannedGroup}
 use Rattle.pool_commit.specs.Backs.{Backs, IsPlanOf, IsReachOfPlan}
 use Rattle.pool_commit.specs.Calls.{disk_call, plan_call, fault_call, unread_call, told_since, made_between, faults_between, unread_between, GrewTo, which_call, called_between}
 use Rattle.pool_commit.specs.Progress.{AreMade, Progresses, EndsWell, fault_list, given_calls}
-use Rattle.pool_commit.specs.Reading.{IsLost, IsLostForPlan}
+use Rattle.pool_commit.specs.Reading.{IsLostUnder, IsLostForPlan}
 use Rattle.pool_commit.specs.Room.{LacksRoom}
 use Rattle.pool_commit.specs.State.{State}
 use Rattle.pool_commit.proofs.Made.{told_by_none}
@@ -42,7 +42,7 @@ use Rattle.std.specs.List.{AllByRecursion}
 use Rattle.pool_commit.specs.declared.refusal.Refusal.{Refusal}
 use Rattle.pool_commit.specs.declared.refusal.Refusal.TheVariants.{NoMemory, DiskFault, NoSpace, BadPointer, BadDigest}
 use Rattle.pool_commit.specs.Causes.{cause_of}
-use Rattle.pool_core.specs.Reading.{LosesOne, LosesForPlan}
+use Rattle.pool_core.specs.Reading.{LosesUnder, LosesForPlan}
 use Rattle.pool_core.specs.Represents.{Represents}
 use Rattle.pool_core.specs.State.{CoreState, disks_of}
 use Rattle.pool_core.specs.Steps.{AwayIsUntouched, AreFlushed, ShowsGroup, PoolAnswersTruly, LosesBlock, FindsNoRoom, IsGiven, Goes}
@@ -119,28 +119,29 @@ none_lost P vdev e = absurd (cc)
 this_lost : (P : Vdev → Type 0) (lost vdev : Vdev) → P lost → Some lost ≡ Some vdev → P vdev
 this_lost P lost vdev p e = let same : lost ≡ vdev = cc in subst P same p
 
-pub read_given : (v : View) (old new : CoreState) (trusted : Bool) (refusal : Refusal) → IsLost v [] old.commit new.commit old.commit.store refusal
-    → (trusted ≡ true → PoolAnswersTruly old new) → GivesLost v old new trusted (cause_of refusal) (LosesOne v old.commit new.commit)
-read_given v old new trusted DiskFault is honest = record {
-  lost = Some is.0;
-  unreadable = (is.0, refl, record { there = is.2.0; more = is.2.1 });
-  loses = λ vdev e. this_lost (LosesOne v old.commit new.commit) is.0 vdev is.1 e;
-}
-read_given v old new trusted BadPointer is honest = record { lost = None; unreadable = untrusted trusted honest is; loses = none_lost _ }
-read_given v old new trusted BadDigest is honest = record { lost = None; unreadable = untrusted trusted honest is; loses = none_lost _ }
-read_given v old new trusted refusal is honest = absurd is
-
-pub plan_given : (v : View) (old new : CoreState) (trusted : Bool) (refusal : Refusal)
-    → IsLostForPlan v old.commit new.commit refusal → (trusted ≡ true → PoolAnswersTruly old new)
-    → GivesLost v old new trusted (cause_of refusal) (LosesForPlan v old.commit new.commit)
-plan_given v old new trusted DiskFault is honest = record {
+pub under_given : (v : View) (old new : CoreState) (trusted : Bool) (group : ℕ) (name : List ℕ) (offset len : ℕ) (refusal : Refusal)
+    → IsLostUnder v old.commit new.commit group name offset len [] refusal → (trusted ≡ true → PoolAnswersTruly old new)
+    → GivesLost v old new trusted (cause_of refusal) (LosesUnder v old.commit new.commit group name offset len)
+under_given v old new trusted group name offset len DiskFault is honest = record {
   lost = Some is.lost.0;
   unreadable = (is.lost.0, refl, record { there = is.lost.2.0; more = is.lost.2.1 });
-  loses = λ vdev e. this_lost (LosesForPlan v old.commit new.commit) is.lost.0 vdev (record { begun = is.begun; begins = is.begins; on = is.lost.1 }) e;
+  loses = λ vdev e. this_lost (LosesUnder v old.commit new.commit group name offset len) is.lost.0 vdev (record { unread = is.unread; on = is.lost.1 }) e;
 }
-plan_given v old new trusted BadPointer is honest = record { lost = None; unreadable = untrusted trusted honest is.lost; loses = none_lost _ }
-plan_given v old new trusted BadDigest is honest = record { lost = None; unreadable = untrusted trusted honest is.lost; loses = none_lost _ }
-plan_given v old new trusted refusal is honest = absurd is.lost
+under_given v old new trusted group name offset len BadPointer is honest = record { lost = None; unreadable = untrusted trusted honest is.lost; loses = none_lost _ }
+under_given v old new trusted group name offset len BadDigest is honest = record { lost = None; unreadable = untrusted trusted honest is.lost; loses = none_lost _ }
+under_given v old new trusted group name offset len refusal is honest = absurd is.lost
+
+pub plan_given : (v : View) (old new : CoreState) (trusted : Bool) (items : Entry) (refusal : Refusal)
+    → IsLostForPlan v old.commit new.commit items refusal → (trusted ≡ true → PoolAnswersTruly old new)
+    → GivesLost v old new trusted (cause_of refusal) (LosesForPlan v old.commit new.commit items)
+plan_given v old new trusted items DiskFault is honest = record {
+  lost = Some is.lost.0;
+  unreadable = (is.lost.0, refl, record { there = is.lost.2.0; more = is.lost.2.1 });
+  loses = λ vdev e. this_lost (LosesForPlan v old.commit new.commit items) is.lost.0 vdev (record { unread = is.unread; on = is.lost.1 }) e;
+}
+plan_given v old new trusted items BadPointer is honest = record { lost = None; unreadable = untrusted trusted honest is.lost; loses = none_lost _ }
+plan_given v old new trusted items BadDigest is honest = record { lost = None; unreadable = untrusted trusted honest is.lost; loses = none_lost _ }
+plan_given v old new trusted items refusal is honest = absurd is.lost
 
 -- reads and plans that touch no disk that is out
 pub spares_outs : (s : CoreState) (commit : State) (intake : Intake) (v : View) (missing : List ℕ) → Represents s v → AreUntouched (outs s.commit.store ++ missing) (disks_of s) commit.store.disks
@@ -431,7 +432,7 @@ plans s intake commit v trusted timestamp group calls none f is plan backs reads
 pub plan_refused : (s : CoreState) (intake : Intake) (commit : State) (v : View) (trusted : Bool) (timestamp : ℕ) (refusal : Refusal) (named : Cause) → named ≡ cause_of refusal
     → refusal_of v (Plan timestamp) ≡ None → Follows intake (taken v Unplanned) → Backs commit (taken v Unplanned) → OnlyReads (disks_of s) commit.store.disks → AwayIsUntouched s v (record { intake = intake; commit = commit })
     → (trusted ≡ true → PoolAnswersTruly s (record { intake = intake; commit = commit })) → (refusal ≡ NoSpace → LacksRoom s.commit (v.ledger (suc v.committed)))
-    → (refusal ≡ NoMemory) ⊎ (IsLostForPlan (taken v Unplanned) s.commit commit refusal ⊎ (refusal ≡ NoSpace))
+    → (refusal ≡ NoMemory) ⊎ (IsLostForPlan (taken v Unplanned) s.commit commit (v.ledger (suc v.committed)) refusal ⊎ (refusal ≡ NoSpace))
     → Goes s v trusted (Plan timestamp) (Refused named) (record { intake = intake; commit = commit })
 plan_refused s intake commit v trusted timestamp refusal named is none f backs reads spared honest full why =
     subst (λ (c : Cause). Goes s v trusted (Plan timestamp) (Refused c) new) (sym is) (⊎_elim
@@ -439,8 +440,8 @@ plan_refused s intake commit v trusted timestamp refusal named is none f backs r
     (goes None false (none_lost _) (λ e. absurd (true≢false (sym e))) causes.NoMemory
     (inr (inl (record { may = none; answer = refl; leaves = refl; calls = reads_quiet s new None trusted false })))))
     (λ other. ⊎_elim
-    (λ lost. let gives = plan_given (taken v Unplanned) s new trusted refusal lost honest in
-    goes gives.lost false (λ vdev e. let there = gives.loses vdev e in record { begun = there.begun; begins = there.begins; on = record { lost = there.on.lost; last = record { place = there.on.last.place; is_last = there.on.last.is_last; is_there = there.on.last.is_there } } })
+    (λ lost. let gives = plan_given (taken v Unplanned) s new trusted (v.ledger (suc v.committed)) refusal lost honest in
+    goes gives.lost false (λ vdev e. let there = gives.loses vdev e in record { unread = there.unread; on = record { lost = there.on.lost; last = record { place = there.on.last.place; is_last = there.on.last.is_last; is_there = there.on.last.is_there } } })
     (λ e. absurd (true≢false (sym e))) (cause_of refusal)
     (inr (inr (record { none = none; answered = (inl (same_causes refusal gives.lost gives.unreadable), refl); calls = reads_quiet s new gives.lost trusted false }))))
     (λ space. subst (λ (x : Refusal). Goes s v trusted (Plan timestamp) (Refused (cause_of x)) new) (sym space)

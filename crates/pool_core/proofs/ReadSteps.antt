@@ -19,7 +19,7 @@ use Rattle.volume_rules.specs.Shapes.{shape_of, shape_at}
 use Rattle.volume_rules.specs.Sources.{base_name}
 use Rattle.pool_commit.specs.declared.refusal.Refusal.{Refusal}
 use Rattle.pool_commit.specs.declared.refusal.Refusal.TheVariants.{NoMemory, NoSuchName, OutOfRange, GroupGone}
-use Rattle.pool_commit.specs.Reading.{PoolAnswersTruly as AnswersAreTrue, HasNoCause, IsUnderCause, IsLost, IsLostAt, OnlyReadsPool}
+use Rattle.pool_commit.specs.Reading.{PoolAnswersTruly as AnswersAreTrue, HasNoCause, IsUnderCause, IsLostAt, IsLostUnder, OnlyReadsPool}
 use Rattle.pool_commit.specs.State.{State}
 use Rattle.pool_commit.specs.Causes.{cause_of}
 use Rattle.pool_core.specs.Represents.{Represents}
@@ -27,7 +27,7 @@ use Rattle.pool_core.specs.State.{CoreState}
 use Rattle.pool_core.specs.Steps.{LosesBlock, Goes, PoolAnswersTruly}
 use Rattle.pool_core.specs.Reading.{IsLostAnswer, LosesAt}
 use Rattle.pool_core.proofs.Fronting.{IsFrontStep, front_commits_none, front_shows_none, front_calls}
-use Rattle.pool_core.proofs.Phases.{GivesLost, given_by_reads, reads_are_given, reads_quiet, read_given, spares_outs}
+use Rattle.pool_core.proofs.Phases.{GivesLost, given_by_reads, reads_are_given, reads_quiet, under_given, spares_outs}
 
 -- ---- under a kept group
 
@@ -40,10 +40,10 @@ under_cause v group name offset len refusal is = absurd is
 
 abbrev pub IsUnderRefused : View → ℕ → List ℕ → ℕ → ℕ → List ℕ → State → State → Cause → Type 0
 IsUnderRefused v group name offset len missing old new cause = (cause ≡ causes.NoMemory) ⊎ ((refusal_of v (ReadUnder group name offset len) ≡ Some cause)
-    ⊎ ((refusal_of v (ReadUnder group name offset len) ≡ None) × IsLostAnswer v old new missing cause))
+    ⊎ ((refusal_of v (ReadUnder group name offset len) ≡ None) × IsLostAnswer v old new group name offset len missing cause))
 
 pub under_refused : (v : View) (group : ℕ) (name : List ℕ) (offset len : ℕ) (missing : List ℕ) (old new : State) (refusal : Refusal) (named : Cause) → named ≡ cause_of refusal
-    → (refusal ≡ NoMemory) ⊎ (IsUnderCause v group name offset len refusal ⊎ (HasNoCause v group name offset len × IsLost v missing old new old.store refusal))
+    → (refusal ≡ NoMemory) ⊎ (IsUnderCause v group name offset len refusal ⊎ (HasNoCause v group name offset len × IsLostUnder v old new group name offset len missing refusal))
     → IsUnderRefused v group name offset len missing old new named
 under_refused v group name offset len missing old new refusal named is why = elim why [
   | inl memory ↦ inl (is ∙ ap cause_of memory)
@@ -93,7 +93,7 @@ refuses_under s commit v trusted group name offset len cause r reads honest why 
       | inr other ↦ elim other [
         | inl first ↦ read_goes s commit v None trusted step (Refused cause) r reads tt (none_lost _)
             (inl (record { cause = cause; first = first; answer = refl; unchanged = refl; quiet = quiet; calls = quiet }))
-        | inr lost ↦ let gives = read_given v s new trusted lost.1.refusal lost.1.lost honest in
+        | inr lost ↦ let gives = under_given v s new trusted group name offset len lost.1.refusal lost.1.lost honest in
             subst (λ (c : Cause). Goes s v trusted step (Refused c) new) (sym lost.1.answered)
             (read_goes s commit v gives.lost trusted step (Refused (cause_of lost.1.refusal)) r reads tt gives.loses
             (inr (inr (record { none = lost.0; answered = (gives.unreadable, refl); calls = reads_quiet s new gives.lost trusted false }))))
@@ -121,21 +121,21 @@ reads_now s commit v trusted name offset len bytes volume r reads none at count 
     })))
 
 -- what could not be read are bytes that the committed pool has, where there are such
-lost_given : (v : View) (old new : CoreState) (trusted : Bool) (base : Option (List ℕ)) (refusal : Refusal) → IsLostAt v old.commit new.commit base refusal
-    → (trusted ≡ true → PoolAnswersTruly old new) → GivesLost v old new trusted (cause_of refusal) (LosesAt v old.commit new.commit base)
-lost_given v old new trusted None refusal lost honest = absurd lost
-lost_given v old new trusted (Some name) refusal lost honest = read_given v old new trusted refusal lost honest
+lost_given : (v : View) (old new : CoreState) (trusted : Bool) (base : Option (List ℕ)) (offset len : ℕ) (refusal : Refusal) → IsLostAt v old.commit new.commit base offset len refusal
+    → (trusted ≡ true → PoolAnswersTruly old new) → GivesLost v old new trusted (cause_of refusal) (LosesAt v old.commit new.commit base offset len)
+lost_given v old new trusted None offset len refusal lost honest = absurd lost
+lost_given v old new trusted (Some name) offset len refusal lost honest = under_given v old new trusted v.committed name offset len refusal lost honest
 
 pub refuses_now : (s : CoreState) (commit : State) (v : View) (trusted : Bool) (name : List ℕ) (offset len : ℕ) (refusal : Refusal) (named : Cause) → named ≡ cause_of refusal → Represents s v
     → OnlyReadsPool s.commit commit [] → refusal_of v (Read name offset len) ≡ None → (trusted ≡ true → AnswersAreTrue s.commit commit)
-    → (refusal ≡ NoMemory) ⊎ IsLostAt v s.commit commit (base_name v name) refusal
+    → (refusal ≡ NoMemory) ⊎ IsLostAt v s.commit commit (base_name v name) offset len refusal
     → Goes s v trusted (Read name offset len) (Refused named) (record s { commit = commit })
 refuses_now s commit v trusted name offset len refusal named is r reads none honest why =
     let new : CoreState = record s { commit = commit } in
     let step : Step = Read name offset len in elim why [
       | inl memory ↦ read_goes s commit v None trusted step (Refused named) r reads tt (none_lost _)
           (inr (inl (record { may = refl; answer = ap Refused (is ∙ ap cause_of memory); leaves = refl; calls = reads_quiet s new None trusted false })))
-      | inr lost ↦ let gives = lost_given v s new trusted (base_name v name) refusal lost honest in
+      | inr lost ↦ let gives = lost_given v s new trusted (base_name v name) offset len refusal lost honest in
           subst (λ (c : Cause). Goes s v trusted step (Refused c) new) (sym is)
           (read_goes s commit v gives.lost trusted step (Refused (cause_of refusal)) r reads tt gives.loses
           (inr (inr (record { none = none; answered = (gives.unreadable, refl); calls = reads_quiet s new gives.lost trusted false }))))

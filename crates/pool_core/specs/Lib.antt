@@ -8,6 +8,7 @@ pub mod Moves
 pub mod Exporting
 pub mod Linked
 pub use Rattle.pool_commit.specs.Contents
+pub use Rattle.pool_commit.specs.SnapshotsFinding
 pub use Rattle.pool_commit.specs.Mapped
 pub use Rattle.pool_commit.specs.Pools
 pub use Rattle.pool_commit.specs.Reach

@@ -16,7 +16,7 @@ use Rattle.disk_set.specs.declared.behind.SlotWrite.{SlotWrite}
 use Rattle.pool_commit.specs.Slots.{ShowsIn, uberblock_of}
 use Rattle.pool_commit.specs.Room.{LacksRoom}
 use Rattle.volume_rules.specs.Sources.{base_name}
-use Rattle.pool_core.specs.Reading.{LosesOne, LosesAt, LosesForPlan}
+use Rattle.pool_core.specs.Reading.{LosesAt, LosesUnder, LosesForPlan}
 use Rattle.pool_core.specs.State.{CoreState, disks_of}
 use Rattle.pool_core.specs.Represents.{Represents}
 
@@ -34,12 +34,12 @@ is_barred step = true
 
 -- a block that the step had to read could not be, and this is the vdev of its last copy
 abbrev pub LosesBlock : CoreState → View → Step → CoreState → Vdev → Type 0
-LosesBlock old v (Read name offset len) new vdev = LosesAt v old.commit new.commit (base_name v name) vdev
-LosesBlock old v (ReadUnder group name offset len) new vdev = LosesOne v old.commit new.commit vdev
-LosesBlock old v (Plan timestamp) new vdev = LosesForPlan v old.commit new.commit vdev
+LosesBlock old v (Read name offset len) new vdev = LosesAt v old.commit new.commit (base_name v name) offset len vdev
+LosesBlock old v (ReadUnder group name offset len) new vdev = LosesUnder v old.commit new.commit group name offset len vdev
+LosesBlock old v (Plan timestamp) new vdev = LosesForPlan v old.commit new.commit (v.ledger (suc v.committed)) vdev
 LosesBlock old v step new vdev = ⊥
 
--- there is no room for a block of the group that is to be planned, or numbers are wanting
+-- there is no room for a block of the group that is to be planned, behind others of its own blocks and nothing else
 abbrev pub FindsNoRoom : CoreState → View → Step → Type 0
 FindsNoRoom old v (Plan timestamp) = LacksRoom old.commit (v.ledger (suc v.committed))
 FindsNoRoom old v step = ⊥

@@ -110,7 +110,7 @@ impl<D: Disk + Drop> Core<D> {
             (steps.ReadUnder group name.now offset len) ≡ Some refusal)
             ⊎ ((refusal_of v (steps.ReadUnder group name.now offset len) ≡ None)
             × IsLostAnswer v (state_of self.old).commit (state_of self.new).commit
-            missing.now refusal))) }
+            group name.now offset len missing.now refusal))) }
     {
         let read = self
             .commit

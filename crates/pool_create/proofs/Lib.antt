@@ -10,6 +10,7 @@ pub mod Showing
 pub mod Alone
 pub mod Backs
 pub mod Stages
+pub use Rattle.pool_open.proofs.SnapshotsLosses
 pub use Rattle.pool_open.proofs.SnapshotsReadings
 pub use Rattle.pool_open.proofs.SnapshotsStanding
 pub use Rattle.pool_open.proofs.CommitLabels

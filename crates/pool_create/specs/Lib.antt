@@ -6,6 +6,7 @@ pub mod Creating
 pub mod Stages
 pub mod Creates
 pub use Rattle.pool_open.specs.Contents
+pub use Rattle.pool_open.specs.SnapshotsFinding
 pub use Rattle.pool_open.specs.Mapped
 pub use Rattle.pool_open.specs.Pools
 pub use Rattle.pool_open.specs.Reach

@@ -13,7 +13,7 @@ use Rattle.block_store.specs.Store.{Store, Holds, outs, outs_from}
 use Rattle.block_store.specs.declared.refusal.Refusal.{Refusal as StoreRefusal}
 use Rattle.block_store.specs.declared.refusal.Refusal.TheVariants as store
 use Rattle.block_store.specs.declared.shape.VdevShape.{VdevShape}
-use Rattle.pool_core.specs.Contents.{AreContentsOf}
+use Rattle.pool_core.specs.Contents.{AreContentsOf, AreContentsRefused}
 use Rattle.pool_core.specs.Mapped.{HasItsMaps}
 use Rattle.pool_core.specs.Pools.{SpellsPool}
 use Rattle.pool_core.specs.Reach.{meta_blocks_of, volume_blocks_of}
@@ -21,7 +21,6 @@ use Rattle.pool_core.specs.RootContents.{RootContents}
 use Rattle.dnode_tree.specs.Rewriting.{AreDistinct}
 use Rattle.pool_core.proofs.MapsReadSets.{read_stay}
 use Rattle.pool_model.specs.Pools.{PlainPool}
-use Rattle.space_map_objects.specs.Causes.{IsCausedOf}
 use Rattle.space_map_objects.specs.Maps.{IsForLossOf}
 use Rattle.space_map_objects.specs.Refused.{of_read}
 use Rattle.space_map_objects.specs.declared.refusal.Refusal.{Refusal}
@@ -60,16 +59,17 @@ IsForLossAt store later group root most refusal =
     → AreDistinct (meta_blocks_of is) → length (meta_blocks_of is) ≤ most → AnswersAreTrue store later → IsForLossOf refusal
 
 pub refused_through : (store later : Store) (old : Disks) (shapes : List VdevShape) (out : List Bool) (group : ℕ) (root : Block) (most : ℕ) (refusal : Refusal)
-    → IsStoreOver old shapes out store → OnlyReadsBlocks store later [] → IsCausedOf store later [] refusal
+    → IsStoreOver old shapes out store → OnlyReadsBlocks store later [] → (after : ℕ) → AreContentsRefused store later [] group root most after refusal
     → IsForLossAt store later group root most refusal → IsRootNotRead old later.disks shapes out group root most refusal
-refused_through store later old shapes out group root most refusal over reads caused known = record {
+refused_through store later old shapes out group root most refusal over reads after cause known = record {
   only = read_beside store later old later.disks out over.disks_are over.out_is refl reads;
   why = inr (inr (record {
     store = store;
     over = over;
     later = later;
     now = refl;
-    caused = caused;
+    after = after;
+    cause = cause;
     whole = λ stored pool hold small honest.
         let has : HasItsMaps store.spaces small.is = small.mapped store.spaces over.shapes_are in
         known stored pool (hold store over) small.is has (pairs_front (λ block behind. block ≢ behind) (meta_blocks_of small.is) (volume_blocks_of small.is) has.once) small.few

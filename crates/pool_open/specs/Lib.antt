@@ -15,6 +15,7 @@ pub mod Stops
 pub mod Exporting
 pub mod ExportStops
 pub use Rattle.pool_core.specs.Contents
+pub use Rattle.pool_core.specs.SnapshotsFinding
 pub use Rattle.pool_core.specs.Mapped
 pub use Rattle.pool_core.specs.Pools
 pub use Rattle.pool_core.specs.Reach

@@ -10,14 +10,13 @@ use Rattle.block_store.specs.Spaces.{VdevSpace}
 use Rattle.block_store.specs.Store.{Store, outs_from}
 use Rattle.block_store.specs.declared.refusal.Refusal.TheVariants.{BadConfig}
 use Rattle.block_store.specs.declared.shape.VdevShape.{VdevShape}
-use Rattle.pool_core.specs.Contents.{AreContentsOf}
+use Rattle.pool_core.specs.Contents.{AreContentsOf, AreContentsRefused}
 use Rattle.pool_core.specs.Mapped.{HasItsMapsOver}
 use Rattle.pool_core.specs.Pools.{SpellsPool}
 use Rattle.pool_core.specs.Reach.{meta_blocks_of}
 use Rattle.pool_core.specs.RootContents.{RootContents}
 use Rattle.pool_core.specs.Loads.{AreSetsOf}
 use Rattle.pool_model.specs.Pools.{PlainPool}
-use Rattle.space_map_objects.specs.Causes.{IsCausedOf}
 use Rattle.space_map_objects.specs.Maps.{IsForLossOf}
 use Rattle.space_map_objects.specs.declared.refusal.Refusal.{Refusal}
 use Rattle.space_map_objects.specs.declared.refusal.Refusal.TheVariants.{NoMemory, Unread}
@@ -49,14 +48,15 @@ pub record IsSmallRoot (stored : Contents) (shapes : List VdevShape) (group : �
   pub mapped : HasItsMapsOver shapes is
   pub few : length (meta_blocks_of is) ≤ most
 
--- A store over the disks was refused the root by these reads: for lack of disks a block is lost. Where it may read the blocks of a root that has its
--- space maps, whose meta object set has no more blocks than may be read, and the answers are true, it is for want of memory or of disks alone.
+-- A store over the disks was refused the root by these reads, of so many blocks at most. Where it may read the blocks of a root that has its space
+-- maps, whose meta object set has no more blocks, and the answers are true, it is for want of memory or of disks alone.
 pub record IsRootRefused (old new : Disks) (shapes : List VdevShape) (out : List Bool) (group : ℕ) (root : Block) (most : ℕ) (refusal : Refusal) : Type 0 where
   pub store : Store
   pub over : IsStoreOver old shapes out store
   pub later : Store
   pub now : later.disks ≡ new
-  pub caused : IsCausedOf store later [] refusal
+  pub after : ℕ
+  pub cause : AreContentsRefused store later [] group root most after refusal
   pub whole : (stored : Contents) (pool : PlainPool) → HoldOver old shapes out stored → IsSmallRoot stored shapes group root pool most → IsHonestSince old new → IsForLossOf refusal
 
 -- why nothing was read: the vdevs don't lie on the disks, or the root was refused

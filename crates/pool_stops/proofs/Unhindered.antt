@@ -239,7 +239,7 @@ root_case law old surveyed new shapes out p pools refusal led free makes reads u
       few = blocks_fit it.store.spaces shapes (meta_blocks_of at.spells) it.over.shapes_are free.may.few
           (first_apart shapes (meta_blocks_of at.spells) (volume_blocks_of at.spells) at.apart);
     } in
-    not_for_loss law it.store it.later unread.cause it.caused
+    not_for_loss law it.store it.later u.group u.root (most_blocks shapes) it.after unread.cause it.cause
     (λ disk. ap (λ flags. is_out flags disk) it.over.out_is ∙ free.none disk)
     (λ disk failed.
     let P : Disks → Disks → Type 0 = λ a b. HasFailedOn a b disk in

@@ -8,7 +8,7 @@ use Rattle.object_table.proofs.Tables.{spaces_stay}
 use Rattle.pool_maps.proofs.Staying.{short_maps_there}
 use Rattle.pool_maps.specs.Loads.{AreFreeFound, AreReadMaps, AreSetsOf, HaveMaps}
 use Rattle.pool_maps.specs.Maps.{AreRowsOf}
-use Rattle.space_map_objects.proofs.Unread.{lossy, caused_of_behind_reads, unread_is_caused}
+use Rattle.space_map_objects.proofs.Unread.{lossy}
 use Rattle.space_map_objects.specs.declared.refusal.Refusal.{Refusal as MapRefusal}
 use Rattle.space_map_objects.specs.declared.refusal.Refusal.TheVariants.{NoMemory, Unread}
 use Rattle.dataset_snapshots.specs.Contents.{AreNamesFound, AreRootSpansUnread, IsRootUnread}
@@ -20,7 +20,6 @@ use Rattle.dataset_snapshots.proofs.Datasets.{are_of_root}
 use Rattle.dataset_snapshots.proofs.NamedRows.{needs_no_room}
 use Rattle.dataset_snapshots.proofs.OpenedRoots.{maps_no_room, of_read_no_room, unread_for}
 use Rattle.dataset_snapshots.proofs.ReadRefusals.{reads_need_no_room}
-use Rattle.block_store.proofs.Causes.{caused_behind_reads}
 use Rattle.dataset_snapshots.proofs.contents.contents_under.Goals as goal
 
 -- ---- causes
@@ -264,40 +263,3 @@ returns-clause-sets g c =
     let both = reads_on _ _ _ _ c.in_ok-directory.ensures.reads c.in_ok-names.ensures.reads in
     let all = reads_on _ _ _ _ both c.in_ok-meta.ensures.reads in
     subst (λ (spaces : List VdevSpace). AreSetsOf spaces c.in_ok-maps.maps.items) (spaces_stay _ _ _ all) c.in_ok-maps.ensures.sets
-
--- ---- what it is caused by
-
-pub returns-in_err-directory-clause-caused : goal.returns-in_err-directory-clause-caused
-returns-in_err-directory-clause-caused g c =
-    passed_on _ _ _ c.from_residual.ensures.1 (unread_is_caused c.args.store.now c.directory_under.new.store c.args.missing.now c.in_err-directory.field-0.0 c.in_err-directory.ensures.caused)
-
-pub returns-in_err-names-clause-caused : goal.returns-in_err-names-clause-caused
-returns-in_err-names-clause-caused g c =
-    passed_on _ _ _ c.from_residual-in_err-names.ensures.1
-    (unread_is_caused c.args.store.now c.names_by.new.store c.args.missing.now c.in_err-names.field-0.0
-    (caused_behind_reads c.args.store.now c.directory_under.new.store c.names_by.new.store c.args.missing.now c.in_err-names.field-0.0 c.in_ok-directory.ensures.reads c.in_err-names.ensures.caused))
-
-pub returns-in_err-meta-clause-caused : goal.returns-in_err-meta-clause-caused
-returns-in_err-meta-clause-caused g c =
-    let both = reads_on _ _ _ _ c.in_ok-directory.ensures.reads c.in_ok-names.ensures.reads in
-    passed_on _ _ _ c.from_residual-in_err-meta.ensures.1
-    (unread_is_caused c.args.store.now c.walk_meta.new.store c.args.missing.now c.in_err-meta.field-0.0
-    (caused_behind_reads c.args.store.now c.names_by.new.store c.walk_meta.new.store c.args.missing.now c.in_err-meta.field-0.0 both c.in_err-meta.ensures.caused))
-
-pub returns-in_err-maps-clause-caused : goal.returns-in_err-maps-clause-caused
-returns-in_err-maps-clause-caused g c =
-    let both = reads_on _ _ _ _ c.in_ok-directory.ensures.reads c.in_ok-names.ensures.reads in
-    let all = reads_on _ _ _ _ both c.in_ok-meta.ensures.reads in
-    passed_on _ _ _ c.from_residual-in_err-maps.ensures.1
-    (caused_of_behind_reads c.args.store.now c.walk_meta.new.store c.read_maps.new.store c.args.missing.now _ all c.in_err-maps.ensures.caused)
-
-pub returns-in_err-spans-clause-caused : goal.returns-in_err-spans-clause-caused
-returns-in_err-spans-clause-caused g c =
-    let both = reads_on _ _ _ _ c.in_ok-directory.ensures.reads c.in_ok-names.ensures.reads in
-    let all = reads_on _ _ _ _ (reads_on _ _ _ _ both c.in_ok-meta.ensures.reads) c.in_ok-maps.ensures.reads in
-    passed_on _ _ _ c.from_residual-in_err-spans.ensures.1
-    (unread_is_caused c.args.store.now c.read_stale_spans.new.store c.args.missing.now c.in_err-spans.field-0.0
-    (caused_behind_reads c.args.store.now c.read_maps.new.store c.read_stale_spans.new.store c.args.missing.now c.in_err-spans.field-0.0 all c.in_err-spans.ensures.caused))
-
-pub returns-in_err-kept-clause-caused : goal.returns-in_err-kept-clause-caused
-returns-in_err-kept-clause-caused g c = passed_on _ NoMemory _ c.from_residual-in_err-kept.ensures.1 tt

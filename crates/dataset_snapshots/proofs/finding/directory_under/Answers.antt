@@ -4,7 +4,6 @@ use Rattle.block_store.proofs.Steps.{reads_on}
 use Rattle.dnode_tree.proofs.FurtherReads.{true_before, true_after}
 use Rattle.dnode_tree.proofs.Refusing.{passed_on}
 use Rattle.dataset_snapshots.proofs.Datasets.{are_of_root, rows_found}
-use Rattle.block_store.proofs.Causes.{caused_behind_reads}
 use Rattle.dataset_snapshots.proofs.finding.directory_under.Goals as goal
 
 pub returns-in_err-set-clause-refused : goal.returns-in_err-set-clause-refused
@@ -54,15 +53,3 @@ returns-clause-known g c =
     let are = are_of_root stored _ _ pool _ is (c.in_ok-set.ensures.value stored is.set held is.is_set (true_before _ _ _ _ first second honest)) in
     ⊎_elim (λ loss. loss) (λ bad. absurd (bad.1 is.rows is.directory)) (known stored is.objects is.own is.blocks (first.keeps stored held) are (true_after _ _ _ _ first second honest)))
     c.read_directory.ensures.known
-
-pub returns-in_err-set-clause-caused : goal.returns-in_err-set-clause-caused
-returns-in_err-set-clause-caused g c = passed_on _ _ _ c.from_residual.ensures.1 c.in_err-set.ensures.caused
-
-pub returns-clause-caused : goal.returns-clause-caused
-returns-clause-caused g c =
-    IfErr-weaker c.read_directory.result _ _
-    (λ refusal cause. caused_behind_reads c.args.store.now c.read_meta.new.store c.read_directory.new.store c.args.missing.now refusal c.in_ok-set.ensures.reads cause)
-    c.read_directory.ensures.caused
-
-pub returns-in_err-set-clause-cause : goal.returns-in_err-set-clause-cause
-returns-in_err-set-clause-cause g c = passed_on _ _ _ c.from_residual.ensures.1 c.in_err-set.ensures.cause

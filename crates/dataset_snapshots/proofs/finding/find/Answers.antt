@@ -4,7 +4,6 @@ use Rattle.dnode_tree.proofs.FurtherReads.{true_before, true_after}
 use Rattle.dnode_tree.proofs.Refusing.{passed_on}
 use Rattle.dataset_snapshots.specs.Finding.{IsNumberIn}
 use Rattle.dataset_snapshots.proofs.Datasets.{are_of_root, dataset_found, dataset_there, nothing_there, record_there, rows_found}
-use Rattle.block_store.proofs.Causes.{caused_behind_reads}
 use Rattle.dataset_snapshots.proofs.finding.find.Goals as goal
 
 pub returns-in_err-set-clause-known : goal.returns-in_err-set-clause-known
@@ -104,28 +103,3 @@ returns-clause-found g c =
     dataset_found _ _ _ _ _ _ _ _ c.in-Some.object c.in_ok-dataset.dataset read
     (subst (λ (found : Option ℕ). IsNumberIn rows.0 c.args.name.now found) c.in-Some.is rows.2)
     (reads_on _ _ _ _ first c.in_ok-number.ensures.reads) c.in_ok-dataset.ensures.object c.in_ok-dataset.ensures.is c.in_ok-dataset.ensures.found
-
-pub returns-in_err-set-clause-caused : goal.returns-in_err-set-clause-caused
-returns-in_err-set-clause-caused g c = passed_on _ _ _ c.from_residual.ensures.1 c.in_err-set.ensures.caused
-
-pub returns-in_err-number-clause-caused : goal.returns-in_err-number-clause-caused
-returns-in_err-number-clause-caused g c =
-    passed_on _ _ _ c.from_residual-in_err-number.ensures.1
-    (caused_behind_reads c.args.store.now c.read_meta.new.store c.object_of.new.store c.args.missing.now _ c.in_ok-set.ensures.reads c.in_err-number.ensures.caused)
-
-pub returns-in_err-dataset-clause-caused : goal.returns-in_err-dataset-clause-caused
-returns-in_err-dataset-clause-caused g c =
-    passed_on _ _ _ c.from_residual-in_err-dataset.ensures.1
-    (caused_behind_reads c.args.store.now c.object_of.new.store c.read_dataset.new.store c.args.missing.now _ (reads_on _ _ _ _ c.in_ok-set.ensures.reads c.in_ok-number.ensures.reads) c.in_err-dataset.ensures.caused)
-
-pub returns-in_err-set-clause-cause : goal.returns-in_err-set-clause-cause
-returns-in_err-set-clause-cause g c = passed_on _ _ _ c.from_residual.ensures.1 c.in_err-set.ensures.cause
-
-pub returns-in_err-number-clause-cause : goal.returns-in_err-number-clause-cause
-returns-in_err-number-clause-cause g c = passed_on _ _ _ c.from_residual-in_err-number.ensures.1 c.in_err-number.ensures.cause
-
-pub returns-in_err-dataset-clause-cause : goal.returns-in_err-dataset-clause-cause
-returns-in_err-dataset-clause-cause g c = passed_on _ _ _ c.from_residual-in_err-dataset.ensures.1 c.in_err-dataset.ensures.cause
-
-pub returns-in_err-set-clause-refused : goal.returns-in_err-set-clause-refused
-returns-in_err-set-clause-refused g c = passed_on _ _ _ c.from_residual.ensures.1 (inr (inl c.in_err-set.ensures.refused))

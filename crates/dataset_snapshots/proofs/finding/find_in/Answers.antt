@@ -5,7 +5,6 @@ use Rattle.dnode_tree.proofs.Refusing.{passed_on}
 use Rattle.meta_objset.specs.declared.directory.DirectoryRow.{DirectoryRow}
 use Rattle.dataset_snapshots.specs.Finding.{IsNumberIn, IsRowOf}
 use Rattle.dataset_snapshots.proofs.Datasets.{are_of_root, dataset_found_in, dataset_there, nothing_there, record_there}
-use Rattle.block_store.proofs.Causes.{caused_behind_reads}
 use Rattle.dataset_snapshots.proofs.finding.find_in.Goals as goal
 
 pub returns-in_default-clause-reads : goal.returns-in_default-clause-reads
@@ -79,17 +78,3 @@ returns-clause-found g c =
 
 pub returns-clause-idle : goal.returns-clause-idle
 returns-clause-idle g c = λ none. absurd (cc)
-
-pub returns-in_err-set-clause-caused : goal.returns-in_err-set-clause-caused
-returns-in_err-set-clause-caused g c = passed_on _ _ _ c.from_residual.ensures.1 c.in_err-set.ensures.caused
-
-pub returns-in_err-dataset-clause-caused : goal.returns-in_err-dataset-clause-caused
-returns-in_err-dataset-clause-caused g c =
-    passed_on _ _ _ c.from_residual-in_err-dataset.ensures.1
-    (caused_behind_reads c.args.store.now c.read_meta.new.store c.read_dataset.new.store c.args.missing.now _ c.in_ok-set.ensures.reads c.in_err-dataset.ensures.caused)
-
-pub returns-in_err-set-clause-cause : goal.returns-in_err-set-clause-cause
-returns-in_err-set-clause-cause g c = passed_on _ _ _ c.from_residual.ensures.1 c.in_err-set.ensures.cause
-
-pub returns-in_err-dataset-clause-cause : goal.returns-in_err-dataset-clause-cause
-returns-in_err-dataset-clause-cause g c = passed_on _ _ _ c.from_residual-in_err-dataset.ensures.1 c.in_err-dataset.ensures.cause

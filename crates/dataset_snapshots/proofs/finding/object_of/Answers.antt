@@ -19,9 +19,3 @@ returns-clause-value g c = λ stored objects own blocks rows held are has honest
 
 pub returns-clause-found : goal.returns-clause-found
 returns-clause-found g c = (_, c.in_ok-directory.ensures.found, c.number_in.ensures)
-
-pub returns-in_err-directory-clause-caused : goal.returns-in_err-directory-clause-caused
-returns-in_err-directory-clause-caused g c = passed_on _ _ _ c.from_residual.ensures.1 c.in_err-directory.ensures.caused
-
-pub returns-in_err-directory-clause-cause : goal.returns-in_err-directory-clause-cause
-returns-in_err-directory-clause-cause g c = passed_on _ _ _ c.from_residual.ensures.1 c.in_err-directory.ensures.cause

@@ -16,6 +16,3 @@ volume_of-requires g c = c.in_ok-record.ensures.found.spelled.0.record_is
 
 pub returns-clause-value : goal.returns-clause-value
 returns-clause-value g c = λ stored objects own blocks r held are has honest. c.in_ok-record.ensures.one stored objects own blocks held are honest r has
-
-pub returns-in_err-record-clause-caused : goal.returns-in_err-record-clause-caused
-returns-in_err-record-clause-caused g c = passed_on _ _ _ c.from_residual.ensures.1 c.in_err-record.ensures.caused

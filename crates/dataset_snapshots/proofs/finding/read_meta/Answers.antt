@@ -1,4 +1,4 @@
-use Rattle.std.proofs.Common.{◌≡◌, sym, ap, ◌∙◌, inl}
+use Rattle.std.proofs.Common.{◌≡◌, sym, ap, ◌∙◌}
 use Rattle.dnode.specs.declared.object_set.ObjectSet.{ObjectSet}
 use Rattle.dnode.specs.declared.object_set.ObjectSetKind.TheVariants.{Meta, Volume}
 use Rattle.dnode_tree.proofs.Refusing.{passed_on}
@@ -13,12 +13,3 @@ returns-in-Volume-clause-known g c = λ stored set held is kind honest.
     let same = c.in_ok-set.ensures.value stored set held is honest in
     let clash : Volume ≡ Meta = sym c.in-Volume.is ∙ ap (λ (s : ObjectSet). s.kind) same ∙ kind in
     absurd cc
-
-pub returns-in_err-set-clause-caused : goal.returns-in_err-set-clause-caused
-returns-in_err-set-clause-caused g c = passed_on _ _ _ c.from_residual.ensures.1 c.in_err-set.ensures.caused
-
-pub returns-in-Volume-clause-caused : goal.returns-in-Volume-clause-caused
-returns-in-Volume-clause-caused g c = tt
-
-pub returns-in_err-set-clause-refused : goal.returns-in_err-set-clause-refused
-returns-in_err-set-clause-refused g c = passed_on _ _ _ c.from_residual.ensures.1 (inl c.in_err-set.ensures.refused)

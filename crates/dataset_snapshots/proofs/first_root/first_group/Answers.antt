@@ -1,4 +1,4 @@
-use Rattle.std.proofs.Common.{[], List, All, AllPairs, inl, refl, sym, ap, subst, ◌∙◌, ◌<◌, arith, inr, ⊎_elim}
+use Rattle.std.proofs.Common.{[], List, All, AllPairs, inl, refl, sym, ap, subst, ◌∙◌, ◌<◌, arith}
 use Rattle.std.specs.Prelude.{fold}
 use Rattle.std.proofs.lemmas.Result.{IfErr-weaker}
 use Rattle.block_store.proofs.Steps.{steps_on, steps_read, true_before, true_after}
@@ -23,11 +23,6 @@ use Rattle.dataset_snapshots.proofs.FirstMaps.{first_of_others, first_value, unu
 use Rattle.dataset_snapshots.proofs.FirstRoots.{first_datasets_known, first_datasets_refused, first_has, first_maps_refused, first_set_refused, first_volumes_refused, nothing, pool_first}
 use Rattle.dataset_snapshots.proofs.GroupReach.{IsRootGiven}
 use Rattle.dataset_snapshots.proofs.MetaPlaces.{root_places_same}
-use Rattle.block_store.proofs.Causes.{caused_behind}
-use Rattle.object_table.proofs.Causes.{judged_is_caused}
-use Rattle.pool_maps.specs.Numbers.{map_places}
-use Rattle.dataset_snapshots.specs.Causes.{LacksNumbersFrom}
-use Rattle.dataset_snapshots.proofs.Causes.{lacks_maps, lacks_with_maps}
 use Rattle.dataset_snapshots.proofs.first_root.first_group.Goals as goal
 
 pub returns-in_err-datasets-clause-known : goal.returns-in_err-datasets-clause-known
@@ -179,38 +174,3 @@ returns-in_err-root-clause-refused g c =
     c.in_ok-changes.ensures.reads c.in_ok-changes.ensures.others
     (subst (λ (cs : List ObjectChange). IsRootRefused c.first_maps.new.store c.plan_root.new.store empty_meta c.args.group c.args.group cs refusal) c.deref.ensures.value why))
     (passed_on _ _ _ c.from_residual-in_err-root.ensures.1 c.in_err-root.ensures.refused)
-
--- ---- what it is caused by
-
-pub returns-in_err-datasets-clause-caused : goal.returns-in_err-datasets-clause-caused
-returns-in_err-datasets-clause-caused g c =
-    passed_on _ _ _ c.from_residual.ensures.1
-    (⊎_elim (λ cause. inl cause)
-    (λ lacks. inr (
-      lacks.0,
-      subst (λ (actions : List Action). LacksNumbersFrom 5 c.args.store.now.spaces actions) c.made.ensures
-          (lacks_with_maps 5 (map_places c.args.store.now.spaces) c.made.result.now lacks.1),
-    ))
-    c.in_err-datasets.ensures.caused)
-
-pub returns-in_err-directory-clause-caused : goal.returns-in_err-directory-clause-caused
-returns-in_err-directory-clause-caused g c =
-    passed_on _ _ _ c.from_residual-in_err-directory.ensures.1 (inl (judged_is_caused c.args.store.now c.first_volumes.new.store [] _ _ c.in_err-directory.ensures.refused))
-
-pub returns-in_err-changes-clause-caused : goal.returns-in_err-changes-clause-caused
-returns-in_err-changes-clause-caused g c =
-    let steps = c.in_ok-datasets.ensures.steps in
-    passed_on _ _ _ c.from_residual-in_err-changes.ensures.1
-    (⊎_elim (λ cause. inl (caused_behind c.args.store.now c.first_volumes.new.store c.first_maps.new.store [] _ steps cause))
-    (λ lacks. inr (
-      lacks.0,
-      subst (λ (actions : List Action). LacksNumbersFrom 5 c.args.store.now.spaces actions) c.made.ensures
-          (lacks_maps c.args.store.now c.first_volumes.new.store 5 c.made.result.now c.in_ok-directory.field-0.next steps (omega (arith, c.in_ok-datasets.ensures.few, c.in_ok-directory.ensures.next_is)) lacks.1),
-    ))
-    c.in_err-changes.ensures.caused)
-
-pub returns-in_err-root-clause-caused : goal.returns-in_err-root-clause-caused
-returns-in_err-root-clause-caused g c =
-    passed_on _ _ _ c.from_residual-in_err-root.ensures.1
-    (inl (caused_behind c.args.store.now c.first_maps.new.store c.plan_root.new.store [] _
-    (steps_on _ _ _ _ c.in_ok-datasets.ensures.steps (steps_read _ _ _ c.in_ok-changes.ensures.reads)) c.in_err-root.ensures.caused))

@@ -1,4 +1,4 @@
-use Rattle.std.proofs.Common.{[], List, ◌∙◌, refl, ap, subst, arith, ⊎_elim, inl, inr}
+use Rattle.std.proofs.Common.{[], List, ◌∙◌, refl, ap, subst, arith}
 use Rattle.dataset_groups.specs.Leaving.{IsReachExchanged}
 use Rattle.dataset_groups.specs.Names.{reach_by}
 use Rattle.dnode_tree.proofs.Refusing.{passed_on}
@@ -8,7 +8,6 @@ use Rattle.volume.proofs.Made.{no_objects}
 use Rattle.dataset_snapshots.specs.FirstGroup.{empty_meta}
 use Rattle.dataset_groups.specs.declared.datasets.NumberBounds.{NumberBounds}
 use Rattle.dataset_snapshots.proofs.FirstRoots.{chains_none, first_actions_refused, first_are, first_objects, names_none, no_datasets, no_readings, nothing}
-use Rattle.dataset_snapshots.proofs.Causes.{lacks_first}
 use Rattle.dataset_snapshots.proofs.first_root.first_volumes.Goals as goal
 
 pub returns-in_err-act_all-clause-known : goal.returns-in_err-act_all-clause-known
@@ -66,13 +65,3 @@ returns-clause-bounds g c =
     let made = c.in_ok-act_all.ensures.places in
     let same = ap (λ (b : NumberBounds). b.behind) c.act_all.ensures.bounds in
     omega (arith, before.bounds.1, before.next, made.names.next, same)
-
-pub returns-in_err-act_all-clause-caused : goal.returns-in_err-act_all-clause-caused
-returns-in_err-act_all-clause-caused g c =
-    let before = c.new-datasets.ensures in
-    passed_on _ _ _ c.from_residual.ensures.1
-    (⊎_elim (λ cause. inl cause)
-    (λ lacks. inr (lacks.0, lacks_first c.new-datasets.result c.args.actions.now before.next before.bounds.0 lacks.1)) c.in_err-act_all.ensures.caused)
-
-pub returns-clause-few : goal.returns-clause-few
-returns-clause-few g c = omega (arith, c.new-datasets.ensures.next, c.act_all.ensures.next.1)

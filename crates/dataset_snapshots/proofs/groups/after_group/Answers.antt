@@ -1,4 +1,4 @@
-use Rattle.std.proofs.Common.{◌-◌, ◌≤◌, ◌++◌, [], List, ap, sym, subst, ◌∙◌, refl, arith, ◌≡◌, ◌∷◌, inl, inr, ⊎_elim}
+use Rattle.std.proofs.Common.{◌-◌, ◌≤◌, ◌++◌, [], List, ap, sym, subst, ◌∙◌, refl, arith, ◌≡◌, ◌∷◌, inl}
 use Rattle.std.specs.Prelude.{All}
 use Rattle.std.proofs.lemmas.Result.{IfErr-weaker}
 use Rattle.block_store.proofs.Steps.{steps_on, steps_read, true_before, true_after}
@@ -29,8 +29,6 @@ use Rattle.dataset_snapshots.proofs.NextMaps.{group_value}
 use Rattle.dataset_snapshots.specs.Demands.{AreMappedRefused, HasMappedPlaces, HasRootPlaces, IsRootRefused}
 use Rattle.dataset_snapshots.proofs.GroupDemands.{group_changes_refused, group_has, group_unread, group_volumes_refused}
 use Rattle.dataset_snapshots.proofs.groups.after_group.Goals as goal
-use Rattle.block_store.proofs.Causes.{caused_behind, caused_behind_reads}
-use Rattle.dataset_snapshots.proofs.Causes.{lacks_under}
 use Rattle.block_store.specs.declared.refusal.Refusal.TheVariants.{NoMemory}
 
 pub returns-in_err-opened-clause-steps : goal.returns-in_err-opened-clause-steps
@@ -200,38 +198,3 @@ returns-in_err-directory-clause-steps g c = steps_on _ _ _ _ (steps_on _ _ _ _ (
 pub returns-in_err-directory-clause-known : goal.returns-in_err-directory-clause-known
 returns-in_err-directory-clause-known g c =
     passed_on _ NoMemory _ c.from_residual-in_err-directory.ensures.1 (λ stored planned pool plans is same maps stands honest may good. inl (inl refl))
-
-pub returns-in_err-opened-clause-caused : goal.returns-in_err-opened-clause-caused
-returns-in_err-opened-clause-caused g c = passed_on _ _ _ c.from_residual.ensures.1 (inl c.in_err-opened.ensures.caused)
-
-pub returns-in_err-made-clause-caused : goal.returns-in_err-made-clause-caused
-returns-in_err-made-clause-caused g c =
-    let old : Store = c.args.store.now in
-    let read : Store = c.open_group.new.store in
-    let first = c.in_ok-opened.ensures.reads in
-    let spaces : old.spaces ≡ read.spaces = sym (ap (λ (s : Store). s.spaces) first.rest) in
-    passed_on _ _ _ c.from_residual-in_err-made.ensures.1
-    (⊎_elim (λ cause. inl (caused_behind_reads old read c.mapped_changes.new.store [] _ first cause))
-    (λ lacks. inr (
-      lacks.0,
-      λ stored set held is honest.
-          let same = c.in_ok-opened.ensures.is_set stored set held is (true_before old read c.mapped_changes.new.store c.mapped_changes.ensures.steps.reads honest) in
-          lacks_under old.spaces read.spaces c.in_ok-opened.opened set c.made.result.now c.args.parted.now.made spaces same c.made.ensures c.in_ok-opened.ensures.opened.numbers c.in_ok-opened.ensures.room
-          lacks.1,
-    ))
-    c.in_err-made.ensures.caused)
-
-pub returns-in_err-replaced-clause-caused : goal.returns-in_err-replaced-clause-caused
-returns-in_err-replaced-clause-caused g c = passed_on _ NoMemory _ c.from_residual-in_err-replaced.ensures.1 (inl tt)
-
-pub returns-in_err-extend_from_slice-clause-caused : goal.returns-in_err-extend_from_slice-clause-caused
-returns-in_err-extend_from_slice-clause-caused g c = passed_on _ NoMemory _ c.from_residual-in_err-extend_from_slice.ensures.1 (inl tt)
-
-pub returns-in_err-directory-clause-caused : goal.returns-in_err-directory-clause-caused
-returns-in_err-directory-clause-caused g c = passed_on _ NoMemory _ c.from_residual-in_err-directory.ensures.1 (inl tt)
-
-pub returns-in_err-next-clause-caused : goal.returns-in_err-next-clause-caused
-returns-in_err-next-clause-caused g c =
-    passed_on _ _ _ c.from_residual-in_err-next.ensures.1
-    (inl (caused_behind c.args.store.now c.mapped_changes.new.store c.plan_root.new.store [] _
-    (steps_on _ _ _ _ (steps_read _ _ _ c.in_ok-opened.ensures.reads) c.in_ok-made.ensures.steps) c.in_err-next.ensures.caused))

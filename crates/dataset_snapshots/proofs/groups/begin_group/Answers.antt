@@ -1,4 +1,4 @@
-use Rattle.std.proofs.Common.{◌≡◌, ℕ, ◌↔◌, ◌<◌, List, [], All, Contains, sym, ap, subst, ◌∙◌, inl, inr}
+use Rattle.std.proofs.Common.{◌≡◌, ℕ, ◌↔◌, ◌<◌, List, [], All, Contains, sym, ap, subst, ◌∙◌}
 use Rattle.std.specs.List.{AllZip}
 use Rattle.std.specs.List.Sorted.{IsStrictlyIncreasing}
 use Rattle.block_store.proofs.Steps.{reads_on}
@@ -23,8 +23,6 @@ use Rattle.dataset_snapshots.proofs.GroupDemands.{volume_unread}
 use Rattle.dataset_snapshots.proofs.GroupsBegun.{numbers_within, set_unread, written_are}
 use Rattle.dataset_snapshots.proofs.ChangedRows.{all_from}
 use Rattle.dataset_snapshots.proofs.Renumbered.{has_numbers}
-use Rattle.block_store.proofs.Causes.{caused_behind_reads}
-use Rattle.block_store.specs.declared.refusal.Refusal.TheVariants.{NoMemory}
 use Rattle.dataset_snapshots.proofs.groups.begin_group.Goals as goal
 
 pub returns-in_err-set-clause-known : goal.returns-in_err-set-clause-known
@@ -157,24 +155,3 @@ returns-clause-found g c =
         numbers = has_numbers c.in_ok-set.set _ (returns-clause-numbers g c);
       };
     }
-
-pub returns-in_err-directory-clause-caused : goal.returns-in_err-directory-clause-caused
-returns-in_err-directory-clause-caused g c = passed_on _ NoMemory _ c.from_residual.ensures.1 tt
-
-pub returns-in_err-set-clause-caused : goal.returns-in_err-set-clause-caused
-returns-in_err-set-clause-caused g c = passed_on _ _ _ c.from_residual-in_err-set.ensures.1 c.in_err-set.ensures.caused
-
-pub returns-in_err-objects-clause-caused : goal.returns-in_err-objects-clause-caused
-returns-in_err-objects-clause-caused g c = passed_on _ NoMemory _ c.from_residual-in_err-objects.ensures.1 tt
-
-pub returns-in_err-written-clause-caused : goal.returns-in_err-written-clause-caused
-returns-in_err-written-clause-caused g c =
-    passed_on _ _ _ c.from_residual-in_err-written.ensures.1
-    (caused_behind_reads c.args.store.now c.read_meta.new.store c.read_written.new.store [] _ c.in_ok-set.ensures.reads c.in_err-written.ensures.caused)
-
-pub returns-clause-is_set : goal.returns-clause-is_set
-returns-clause-is_set g c = λ stored set held is honest.
-    c.in_ok-set.ensures.value stored set held is (true_before _ _ _ _ c.in_ok-set.ensures.reads c.in_ok-written.ensures.reads honest)
-
-pub returns-in_err-set-clause-refused : goal.returns-in_err-set-clause-refused
-returns-in_err-set-clause-refused g c = passed_on _ _ _ c.from_residual-in_err-set.ensures.1 (inr (inl c.in_err-set.ensures.refused))

@@ -26,10 +26,6 @@ use Rattle.dataset_snapshots.proofs.GroupsLeft.{begun, left_by, objects_still}
 use Rattle.dataset_snapshots.proofs.GroupsTouched.{actions_refused, datasets_refused, idle_rows, renamed_so, renamed_then, volumes_have}
 use Rattle.dataset_snapshots.proofs.groups.changes_of.Given.{Over}
 use Rattle.dataset_snapshots.proofs.groups.changes_of.Goals as goal
-use Rattle.block_store.proofs.Causes.{caused_behind}
-use Rattle.block_store.specs.declared.refusal.Refusal.TheVariants.{NoMemory}
-use Rattle.object_table.proofs.Causes.{judged_is_caused}
-use Rattle.dataset_snapshots.proofs.Causes.{few_numbers, lacks_as}
 use Rattle.dataset_snapshots.proofs.groups.changes_of.Goals.{then-renamed, else-renamed}
 
 -- names come where they went or some were made
@@ -197,32 +193,3 @@ with_directory-requires-clause-within g c =
     let high = opens.set.0.0.highest in
     let last = c.act_all.ensures.within (omega (arith, within.0, end, c.write_all.ensures.next)) in
     omega (arith, last, within.1, end, behind, first, most, high)
-
--- ---- why it is refused, and how many numbers are taken
-
-pub returns-in_err-append-clause-caused : goal.returns-in_err-append-clause-caused
-returns-in_err-append-clause-caused g c = passed_on _ NoMemory _ c.from_residual.ensures.1 (inl tt)
-
-pub returns-in_err-write_all-clause-caused : goal.returns-in_err-write_all-clause-caused
-returns-in_err-write_all-clause-caused g c = passed_on _ _ _ c.from_residual-in_err-write_all.ensures.1 (inl c.in_err-write_all.ensures.caused)
-
-pub returns-in_err-act_all-clause-caused : goal.returns-in_err-act_all-clause-caused
-returns-in_err-act_all-clause-caused g c =
-    passed_on _ _ _ c.from_residual-in_err-act_all.ensures.1
-    (⊎_elim (λ cause. inl (caused_behind c.args.store.now c.write_all.new.store c.act_all.new.store [] _ c.write_all.ensures.steps cause))
-    (λ lacks. inr (lacks.0, lacks_as c.args.opened.datasets c.write_all.new.self c.args.actions.now c.write_all.ensures.next c.write_all.ensures.bounds lacks.1))
-    c.in_err-act_all.ensures.caused)
-
-pub returns-clause-caused : goal.returns-clause-caused
-returns-clause-caused g c =
-    IfErr-weaker c.with_directory.result _ _
-    (λ refusal why. inl (judged_is_caused c.args.store.now c.act_all.new.store [] _ refusal why)) c.with_directory.ensures.refused
-
-pub returns-clause-few : goal.returns-clause-few
-returns-clause-few g c =
-    let numbers = c.requires.opened.1.numbers in
-    IfOk-weaker c.with_directory.result _ _
-    (λ made is.
-    few_numbers c.args.opened.set c.args.opened.datasets c.write_all.new.self c.act_all.new.self (length c.args.actions.now) made.next numbers c.write_all.ensures.next c.write_all.ensures.bounds
-    c.act_all.ensures.bounds c.act_all.ensures.next.1 c.act_all.ensures.within is)
-    c.with_directory.ensures.next_is

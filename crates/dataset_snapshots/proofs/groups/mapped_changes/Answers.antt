@@ -14,9 +14,6 @@ use Rattle.dataset_groups.specs.Leaving.{IsReachExchanged}
 use Rattle.dataset_snapshots.specs.Reach.{volume_blocks_of}
 use Rattle.dataset_snapshots.proofs.MappedGroups.{others_are, spells_with_maps, unmade_from}
 use Rattle.dataset_snapshots.proofs.MapsUnderway.{gone_in_use, gone_once, gone_stored, have_filled, maps_on}
-use Rattle.block_store.proofs.Causes.{caused_behind}
-use Rattle.dataset_groups.specs.Groups.{first_number}
-use Rattle.dataset_snapshots.proofs.Causes.{lacks_maps}
 use Rattle.dataset_snapshots.proofs.groups.mapped_changes.Goals as goal
 
 pub returns-in_err-made-clause-known : goal.returns-in_err-made-clause-known
@@ -123,15 +120,3 @@ returns-clause-value g c = λ stored planned birth root pool writes plans is des
       subst (λ (spaces : List VdevSpace). MapAnew is.objects spaces replaced all) (sym same)
           (subst (λ (them : List Block). MapAnew is.objects mid.spaces them all) c.deref.ensures.value planned_maps.1),
     )
-
-pub returns-in_err-made-clause-caused : goal.returns-in_err-made-clause-caused
-returns-in_err-made-clause-caused g c =
-    passed_on _ _ _ c.from_residual.ensures.1 (⊎_elim (λ cause. inl cause) (λ lacks. inr (lacks.0, inl lacks.1)) c.in_err-made.ensures.caused)
-
-pub returns-in_err-changes-clause-caused : goal.returns-in_err-changes-clause-caused
-returns-in_err-changes-clause-caused g c =
-    let steps = c.changes_of.ensures.steps in
-    passed_on _ _ _ c.from_residual-in_err-changes.ensures.1
-    (⊎_elim (λ cause. inl (caused_behind c.args.store.now c.changes_of.new.store c.plan_maps.new.store [] _ steps cause))
-    (λ lacks. inr (lacks.0, inr (lacks_maps c.args.store.now c.changes_of.new.store (first_number c.args.opened.set) c.args.actions.now c.in_ok-made.made.next steps c.in_ok-made.ensures.few lacks.1)))
-    c.in_err-changes.ensures.caused)

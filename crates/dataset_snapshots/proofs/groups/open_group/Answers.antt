@@ -1,4 +1,4 @@
-use Rattle.std.proofs.Common.{[], ◌<◌, ◌≤◌, ◌-◌, ◌++◌, ℕ, List, length, ap, sym, subst, ◌∙◌, arith}
+use Rattle.std.proofs.Common.{◌<◌, ◌≤◌, ◌-◌, ◌++◌, ℕ, List, length, ap, sym, subst, ◌∙◌, arith}
 use Rattle.block_pointer.specs.declared.block.Block.{Block}
 use Rattle.block_store.proofs.Steps.{reads_on}
 use Rattle.dataset_groups.specs.declared.datasets.GroupDatasets.{GroupDatasets}
@@ -14,7 +14,6 @@ use Rattle.dataset_snapshots.specs.Opening.{IsGroupFound}
 use Rattle.dataset_snapshots.proofs.GroupDemands.{begun_unread, names_kept, names_unread, renamed_by}
 use Rattle.dataset_snapshots.proofs.GroupsOpened.{bounds_left, exchanged_from, next_left, not_renamed, objects_begun, rows_left, set_begun, written_but, written_from}
 use Rattle.dataset_snapshots.proofs.Renumbered.{found_so, from_so, numbered, numbers_left, room_left}
-use Rattle.block_store.proofs.Causes.{caused_behind_reads}
 use Rattle.dataset_snapshots.proofs.groups.open_group.Goals as goal
 
 -- ---- what was begun
@@ -186,17 +185,3 @@ returns-clause-found g c =
       destroys = c.in_ok-renamed.ensures.which;
       renamed = renamed_by mid.directory rows names c.in_ok-renamed.renamed found.begins.directory c.in_ok-renamed.ensures.renamed;
     })
-
-pub returns-in_err-begun-clause-caused : goal.returns-in_err-begun-clause-caused
-returns-in_err-begun-clause-caused g c = passed_on _ _ _ c.from_residual.ensures.1 c.in_err-begun.ensures.caused
-
-pub returns-in_err-renamed-clause-caused : goal.returns-in_err-renamed-clause-caused
-returns-in_err-renamed-clause-caused g c =
-    passed_on _ _ _ c.from_residual-in_err-renamed.ensures.1
-    (caused_behind_reads c.args.store.now c.reuse_numbers.new.store c.destroy_all.new.store [] _ (reads_on _ _ _ _ c.in_ok-begun.ensures.reads c.reuse_numbers.ensures.reads) c.in_err-renamed.ensures.caused)
-
-pub returns-clause-is_set : goal.returns-clause-is_set
-returns-clause-is_set g c = λ stored set held is honest.
-    let first = c.in_ok-begun.ensures.reads in
-    let second = c.reuse_numbers.ensures.reads in
-    c.in_ok-begun.ensures.is_set stored set held is (true_before _ _ _ _ first second (true_before _ _ _ _ (reads_on _ _ _ _ first second) c.destroy_all.ensures.reads honest))

@@ -16,8 +16,6 @@ use Rattle.objset.specs.declared.changes.SetCopies.{SetCopies}
 use Rattle.objset.specs.Changes.{HasNoRoom, changed, copies_of}
 use Rattle.dataset_groups.proofs.Copied.{adds_of_root}
 use Rattle.dataset_groups.proofs.Numbered.{none_behind, set_planned}
-use Rattle.block_store.proofs.Causes.{caused_behind}
-use Rattle.block_store.specs.declared.refusal.Refusal.TheVariants.{NoMemory}
 use Rattle.dataset_snapshots.proofs.groups.plan_root.Goals as goal
 
 -- the meta object set has three copies
@@ -108,15 +106,3 @@ returns-clause-refused g c =
     IfErr-weaker c.plan_set.result _ _ (λ refusal both. root_refused c.args.store.now c.change.new.store c.plan_set.new.store c.args.set.now c.args.before c.args.group _ c.args.changes.now refusal (ap copies_of c.requires.kind)
     c.in_ok-rewrite.ensures.places both.0
     (λ is. three_copies c.change.new.store c.plan_set.new.store _ (c.in_ok-rewrite.ensures.kind ∙ c.requires.kind) (both.1 is))) (err_both c.plan_set.result _ _ c.plan_set.ensures.refused c.plan_set.ensures.no_room)
-
-pub returns-in_err-rewrite-clause-caused : goal.returns-in_err-rewrite-clause-caused
-returns-in_err-rewrite-clause-caused g c = passed_on _ _ _ c.from_residual.ensures.1 c.in_err-rewrite.ensures.caused
-
-pub returns-in_err-extend_from_slice-clause-caused : goal.returns-in_err-extend_from_slice-clause-caused
-returns-in_err-extend_from_slice-clause-caused g c = passed_on _ NoMemory _ c.from_residual-in_err-extend_from_slice.ensures.1 tt
-
-pub returns-clause-caused : goal.returns-clause-caused
-returns-clause-caused g c =
-    IfErr-weaker c.plan_set.result _ _
-    (λ refusal cause. caused_behind c.args.store.now c.change.new.store c.plan_set.new.store [] refusal c.in_ok-rewrite.ensures.steps cause)
-    c.plan_set.ensures.caused

@@ -13,7 +13,6 @@ use Rattle.dataset_snapshots.specs.Contents.{AreChainsFound, AreUnchained, AreVo
 use Rattle.dataset_snapshots.specs.Pools.{SpellsDataset}
 use Rattle.dataset_snapshots.proofs.Chained.{volumes_of}
 use Rattle.dataset_snapshots.proofs.Datasets.{are_of_root}
-use Rattle.block_store.proofs.Causes.{caused_behind_reads}
 use Rattle.dataset_snapshots.proofs.naming.names_by.Goals as goal
 
 ok_and : {T E : Type 0} (r : Result T E) (P Q : T → Type 0) (R : Type 0) → ((x : T) → P x → R → Q x) → IfOk r P → OnOk r R → IfOk r Q
@@ -88,12 +87,3 @@ returns-clause-known g c =
     (subst (λ (rows : List DirectoryRow). AllZip (SpellsDataset stored c.args.root.now.birth is.objects) rows pool.volumes) (sym rows_are) (volumes_of is)) is.chains
     (subst (λ (rows : List DirectoryRow). NamesPool is.datasets is.readings rows pool) (sym rows_are) is.names) (true_after _ _ _ _ first rest honest))
     c.names_of.ensures.known
-
-pub returns-in_err-set-clause-caused : goal.returns-in_err-set-clause-caused
-returns-in_err-set-clause-caused g c = passed_on _ _ _ c.from_residual.ensures.1 c.in_err-set.ensures.caused
-
-pub returns-clause-caused : goal.returns-clause-caused
-returns-clause-caused g c =
-    IfErr-weaker c.names_of.result _ _
-    (λ refusal cause. caused_behind_reads c.args.store.now c.read_meta.new.store c.names_of.new.store c.args.missing.now refusal c.in_ok-set.ensures.reads cause)
-    c.names_of.ensures.caused

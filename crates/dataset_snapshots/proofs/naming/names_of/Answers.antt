@@ -15,7 +15,6 @@ use Rattle.dataset_snapshots.proofs.FittingRecords.{chained_of_pool}
 use Rattle.dataset_snapshots.proofs.NamedRows.{AreBareNamed, all_named, all_read, knows_next, named_next, next_volume, none_next, objects_next, objects_read, records_next, shape_is}
 use Rattle.dataset_snapshots.proofs.ToldOrigins.{bare_of, bare_spelled, none_bare, told_is}
 use Rattle.dataset_snapshots.proofs.WalkedRows.{at_row}
-use Rattle.block_store.proofs.Causes.{caused_behind_reads}
 use Rattle.dataset_snapshots.proofs.naming.names_of.Goals as goal
 
 pub returns-in_err-dataset-clause-reads : goal.returns-in_err-dataset-clause-reads
@@ -144,23 +143,3 @@ returns-clause-chains g c =
       (index_there records c.in_ok-index.field-0 c.in-Some.index (subst (λ (them : List RowRecord). IsIndexIfChained them c.in_ok-index.field-0) c.deref.ensures.value c.in_ok-index.ensures)
           c.in-Some.is).0,
     )
-
-pub returns-in_err-dataset-clause-caused : goal.returns-in_err-dataset-clause-caused
-returns-in_err-dataset-clause-caused g c =
-    passed_on _ _ _ c.from_residual.ensures.1
-    (caused_behind_reads c.args.store.now c.loop-row.store c.read_dataset.new.store c.args.missing.now _ c.loop-row.invariant.reads c.in_err-dataset.ensures.caused)
-
-pub returns-in_err-add_name-clause-caused : goal.returns-in_err-add_name-clause-caused
-returns-in_err-add_name-clause-caused g c = passed_on _ NoMemory _ c.from_residual-in_err-add_name.ensures.1 tt
-
-pub returns-in_err-add_record-clause-caused : goal.returns-in_err-add_record-clause-caused
-returns-in_err-add_record-clause-caused g c = passed_on _ NoMemory _ c.from_residual-in_err-add_record.ensures.1 tt
-
-pub returns-in_err-index-clause-caused : goal.returns-in_err-index-clause-caused
-returns-in_err-index-clause-caused g c = passed_on _ NoMemory _ c.from_residual-in_err-index.ensures.1 tt
-
-pub returns-in_err-set_origins-clause-caused : goal.returns-in_err-set_origins-clause-caused
-returns-in_err-set_origins-clause-caused g c = passed_on _ NoMemory _ c.from_residual-in_err-set_origins.ensures.1 tt
-
-pub returns-in_default-clause-caused : goal.returns-in_default-clause-caused
-returns-in_default-clause-caused g c = tt

@@ -4,7 +4,6 @@ use Rattle.block_store.proofs.Steps.{reads_on}
 use Rattle.dnode_tree.proofs.FurtherReads.{true_before, true_after}
 use Rattle.dnode_tree.proofs.Refusing.{passed_on}
 use Rattle.dataset_snapshots.proofs.FoundRanges.{data_refused_in, found_volume_in, is_not_none, not_there_in, volume_found}
-use Rattle.block_store.proofs.Causes.{caused_behind_reads}
 use Rattle.dataset_snapshots.proofs.ranges.read_range_in.Goals as goal
 
 pub returns-in_err-found-clause-refused : goal.returns-in_err-found-clause-refused
@@ -52,18 +51,3 @@ returns-clause-known g c =
     let has = volume_found stored _ _ _ volume c.in-Some.dataset there c.in-Some.is (c.in_ok-found.ensures.value stored pool held is same (true_before _ _ _ _ first rest honest)) in
     known stored volume.bytes (first.keeps stored held) has.1 (true_after _ _ _ _ first rest honest) (subst (λ n. c.args.range.now.offset + c.args.range.now.len ≤ n) (sym has.0.size) within))
     c.read_of.ensures.known
-
-pub returns-in_err-found-clause-caused : goal.returns-in_err-found-clause-caused
-returns-in_err-found-clause-caused g c = passed_on _ _ _ c.from_residual.ensures.1 c.in_err-found.ensures.caused
-
-pub returns-in_default-clause-caused : goal.returns-in_default-clause-caused
-returns-in_default-clause-caused g c = tt
-
-pub returns-clause-caused : goal.returns-clause-caused
-returns-clause-caused g c =
-    IfErr-weaker c.read_of.result _ _
-    (λ refusal cause. caused_behind_reads c.args.store.now c.find_in.new.store c.read_of.new.store c.args.missing.now refusal c.in_ok-found.ensures.reads cause)
-    c.read_of.ensures.caused
-
-pub returns-in_err-found-clause-cause : goal.returns-in_err-found-clause-cause
-returns-in_err-found-clause-cause g c = passed_on _ _ _ c.from_residual.ensures.1 c.in_err-found.ensures.cause

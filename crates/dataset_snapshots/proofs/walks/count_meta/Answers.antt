@@ -8,6 +8,3 @@ returns-clause-refused g c = IfErr-weaker c.read_meta.result _ _ (λ refusal why
 pub returns-clause-known : goal.returns-clause-known
 returns-clause-known g c =
     IfErr-weaker c.read_meta.result _ _ (λ refusal known stored set held is kind some honest. known stored set held is kind honest) c.read_meta.ensures.known
-
-pub returns-then-left-eq0-clause-caused : goal.returns-then-left-eq0-clause-caused
-returns-then-left-eq0-clause-caused g c = tt

@@ -21,6 +21,3 @@ returns-clause-value g c = λ stored objects own blocks pool readings object hel
     ap (λ (r : DatasetRecord). r.created)
     (c.in_ok-before.ensures.value stored objects own blocks stands.r held are (subst (λ n. HasRecord (objects n) stands.r) at stands.has) honest)
     ∙ sym stands.is.created
-
-pub returns-in_err-before-clause-caused : goal.returns-in_err-before-clause-caused
-returns-in_err-before-clause-caused g c = passed_on _ _ _ c.from_residual.ensures.1 c.in_err-before.ensures.caused

@@ -16,9 +16,6 @@ use Rattle.dataset_snapshots.proofs.ChainWalks.{rows_some}
 use Rattle.dataset_snapshots.proofs.Datasets.{are_of_root}
 use Rattle.dataset_snapshots.proofs.Reaching.{parts_are, reached_by, reads_few}
 use Rattle.dataset_snapshots.proofs.WalkedRows.{set_few}
-use Rattle.block_store.proofs.Causes.{caused_behind_reads}
-use Rattle.block_store.specs.declared.refusal.Refusal.TheVariants.{NoMemory}
-use Rattle.object_table.proofs.Causes.{judged_is_caused}
 use Rattle.dataset_snapshots.proofs.walks.reach.Goals as goal
 
 pub returns-in_err-set-clause-refused : goal.returns-in_err-set-clause-refused
@@ -181,23 +178,3 @@ returns-clause-known g c =
     (rows_some is.datasets is.readings is.rows pool.volumes is.names.volumes) (true_after _ _ _ _ both third honest)) in
     ⊎_elim (λ memory. inl memory) (λ bad. absurd (bad.1 (subst (λ blocks. AreDistinct blocks) (sym found_is) once))) why)
     c.whole.ensures.refused
-
-pub returns-in_err-set-clause-caused : goal.returns-in_err-set-clause-caused
-returns-in_err-set-clause-caused g c = passed_on _ _ _ c.from_residual.ensures.1 c.in_err-set.ensures.caused
-
-pub returns-in_err-own-clause-caused : goal.returns-in_err-own-clause-caused
-returns-in_err-own-clause-caused g c =
-    passed_on _ _ _ c.from_residual-in_err-own.ensures.1
-    (caused_behind_reads c.args.store.now c.count_meta.new.store c.walk_within.new.store c.args.missing.now _ c.in_ok-set.ensures.reads c.in_err-own.ensures.caused)
-
-pub returns-in_err-below-clause-caused : goal.returns-in_err-below-clause-caused
-returns-in_err-below-clause-caused g c =
-    passed_on _ _ _ c.from_residual-in_err-below.ensures.1
-    (caused_behind_reads c.args.store.now c.walk_within.new.store c.walk_volumes.new.store c.args.missing.now _ (reads_on _ _ _ _ c.in_ok-set.ensures.reads c.in_ok-own.ensures.reads) c.in_err-below.ensures.caused)
-
-pub returns-in_err-found-clause-caused : goal.returns-in_err-found-clause-caused
-returns-in_err-found-clause-caused g c = passed_on _ NoMemory _ c.from_residual-in_err-found.ensures.1 tt
-
-pub returns-clause-caused : goal.returns-clause-caused
-returns-clause-caused g c =
-    IfErr-weaker c.whole.result _ _ (λ refusal why. judged_is_caused c.args.store.now c.walk_volumes.new.store c.args.missing.now _ refusal why) c.whole.ensures.refused

@@ -10,7 +10,6 @@ use Rattle.object_table.proofs.Tables.{spaces_stay}
 use Rattle.volume.specs.Younger.{IsYoungerVolumeWalked}
 use Rattle.dataset_snapshots.specs.Reach.{IsGroupBefore}
 use Rattle.dataset_snapshots.proofs.ChainWalks.{own_enough, own_walked}
-use Rattle.block_store.proofs.Causes.{caused_behind_reads}
 use Rattle.dataset_snapshots.proofs.walks.walk_dataset.Goals as goal
 
 pub returns-in_err-dataset-clause-refused : goal.returns-in_err-dataset-clause-refused
@@ -120,17 +119,3 @@ returns-clause-known g c =
     (IsForLoss refusal)
     (λ is once enough. known stored c.args.birth _ (both.keeps stored held) is (omega arith) once enough (true_after _ _ _ _ both rest honest)) chains.sound long)
     c.walk_younger.ensures.known
-
-pub returns-in_err-dataset-clause-caused : goal.returns-in_err-dataset-clause-caused
-returns-in_err-dataset-clause-caused g c = passed_on _ _ _ c.from_residual.ensures.1 c.in_err-dataset.ensures.caused
-
-pub returns-in_err-since-clause-caused : goal.returns-in_err-since-clause-caused
-returns-in_err-since-clause-caused g c =
-    passed_on _ _ _ c.from_residual-in_err-since.ensures.1
-    (caused_behind_reads c.args.store.now c.read_dataset.new.store c.group_before.new.store c.args.missing.now _ c.in_ok-dataset.ensures.reads c.in_err-since.ensures.caused)
-
-pub returns-clause-caused : goal.returns-clause-caused
-returns-clause-caused g c =
-    IfErr-weaker c.walk_younger.result _ _
-    (λ refusal cause. caused_behind_reads c.args.store.now c.group_before.new.store c.walk_younger.new.store c.args.missing.now refusal (reads_on _ _ _ _ c.in_ok-dataset.ensures.reads c.in_ok-since.ensures.reads) cause)
-    c.walk_younger.ensures.caused

@@ -13,9 +13,6 @@ use Rattle.dataset_snapshots.specs.Reach.{meta_blocks_of}
 use Rattle.dataset_snapshots.proofs.BlocksOnce.{back_once, set_once}
 use Rattle.dataset_snapshots.proofs.Datasets.{are_of_root}
 use Rattle.dataset_snapshots.proofs.Reaching.{reads_few}
-use Rattle.block_store.proofs.Causes.{caused_behind_reads}
-use Rattle.block_store.specs.declared.refusal.Refusal.TheVariants.{NoMemory}
-use Rattle.object_table.proofs.Causes.{judged_is_caused}
 use Rattle.dataset_snapshots.proofs.walks.walk_meta.Goals as goal
 
 pub returns-in_err-set-clause-refused : goal.returns-in_err-set-clause-refused
@@ -125,18 +122,3 @@ returns-clause-walked g c = record {
       (spaces_stay _ _ _ c.in_ok-set.ensures.reads) c.in_ok-own.ensures.count;
   are = c.in_ok-blocks.ensures.same ∙ (c.in_ok-found.ensures ∙ ap (λ (bs : List Block). c.args.root.now ∷ bs) (append-nil c.in_ok-own.own.items));
 }
-
-pub returns-in_err-set-clause-caused : goal.returns-in_err-set-clause-caused
-returns-in_err-set-clause-caused g c = passed_on _ _ _ c.from_residual.ensures.1 c.in_err-set.ensures.caused
-
-pub returns-in_err-own-clause-caused : goal.returns-in_err-own-clause-caused
-returns-in_err-own-clause-caused g c =
-    passed_on _ _ _ c.from_residual-in_err-own.ensures.1
-    (caused_behind_reads c.args.store.now c.count_meta.new.store c.walk_within.new.store c.args.missing.now _ c.in_ok-set.ensures.reads c.in_err-own.ensures.caused)
-
-pub returns-in_err-found-clause-caused : goal.returns-in_err-found-clause-caused
-returns-in_err-found-clause-caused g c = passed_on _ NoMemory _ c.from_residual-in_err-found.ensures.1 tt
-
-pub returns-in_err-blocks-clause-caused : goal.returns-in_err-blocks-clause-caused
-returns-in_err-blocks-clause-caused g c =
-    passed_on _ _ _ c.from_residual-in_err-blocks.ensures.1 (judged_is_caused c.args.store.now c.walk_within.new.store c.args.missing.now _ _ c.in_err-blocks.ensures.refused)

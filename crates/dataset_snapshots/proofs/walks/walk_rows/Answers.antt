@@ -8,8 +8,6 @@ use Rattle.meta_objset.specs.declared.directory.DirectoryRow.{DirectoryRow}
 use Rattle.dataset_snapshots.specs.Reach.{AreRowsWalked}
 use Rattle.dataset_snapshots.proofs.ChainWalks.{enough_left, next_walked}
 use Rattle.dataset_snapshots.proofs.WalkedRows.{at_row, next_row, rows_few}
-use Rattle.block_store.proofs.Causes.{caused_behind_reads}
-use Rattle.block_store.specs.declared.refusal.Refusal.TheVariants.{NoMemory}
 use Rattle.dataset_snapshots.proofs.walks.walk_rows.Goals as goal
 
 pub returns-in_err-more-clause-reads : goal.returns-in_err-more-clause-reads
@@ -74,11 +72,3 @@ pub returns-clause-count : goal.returns-clause-count
 returns-clause-count g c =
     subst (λ (rows : List DirectoryRow). AreRowsWalked c.args.store.now.spaces c.args.set.now c.args.birth rows c.args.left.now c.loop-row.left c.loop-row.found.items)
     (take_all c.loop-row.row-index c.args.rows.now c.loop-row-test.false) c.loop-row.invariant.walked
-
-pub returns-in_err-more-clause-caused : goal.returns-in_err-more-clause-caused
-returns-in_err-more-clause-caused g c =
-    passed_on _ _ _ c.from_residual.ensures.1
-    (caused_behind_reads c.args.store.now c.loop-row.store c.walk_dataset.new.store c.args.missing.now _ c.loop-row.invariant.reads c.in_err-more.ensures.caused)
-
-pub returns-in_err-add-clause-caused : goal.returns-in_err-add-clause-caused
-returns-in_err-add-clause-caused g c = passed_on _ NoMemory _ c.from_residual-in_err-add.ensures.1 tt

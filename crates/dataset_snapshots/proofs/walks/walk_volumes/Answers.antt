@@ -10,7 +10,6 @@ use Rattle.dnode_tree.proofs.FurtherReads.{true_before, true_after}
 use Rattle.dnode_tree.proofs.Refusing.{passed_on}
 use Rattle.meta_objset.specs.declared.directory.DirectoryRow.{DirectoryRow}
 use Rattle.dataset_snapshots.specs.Reach.{AreRowsWalked, IsRowUnwalked}
-use Rattle.block_store.proofs.Causes.{caused_behind_reads}
 use Rattle.dataset_snapshots.proofs.walks.walk_volumes.Goals as goal
 
 pub returns-in_err-directory-clause-refused : goal.returns-in_err-directory-clause-refused
@@ -71,12 +70,3 @@ returns-clause-known g c =
     subst (λ (rs : List DirectoryRow). All (λ row. (pool.datasets row.object).kind ≢ Free) rs → length (reach_by pool rs) ≤ c.args.left.now → IsForLoss refusal) rows_are
     (λ each enough. known stored objects own blocks pool readings (first.keeps stored held) are chains each enough (true_after _ _ _ _ first rest honest)) some long)
     c.walk_rows.ensures.known
-
-pub returns-in_err-directory-clause-caused : goal.returns-in_err-directory-clause-caused
-returns-in_err-directory-clause-caused g c = passed_on _ _ _ c.from_residual.ensures.1 c.in_err-directory.ensures.caused
-
-pub returns-clause-caused : goal.returns-clause-caused
-returns-clause-caused g c =
-    IfErr-weaker c.walk_rows.result _ _
-    (λ refusal cause. caused_behind_reads c.args.store.now c.read_directory.new.store c.walk_rows.new.store c.args.missing.now refusal c.in_ok-directory.ensures.reads cause)
-    c.walk_rows.ensures.caused

@@ -1,8 +1,6 @@
-use Rattle.std.proofs.lemmas.Result.{IfOk-weaker, IfErr-weaker}
-use Rattle.dnode_tree.proofs.Refusing.{ok_both, passed_on}
+use Rattle.std.proofs.lemmas.Result.{IfOk-weaker}
+use Rattle.dnode_tree.proofs.Refusing.{ok_both}
 use Rattle.dataset_snapshots.proofs.Rows.{names_same}
-use Rattle.block_store.specs.declared.refusal.Refusal.TheVariants.{NoMemory}
-use Rattle.std.proofs.Common.{inl, inr, ⊎_elim}
 use Rattle.dataset_snapshots.proofs.writing.changed_blocks.Goals as goal
 
 pub returns-clause-value : goal.returns-clause-value
@@ -24,10 +22,3 @@ returns-clause-found g c =
     })
     (ok_both c.changed_blocks.result _ _ c.changed_blocks.ensures.blocks
     (ok_both c.changed_blocks.result _ _ c.changed_blocks.ensures.changed (ok_both c.changed_blocks.result _ _ c.changed_blocks.ensures.judged c.changed_blocks.ensures.found)))
-
-pub returns-in_err-name-clause-caused : goal.returns-in_err-name-clause-caused
-returns-in_err-name-clause-caused g c = passed_on _ NoMemory _ c.from_residual.ensures.1 tt
-
-pub returns-clause-refused : goal.returns-clause-refused
-returns-clause-refused g c =
-    IfErr-weaker c.changed_blocks.result _ _ (λ refusal. ⊎_elim (λ memory. inl memory) (λ why. inr (c.in_ok-name.name, c.in_ok-name.ensures, why))) c.changed_blocks.ensures.refused

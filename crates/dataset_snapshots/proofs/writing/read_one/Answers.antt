@@ -1,4 +1,4 @@
-use Rattle.std.proofs.Common.{[], ℕ, refl, subst, sym}
+use Rattle.std.proofs.Common.{ℕ, refl, subst, sym}
 use Rattle.block_store.proofs.Steps.{reads_on}
 use Rattle.dataset_groups.specs.Over.{HasRecordNow}
 use Rattle.dataset_groups.specs.States.{birth_of, set_of}
@@ -12,7 +12,6 @@ use Rattle.volume.specs.Writing.{IsArrayWith}
 use Rattle.dataset_snapshots.specs.Pools.{SpellsDataset}
 use Rattle.dataset_snapshots.proofs.ChangedRows.{zip_has}
 use Rattle.dataset_snapshots.proofs.HeadsRead.{blocks_refused, block_size_is, keeps_datasets, keeps_group, number_is, record_here, record_refused, volume_in, volume_spelled}
-use Rattle.block_store.proofs.Causes.{caused_behind_reads}
 use Rattle.dataset_snapshots.proofs.writing.read_one.Goals as goal
 
 pub returns-in_default-clause-known : goal.returns-in_default-clause-known
@@ -114,14 +113,3 @@ returns-clause-value g c = λ stored there own blocks held are honest over.
           c.in_ok-record.ensures.lists there c.requires.unread value,
       is.0,
     )
-
-pub returns-in_default-clause-caused : goal.returns-in_default-clause-caused
-returns-in_default-clause-caused g c = tt
-
-pub returns-in_err-record-clause-caused : goal.returns-in_err-record-clause-caused
-returns-in_err-record-clause-caused g c = passed_on _ _ _ c.from_residual.ensures.1 c.in_err-record.ensures.caused
-
-pub returns-in_err-blocks-clause-caused : goal.returns-in_err-blocks-clause-caused
-returns-in_err-blocks-clause-caused g c =
-    passed_on _ _ _ c.from_residual-in_err-blocks.ensures.1
-    (caused_behind_reads c.args.store.now c.record.new.store c.changed_blocks.new.store [] _ c.record.ensures.reads c.in_err-blocks.ensures.caused)

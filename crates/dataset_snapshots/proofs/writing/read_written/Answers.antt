@@ -1,4 +1,4 @@
-use Rattle.std.proofs.Common.{[], ◌∙◌, ℕ, inr, Contains, List, get_or, sym, subst, arith}
+use Rattle.std.proofs.Common.{◌∙◌, ℕ, inr, Contains, List, get_or, sym, subst, arith}
 use Rattle.std.specs.List.{AllZip}
 use Rattle.std.proofs.lemmas.List.{take_all}
 use Rattle.std.proofs.lemmas.List.Elements.{Contains-get_or}
@@ -16,8 +16,6 @@ use Rattle.dataset_snapshots.specs.Pools.{SpellsDataset}
 use Rattle.dataset_snapshots.specs.Writing.{IsReadFrom}
 use Rattle.dataset_snapshots.proofs.HeadsRead.{found_first, from_kept, kept_on, objects_kept, rows_kept, unread_last}
 use Rattle.dataset_snapshots.proofs.Pushing.{all_more, mapped_more}
-use Rattle.block_store.proofs.Causes.{caused_behind_reads}
-use Rattle.block_store.specs.declared.refusal.Refusal.TheVariants.{NoMemory}
 use Rattle.dataset_snapshots.proofs.writing.read_written.Goals as goal
 
 pub read_one-requires-clause-row : goal.read_one-requires-clause-row
@@ -105,11 +103,3 @@ returns-clause-value g c = λ stored there own blocks held are honest.
 
 pub returns-clause-found : goal.returns-clause-found
 returns-clause-found g c = c.loop-object.invariant.found
-
-pub returns-in_err-head-clause-caused : goal.returns-in_err-head-clause-caused
-returns-in_err-head-clause-caused g c =
-    passed_on _ _ _ c.from_residual.ensures.1
-    (caused_behind_reads c.args.store.now c.loop-object.store c.read_one.new.store [] _ c.loop-object.invariant.reads c.in_err-head.ensures.caused)
-
-pub returns-in_err-push-clause-caused : goal.returns-in_err-push-clause-caused
-returns-in_err-push-clause-caused g c = passed_on _ NoMemory _ c.from_residual-in_err-push.ensures.1 tt

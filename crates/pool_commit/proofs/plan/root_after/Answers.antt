@@ -20,7 +20,7 @@ use Rattle.volume_rules.specs.GoodChanges.{MakesGoodVolumes}
 use Rattle.volume_rules.specs.Parting.{Parted, made_by, parted_of, with_made}
 use Rattle.pool_commit.specs.Backs.{BeginsWithMaps, LeadsTo, LeavesMaps, SpellsRoot}
 use Rattle.pool_commit.specs.Directories.{SpellsBy}
-use Rattle.pool_commit.proofs.Directories.{config_led, first_caused, later_caused, rows_led}
+use Rattle.pool_commit.proofs.Directories.{config_led, first_refused, later_refused, rows_led}
 use Rattle.pool_commit.proofs.Parted.{first_parted, may_parted, same_parted}
 use Rattle.pool_commit.proofs.plan.root_after.Given as given
 use Rattle.pool_commit.proofs.plan.root_after.Goals as goal
@@ -115,14 +115,14 @@ returns-in_err-first-in-None-clause-known g c =
     (subst (λ (o : Option Block). BeginsWithMaps c.args.store.now.spaces stored (c.args.group - 1) o pool) c.in-None.is begins) honest
     (good_parted c.args.items.now c.in_ok-parted.parted (c.in_ok-parted.ensures ∙ ap parted_of c.actions.ensures) good))
 
-pub returns-in_err-first-in-None-clause-caused : goal.returns-in_err-first-in-None-clause-caused
-returns-in_err-first-in-None-clause-caused g c =
+pub returns-in_err-first-in-None-clause-refused : goal.returns-in_err-first-in-None-clause-refused
+returns-in_err-first-in-None-clause-refused g c =
     passed_on _ _ _ c.from_residual-in_err-first-in-None.ensures.1
-    (first_caused c.args.store.now c.first_root.new.store c.args.group c.args.last.now.root c.args.items.now c.in_ok-parted.parted _
-    (c.in_ok-parted.ensures ∙ ap parted_of c.actions.ensures) c.in-None.is c.in_err-first-in-None.ensures.caused)
+    (first_refused c.args.store.now c.first_root.new.store c.args.last.now c.args.group c.args.items.now c.in_ok-parted.parted _ _
+    (c.in_ok-parted.ensures ∙ ap parted_of c.actions.ensures) c.in-None.is c.config.ensures c.in_err-first-in-None.ensures.refused)
 
-pub returns-in_err-next-in-Some-clause-caused : goal.returns-in_err-next-in-Some-clause-caused
-returns-in_err-next-in-Some-clause-caused g c =
+pub returns-in_err-next-in-Some-clause-refused : goal.returns-in_err-next-in-Some-clause-refused
+returns-in_err-next-in-Some-clause-refused g c =
     passed_on _ _ _ c.from_residual-in_err-next-in-Some.ensures.1
-    (later_caused c.args.store.now c.after_group.new.store c.args.group c.args.last.now.root c.in-Some.root c.args.items.now c.in_ok-parted.parted _
-    (c.in_ok-parted.ensures ∙ ap parted_of c.actions.ensures) c.in-Some.is c.in_err-next-in-Some.ensures.caused)
+    (later_refused c.args.store.now c.after_group.new.store c.args.last.now _ c.args.group c.args.items.now c.in_ok-parted.parted _ _
+    (c.in_ok-parted.ensures ∙ ap parted_of c.actions.ensures) c.in-Some.is c.kept_directory.ensures c.in_err-next-in-Some.ensures.refused)

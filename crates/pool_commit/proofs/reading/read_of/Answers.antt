@@ -1,9 +1,11 @@
-use Rattle.std.proofs.Common.{inl, inr, sym, ap, ◌∙◌}
+use Rattle.std.proofs.Common.{⊎_elim, inl, inr, sym, ap, ◌∙◌}
 use Rattle.block_store.specs.Losses.{IsForLoss}
 use Rattle.block_store.specs.Steps.{AnswersAreTrue}
 use Rattle.pool_model.specs.Refusals.{read_refusal}
+use Rattle.pool_commit.specs.Causes.{of_store}
 use Rattle.pool_commit.proofs.Directories.{rows_spelled}
-use Rattle.pool_commit.proofs.Unread.{block_lost, read_refused}
+use Rattle.pool_commit.proofs.Refusing.{no_fault_of_memory}
+use Rattle.pool_commit.proofs.Unread.{by_kept_rows, read_refused, unread_of}
 use Rattle.pool_commit.proofs.ReadCauses.{at_none, at_shape, has_no_cause, in_range, is_out_of_range, shape_within}
 use Rattle.pool_commit.proofs.reading.read_of.Goals as goal
 
@@ -44,9 +46,15 @@ returns-in-Err-clause-refused g c = λ stored pool held spells.
     let within = (in_range c.args.range.now.offset c.args.range.now.len c.in-Some.shape c.against_read.result c.against_read.ensures (sym c.is_some.ensures ∙ c.if-is_some.false)).0 in
     let known : AnswersAreTrue c.args.store.now c.read_range_in.new.store → IsForLoss c.in-Err.refusal =
     λ honest. c.in-Err.ensures.known stored pool there.0 held by.0 by.1 honest there.1 (shape_within _ _ c.in-Some.shape there.0 there.2 within) in
-    read_refused c.args.store.now c.read_range_in.new.store c.args.range.now.name.now c.args.range.now.offset c.args.range.now.len pool c.in-Err.refusal c.from.result
-    c.from.ensures none c.in-Err.ensures.cause known
+    ⊎_elim (λ memory. inl (c.from.ensures ∙ ap of_store memory))
+    (λ why. read_refused c.args.store.now c.read_range_in.new.store c.args.kept.now c.args.birth c.in-Some-root.root c.args.range.now.name.now c.args.range.now.offset c.args.range.now.len
+    c.args.missing.now pool c.in-Err.refusal c.from.result c.in-Some-root.is c.from.ensures none why known)
+    (by_kept_rows c.args.store.now c.read_range_in.new.store c.args.missing.now c.args.birth c.in-Some-root.root c.directory.result.now c.args.kept.now.directory.value c.args.range.now.name.now
+    c.args.range.now.offset c.args.range.now.len c.in-Err.refusal c.directory.ensures c.in-Err.ensures.refused)
 
-pub returns-in-Err-clause-lost : goal.returns-in-Err-clause-lost
-returns-in-Err-clause-lost g c =
-    block_lost c.args.store.now c.read_range_in.new.store c.args.missing.now c.in-Err.refusal c.from.result c.from.ensures c.in-Err.ensures.caused
+pub returns-in-Err-clause-unread : goal.returns-in-Err-clause-unread
+returns-in-Err-clause-unread g c = λ fault.
+    unread_of c.args.store.now c.read_range_in.new.store c.args.kept.now c.args.birth c.in-Some-root.root c.args.range.now.name.now c.args.range.now.offset c.args.range.now.len
+    c.args.missing.now c.in-Err.refusal c.from.result c.in-Some-root.is c.from.ensures
+    (⊎_elim (λ memory. absurd (no_fault_of_memory c.from.result c.in-Err.refusal c.from.ensures fault memory)) (λ why. why) (by_kept_rows c.args.store.now c.read_range_in.new.store c.args.missing.now c.args.birth c.in-Some-root.root c.directory.result.now c.args.kept.now.directory.value c.args.range.now.name.now
+    c.args.range.now.offset c.args.range.now.len c.in-Err.refusal c.directory.ensures c.in-Err.ensures.refused))

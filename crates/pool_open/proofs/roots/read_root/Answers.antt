@@ -27,7 +27,7 @@ returns-in-Err-contents_under-clause-refused g c =
     } in
     subst (λ (new : Disks). IsRootNotRead c.args.disks new c.args.shapes.now c.args.out.now c.args.group c.args.root.now c.args.left cause) (sym c.into_array-in-Err-contents_under.ensures)
     (refused_through store later c.args.disks c.args.shapes.now c.args.out.now c.args.group c.args.root.now c.args.left cause over c.contents_under.ensures.reads
-    c.in-Err-contents_under.ensures.caused c.in-Err-contents_under.ensures.known)
+    c.contents_under.new.left c.in-Err-contents_under.ensures.refused c.in-Err-contents_under.ensures.known)
 
 pub returns-in-Ok-contents_under-clause-only : goal.returns-in-Ok-contents_under-clause-only
 returns-in-Ok-contents_under-clause-only g c =

@@ -3,8 +3,6 @@ use Rattle.std.proofs.lemmas.Result.{IfErr-weaker}
 use Rattle.block_store.proofs.Steps.{reads_none}
 use Rattle.raidz_io.proofs.Found.{false_not_true}
 use Rattle.dataset_snapshots.proofs.FoundRanges.{is_past, range_within}
-use Rattle.volume.proofs.ReadRefusals.{blocks_read}
-use Rattle.dataset_snapshots.proofs.NamedRows.{needs_no_room}
 use Rattle.dataset_snapshots.proofs.ranges.VolumeRange.read_of.Goals as goal
 
 pub returns-then-not-is_within-clause-reads : goal.returns-then-not-is_within-clause-reads
@@ -26,13 +24,3 @@ returns-clause-refused g c =
 
 pub returns-clause-known : goal.returns-clause-known
 returns-clause-known g c = IfErr-weaker c.read.result _ _ (λ refusal known stored array held spells honest within. known stored array held spells honest) c.read.ensures.known
-
-pub returns-then-not-is_within-clause-caused : goal.returns-then-not-is_within-clause-caused
-returns-then-not-is_within-clause-caused g c = tt
-
-pub returns-clause-cause : goal.returns-clause-cause
-returns-clause-cause g c =
-    IfErr-weaker c.read.result _ _
-    (λ refusal why. needs_no_room refusal
-    (⊎_elim (λ memory. inl memory) (λ unread. blocks_read c.args.store.now c.read.new.store c.args.missing.now c.args.dataset.now.volume c.args.birth _ refusal unread) why))
-    c.read.ensures.refused

@@ -2,6 +2,7 @@ use Rattle.std.proofs.Common.{ℕ, suc, ◌≡◌, ◌≤◌, ⊎_elim, inl, inr
 use Rattle.block_pointer.specs.declared.block.Block.{Block}
 use Rattle.model_disk.specs.Joint.{Disks}
 use Rattle.raidz_io.specs.Reads.{AreUntouched, IsHonestSince}
+use Rattle.block_store.specs.declared.refusal.Refusal.{Refusal as StoreRefusal}
 use Rattle.block_store.specs.Store.{outs}
 use Rattle.pool_model.specs.View.{Unplanned}
 use Rattle.volume_rules.specs.Effects.{GroupTakesEffect}
@@ -11,13 +12,14 @@ use Rattle.pool_commit.specs.declared.kept.Planned.{Planned}
 use Rattle.pool_commit.specs.Backs.{BeginsWithMaps, SpellsGroup}
 use Rattle.pool_commit.proofs.PlanMaps.{begins_with_maps}
 use Rattle.pool_commit.specs.Reading.{IsFaultIn}
-use Rattle.pool_commit.specs.Room.{BeginsPlan, IsNextCaused}
+use Rattle.pool_commit.specs.Room.{IsNextRefused, IsPlanRefused}
+use Rattle.vdev_label.specs.Plain.{config_view}
 use Rattle.pool_commit.specs.Space.{GivesBack}
 use Rattle.pool_commit.specs.State.{State}
 use Rattle.pool_commit.specs.StateOf.{state_of}
 use Rattle.pool_commit.proofs.Backing.{last_spelled}
 use Rattle.pool_commit.proofs.Planning.{AreGivenBack, was_ok, Begins, is_begun, untouched_since, at_error, backs_begun, backs_dropped, backs_still, begun_plans, unplanned_still, plan_is_backed}
-use Rattle.pool_commit.proofs.Refusing.{next_lost, no_config, only_lost, only_room, plan_faults, room_lacks}
+use Rattle.pool_commit.proofs.Refusing.{no_config, only_room, plan_faults}
 use Rattle.pool_commit.proofs.Spellings.{fits_spelled}
 use Rattle.pool_commit.specs.HasDisks.{AreDueOn, HasDisks, HasSpelling, IsPlannedOn}
 use Rattle.pool_commit.proofs.Labels.{labels_still}
@@ -174,34 +176,29 @@ pub returns-in-Err-clause-untouched : goal.returns-in-Err-clause-untouched
 returns-in-Err-clause-untouched g c =
     untouched_since c.args.self.now.store c.begin_plan.new.self c.group_after.new.store c.begin_plan.ensures.disks c.begin_plan.ensures.out c.in-Err.ensures.steps.untouched
 
--- where the plan began
-begins : (g : given.Over) (c : goal.After-drop-behind-in-Err-3 g) → BeginsPlan (state_of c.args.self.now) c.begin_plan.new.self
-begins g c = record {
-  group = c.saturating_add-group.result;
+-- what the plan was refused for
+refused : (g : given.Over) (c : goal.After-drop-behind-in-Err-3 g) → IsPlanRefused (state_of c.args.self.now) c.group_after.new.store c.args.items.now c.in-Err.refusal
+refused g c = record {
+  begun = c.begin_plan.new.self;
   is_begun = is_begun c.args.self.now.store c.begin_plan.new.self c.saturating_add-group.result c.begin_plan.ensures.disks c.begin_plan.ensures.out c.begin_plan.ensures.shapes
       c.in_ok-begin_plan.ensures.settled c.begin_plan.ensures.free;
+  group = c.saturating_add-group.result;
   is_next = λ few. let same = c.committed.ensures in omega arith;
+  why = subst (λ (kept : KeptGroup). IsNextRefused c.begin_plan.new.self c.group_after.new.store kept.root kept.directory.value (config_view kept.config.value) c.saturating_add-group.result c.args.items.now c.in-Err.refusal)
+      c.last-last.ensures c.in-Err.ensures.refused;
 }
-
--- why the next root was not planned
-caused : (g : given.Over) (c : goal.After-drop-behind-in-Err-3 g)
-    → IsNextCaused c.begin_plan.new.self c.group_after.new.store c.saturating_add-group.result c.args.self.now.kept.last.root c.args.items.now c.in-Err.refusal
-caused g c =
-    subst (λ (kept : KeptGroup). IsNextCaused c.begin_plan.new.self c.group_after.new.store c.saturating_add-group.result kept.root c.args.items.now c.in-Err.refusal)
-    c.last-last.ensures c.in-Err.ensures.caused
 
 pub returns-in-Err-clause-full : goal.returns-in-Err-clause-full
-unfolding begins
-returns-in-Err-clause-full g c = λ no_space. record {
-  begun = c.begin_plan.new.self;
-  begins = begins g c;
-  after = c.group_after.new.store;
-  lacks = room_lacks c.begin_plan.new.self c.group_after.new.store c.saturating_add-group.result c.args.self.now.kept.last.root c.args.items.now c.in-Err.refusal
-      (only_room c.in-Err.refusal (sym c.from.ensures ∙ no_space)) (caused g c);
-}
+returns-in-Err-clause-full g c = λ no_space. (
+  c.group_after.new.store,
+  subst (λ (cause : StoreRefusal). IsPlanRefused (state_of c.args.self.now) c.group_after.new.store c.args.items.now cause) (only_room c.in-Err.refusal (sym c.from.ensures ∙ no_space)) (refused g c),
+)
+
+pub returns-in-Err-clause-unread : goal.returns-in-Err-clause-unread
+returns-in-Err-clause-unread g c = λ fault. record { cause = c.in-Err.refusal; refused = refused g c; answered = c.from.ensures }
 
 pub returns-in-Err-clause-refused : goal.returns-in-Err-clause-refused
-unfolding begins
+unfolding refused
 returns-in-Err-clause-refused g c = λ v backs none few items good effects.
     let begun = backs_begun (state_of c.args.self.now) c.begin_plan.new.self c.saturating_add-group.result v c.begin_plan.ensures.out c.begin_plan.ensures.shapes
     (record { free = c.begin_plan.ensures.free; stays = c.begin_plan.ensures.stays; plans = c.begin_plan.ensures.plans; some = c.begin_plan.ensures.some })
@@ -212,19 +209,18 @@ returns-in-Err-clause-refused g c = λ v backs none few items good effects.
     let spelled : SpellsGroup begun.blocks.stored (c.saturating_add-group.result - 1) c.last-last.result.now (v.pools v.committed) =
     subst (λ (n : ℕ). SpellsGroup begun.blocks.stored n c.last-last.result.now (v.pools v.committed)) (sym before)
     (subst (λ (kept : KeptGroup). SpellsGroup begun.blocks.stored v.committed kept (v.pools v.committed)) (sym c.last-last.ensures) (last_spelled s v begun)) in
-    let with_maps : BeginsWithMaps c.begin_plan.new.self.spaces begun.blocks.stored (c.saturating_add-group.result - 1) c.last-last.result.now.root (v.pools v.committed) =
+    let begins : BeginsWithMaps c.begin_plan.new.self.spaces begun.blocks.stored (c.saturating_add-group.result - 1) c.last-last.result.now.root (v.pools v.committed) =
     subst (λ (n : ℕ). BeginsWithMaps c.begin_plan.new.self.spaces begun.blocks.stored n c.last-last.result.now.root (v.pools v.committed)) (sym before)
     (subst (λ (kept : KeptGroup). BeginsWithMaps c.begin_plan.new.self.spaces begun.blocks.stored v.committed kept.root (v.pools v.committed)) (sym c.last-last.ensures)
     (begins_with_maps s v begun c.begin_plan.ensures.free)) in
     ⊎_elim (λ memory. inl (c.from.ensures ∙ memory))
     (λ other. inr (⊎_elim
     (λ space. inr (c.from.ensures ∙ space))
-    (λ fault. inl (lost_for_plan v (state_of c.args.self.now) new c.begin_plan.new.self (begins g c) c.from.result begun c.in-Err.ensures.steps.reads
-    (λ lost. next_lost c.begin_plan.new.self c.group_after.new.store c.saturating_add-group.result c.args.self.now.kept.last.root c.args.items.now c.in-Err.refusal
-    (only_lost c.in-Err.refusal (sym c.from.ensures ∙ lost)) (caused g c))
+    (λ fault. inl (lost_for_plan v (state_of c.args.self.now) new c.args.items.now c.from.result
+    (record { cause = c.in-Err.refusal; refused = refused g c; answered = c.from.ensures }) begun c.in-Err.ensures.steps.reads
     (subst (IsFaultIn c.begin_plan.new.self c.group_after.new.store) (sym c.from.ensures) fault))) other))
     (plan_faults c.begin_plan.new.self c.group_after.new.store c.in-Err.refusal
-    (λ honest. c.in-Err.ensures.known begun.blocks.stored begun.blocks.planned (v.pools v.committed) begun.blocks.plans spelled with_maps honest good (subst (λ (n : ℕ). GroupTakesEffect n (v.pools v.committed) c.args.items.now) (let same = c.committed.ensures ∙ backs.committed in omega arith) effects)))
+    (λ honest. c.in-Err.ensures.known begun.blocks.stored begun.blocks.planned (v.pools v.committed) begun.blocks.plans spelled begins honest good (subst (λ (n : ℕ). GroupTakesEffect n (v.pools v.committed) c.args.items.now) (let same = c.committed.ensures ∙ backs.committed in omega arith) effects)))
 
 pub returns-in-Err-clause-bad : goal.returns-in-Err-clause-bad
 returns-in-Err-clause-bad g c = λ is. absurd (no_config c.in-Err.refusal (sym c.from.ensures ∙ is))

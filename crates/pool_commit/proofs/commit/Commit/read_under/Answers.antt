@@ -1,6 +1,5 @@
 use Rattle.std.proofs.Common.{⊎_elim, inl, inr, sym, ap, ◌∙◌, subst, rules, ℕ, List, length}
-use Rattle.std.proofs.lemmas.Result.{IfOk-weaker}
-use Rattle.pool_commit.proofs.Refusing.{IfErr-both}
+use Rattle.std.proofs.lemmas.Result.{IfOk-weaker, IfErr-weaker}
 use Rattle.block_store.specs.Places.{shapes_of}
 use Rattle.block_store.specs.Store.{Store}
 use Rattle.pool_commit.specs.HasDisks.{HasDisks}
@@ -9,7 +8,7 @@ use Rattle.pool_commit.proofs.Backing.{kept_spelled, only_reads}
 use Rattle.pool_commit.proofs.ReadCauses.{under_kept, under_cause}
 use Rattle.pool_commit.proofs.Labels.{labels_still}
 use Rattle.pool_commit.proofs.Suspending.{still}
-use Rattle.pool_commit.proofs.Unread.{lost_by_reads}
+use Rattle.pool_commit.proofs.Unread.{lost_under}
 use Rattle.pool_commit.proofs.commit.Commit.read_under.Goals as goal
 
 pub invariant_of-self-2 : goal.invariant_of-self-2
@@ -33,12 +32,17 @@ returns-clause-bytes g c = IfOk-weaker c.read_of.result _ _ (λ bytes known v ba
     (under_kept v c.args.group c.args.name.now c.args.offset c.args.len kept.0 ∙ there.0, there.1)) c.read_of.ensures.bytes
 
 pub returns-clause-refused : goal.returns-clause-refused
-returns-clause-refused g c = IfErr-both c.read_of.result _ _ _ (λ refusal lost known v backs.
+returns-clause-refused g c = IfErr-weaker c.read_of.result _ _ (λ refusal known v backs.
     let kept = kept_spelled (state_of c.args.self.now) v c.args.group c.in-Some.kept.now backs (search rules) in
     ⊎_elim inl (λ other. inr (⊎_elim
     (λ cause. inl (under_cause v c.args.group c.args.name.now c.args.offset c.args.len refusal kept.0 cause))
     (λ fault. inr (
       under_kept v c.args.group c.args.name.now c.args.offset c.args.len kept.0 ∙ fault.0,
-      lost_by_reads v (state_of c.args.self.now) c.read_of.new.store c.args.missing.now refusal backs c.read_of.ensures.reads.reads lost fault.1,
+      lost_under v (state_of c.args.self.now) c.read_of.new.store c.args.group c.in-Some.kept.now c.args.name.now c.args.offset c.args.len c.args.missing.now refusal backs
+          (search rules) c.read_of.ensures.reads.reads fault.1 fault.2,
     )) other))
-    (known backs.blocks.stored (v.pools c.args.group) backs.blocks.plans.held kept.1)) c.read_of.ensures.lost c.read_of.ensures.refused
+    (known backs.blocks.stored (v.pools c.args.group) backs.blocks.plans.held kept.1)) c.read_of.ensures.refused
+
+pub returns-clause-unread : goal.returns-clause-unread
+returns-clause-unread g c =
+    IfErr-weaker c.read_of.result _ _ (λ refusal known fault. record { under = c.in-Some.kept.now; kept = search rules; unread = known fault }) c.read_of.ensures.unread

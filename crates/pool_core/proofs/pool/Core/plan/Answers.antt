@@ -1,4 +1,4 @@
-use Rattle.std.proofs.Common.{◌≡◌, Option, Some, None, true, false, true≢false, ap, sym, ◌∙◌, subst, suc, refl, ◌<◌, ◌^◌}
+use Rattle.std.proofs.Common.{◌≡◌, ◌⊎◌, Option, Some, None, true, false, true≢false, ap, sym, ◌∙◌, subst, suc, refl, ◌<◌, ◌^◌}
 use Rattle.pool_model.specs.declared.refusal.Refusal.TheVariants as causes
 use Rattle.pool_model.specs.declared.step.Step.TheVariants as steps
 use Rattle.std.specs.Prelude.{is_some}
@@ -6,6 +6,8 @@ use Rattle.pool_model.specs.View.{Unplanned}
 use Rattle.pool_model.specs.Machine.{taken}
 use Rattle.volume_rules.specs.GoodChanges.{MakesGoodVolumes}
 use Rattle.pool_model.specs.Pools.{Entry}
+use Rattle.pool_commit.specs.declared.refusal.Refusal.TheVariants as refusals
+use Rattle.pool_commit.specs.Reading.{IsLostForPlan}
 use Rattle.pool_commit.specs.Room.{LacksRoom}
 use Rattle.pool_commit.specs.StateOf.{state_of as commit_state}
 use Rattle.pool_core.specs.StateOf.{state_of}
@@ -56,7 +58,8 @@ returns-in-Err-plan-clause-goes g c timestamp v trusted r free honest plans_trus
     (plan_spares (state_of c.args.self.now) (commit_state c.plan.new.self) c.begin_sync.new.self v r c.in-Err-plan.ensures.untouched)
     honest
     (λ space. subst (λ (entry : Entry). LacksRoom (commit_state c.args.self.now.commit) entry) items (c.in-Err-plan.ensures.full space))
-    why
+    (subst (λ (entry : Entry). (c.in-Err-plan.refusal ≡ refusals.NoMemory)
+    ⊎ (IsLostForPlan (taken v Unplanned) (commit_state c.args.self.now.commit) (commit_state c.plan.new.self) entry c.in-Err-plan.refusal ⊎ (c.in-Err-plan.refusal ≡ refusals.NoSpace))) items why)
 
 not_some : {A : Type 0} (o : Option A) → is_some o ≡ false → o ≡ None
 not_some None e = refl

@@ -61,7 +61,7 @@ returns-in-Err-clause-goes g c v trusted r honest plans =
     let fits = in_range c.args.offset c.args.len c.in-Some-found.shape c.against_read.result (λ volume is. c.against_read.ensures volume (c.in-Some-found.is ∙ is)) (ap is_some c.in-None.is) in
     refuses_now (state_of c.args.self.now) (commit_state c.read_committed.new.self) v trusted c.args.name.now c.args.offset c.args.len c.in-Err.refusal c.from.result c.from.ensures r c.in-Err.ensures.reads
     (sym (c.against_read.ensures (volume_at c.args.name.now (now_of v)) (c.find-found.ensures v r.follows)) ∙ c.in-None.is) honest
-    (subst (λ (name : Option (List ℕ)). (c.in-Err.refusal ≡ NoMemory) ⊎ IsLostAt v (commit_state c.args.self.now.commit) (commit_state c.read_committed.new.self) name c.in-Err.refusal)
+    (subst (λ (name : Option (List ℕ)). (c.in-Err.refusal ≡ NoMemory) ⊎ IsLostAt v (commit_state c.args.self.now.commit) (commit_state c.read_committed.new.self) name c.args.offset c.args.len c.in-Err.refusal)
     (c.base_name-base.ensures v r.follows)
     (c.in-Err.ensures.refused v (length found.0.bytes) r.backs
     (subst (λ (name : Option (List ℕ)). StandsThere name (v.pools v.committed) (length found.0.bytes)) (sym (c.base_name-base.ensures v r.follows)) (base_stands v c.args.name.now found.0 r.follows.effects found.1))
