@@ -127,7 +127,7 @@ fn zfs<S: Pools, R: Read>(
             name,
             files,
         } => {
-            return Ok(read(alloc, pools, &files, name, offset, len)?.into_vec());
+            return read(alloc, pools, &files, name, offset, len);
         }
         ZfsCommand::Write {
             offset,

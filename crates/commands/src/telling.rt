@@ -7,7 +7,7 @@ ghost use Rattle.commands.specs.Does.{IsListed, IsNotRead, IsNotTold, IsRead, Is
 use crate::pools::Pools;
 use crate::stop::Stop;
 use pool_command::{Files, list_text, status_text};
-use pool_model::{Bytes, Name, Refusal, Reply, Step};
+use pool_model::{Name, Refusal, Reply, Step};
 use pool_steps::PoolSteps;
 use std::alloc::Global;
 
@@ -87,9 +87,9 @@ pub(crate) fn read<S: Pools>(
     name: Name,
     offset: u64,
     len: u64,
-) -> Result<Bytes, Stop<S::Refusal>>
+) -> Result<Vec<u8>, Stop<S::Refusal>>
     ensures done { IfOk result (λ bytes. IsRead S.Pools S.Pool.PoolSteps
-        pools.old files.now name offset len bytes pools.new) }
+        pools.old files.now name offset len bytes.items pools.new) }
     ensures stopped { IfErr result (IsNotRead S.Pools S.Pool.PoolSteps
         pools.old files.now name offset len pools.new) }
 {
@@ -100,7 +100,10 @@ pub(crate) fn read<S: Pools>(
     let reply = pool.take_step(Step::Read { name, offset, len });
     pools.close(pool, front);
     match reply {
-        Reply::Bytes(bytes) => Ok(bytes),
+        Reply::Bytes(bytes) => match bytes.into_vec(alloc) {
+            Ok(bytes) => Ok(bytes),
+            Err(_) => Err(Stop::Pool(Refusal::NoMemory)),
+        },
         Reply::Refused(cause) => Err(Stop::Pool(cause)),
         _ => Err(Stop::Pool(Refusal::NoMemory)),
     }

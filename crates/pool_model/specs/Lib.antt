@@ -1,3 +1,4 @@
+pub mod Held
 pub mod Names
 pub mod Causes
 pub mod Pools

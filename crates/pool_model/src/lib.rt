@@ -8,6 +8,7 @@ mod group;
 mod item;
 mod laws;
 mod refusal;
+mod shared_bytes;
 mod step;
 mod text;
 mod volume;
@@ -21,6 +22,7 @@ pub use laws::{
     steps_move_groups, steps_without_a_cause_may_be_answered,
 };
 pub use refusal::Refusal;
+pub use shared_bytes::Bytes;
 pub use step::{Phase, Reply, Step};
-pub use text::{Bytes, Name};
-pub use volume::{PlainVolume, VolumeKind};
+pub use text::Name;
+pub use volume::{PlainVolume, VolumeBytes, VolumeKind};

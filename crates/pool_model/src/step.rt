@@ -1,7 +1,8 @@
 //! The steps of the machine and its replies.
 use crate::item::{Action, Write};
 use crate::refusal::Refusal;
-use crate::text::{Bytes, Name};
+use crate::shared_bytes::Bytes;
+use crate::text::Name;
 
 /// What is asked of the pool: one step of the machine, taken whole.
 #[derive(Drop)]

@@ -69,7 +69,7 @@ impl<C: PoolSteps, L: Ledger, M: Ledger> SharedPool<C, L, M> {
     pub(crate) fn take_step<R: Wait>(
         &self,
         rt: &R,
-        step: Step,
+        mut step: Step,
         shares: &mut Shares<L, M>,
     ) -> Result<Reply, Refusal>
         ensures answered { Answers C.PoolSteps step result }
@@ -79,7 +79,7 @@ impl<C: PoolSteps, L: Ledger, M: Ledger> SharedPool<C, L, M> {
         ensures parts { shares.new.steps.parts ≡ shares.old.steps.parts }
     {
         // Copied before the lock is taken: no other thread waits for it.
-        let copies = copies_for(self.alloc, &step);
+        let copies = copies_for(self.alloc, &mut step);
         self.recorded.lock(rt).take_copied(step, copies, shares)
     }
 

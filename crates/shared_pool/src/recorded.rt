@@ -118,7 +118,7 @@ impl<C: PoolSteps, L: Ledger, M: Ledger> Recorded<C, L, M> {
 
     /// Takes one step and records it, with its reply. What the record needs is got before, so that at an `Err` no step is
     /// taken. Of a step that takes no memory the record takes none either.
-    pub fn take_step(&mut self, step: Step, shares: &mut Shares<L, M>) -> Result<Reply, Refusal>
+    pub fn take_step(&mut self, mut step: Step, shares: &mut Shares<L, M>) -> Result<Reply, Refusal>
         ensures before { IsRecord C.PoolSteps self.old }
         ensures after { IsRecord C.PoolSteps self.new }
         ensures taken { IfOk result (λ reply. Takes C.PoolSteps self.old step reply self.new) }
@@ -129,7 +129,7 @@ impl<C: PoolSteps, L: Ledger, M: Ledger> Recorded<C, L, M> {
         ensures hindered { IfErr result (λ refusal. HindersStep step refusal self.old) }
         ensures same { OnErr result (self.new ≡ self.old) }
     {
-        let copies = copies_for(self.alloc, &step);
+        let copies = copies_for(self.alloc, &mut step);
         self.take_copied(step, copies, shares)
     }
 
@@ -160,8 +160,8 @@ impl<C: PoolSteps, L: Ledger, M: Ledger> Recorded<C, L, M> {
         }
         let Copies { step: copy, room } = copies?;
         let weight = weight_of(&step);
-        let reply = self.core.take_step(step);
-        let copied = copy_of_reply(room, &reply);
+        let mut reply = self.core.take_step(step);
+        let copied = copy_of_reply(self.alloc, room, &mut reply);
         append(&mut self.entries, copy, copied);
         self.books.count(shares, weight);
         Ok(reply)
@@ -192,8 +192,8 @@ impl<C: PoolSteps, L: Ledger, M: Ledger> Recorded<C, L, M> {
         if self.entries.len() == ROOM {
             return Err(Refusal::RecordFull);
         }
-        let reply = self.core.plan_with(rt, gate, workers, timestamp);
-        let copied = copy_of_reply(Vec::new(self.alloc), &reply);
+        let mut reply = self.core.plan_with(rt, gate, workers, timestamp);
+        let copied = copy_of_reply(self.alloc, Vec::new(self.alloc), &mut reply);
         append(&mut self.entries, Step::Plan { timestamp }, copied);
         self.books.count(shares, 0);
         Ok(reply)

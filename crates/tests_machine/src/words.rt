@@ -2,7 +2,7 @@
 use crate::items::{name, writes};
 use crate::lines::{Bench, Call, wrong_lines};
 use crate::volumes::SHAPE;
-use pool_model::{Bytes, Refusal};
+use pool_model::{Bytes, Refusal, VolumeBytes};
 use std::alloc::Global;
 use std::test::Fail;
 use volume_rules::{against_read, against_write, is_good_shape, lay_over};
@@ -11,7 +11,11 @@ use volume_rules::{against_read, against_write, is_good_shape, lay_over};
 const WORDS: &[(&str, &str)] = &[
     ("causes", "7 OutOfOrder 2, 17 GroupGone"),
     ("from 7", "OutOfOrder { expected: 7 }"),
-    ("stored", "6 false [0, 0, 7, 7, 0, 0]"),
+    ("stored", "6 [0, 0, 7, 7, 0, 0]"),
+    (
+        "shared",
+        "Bytes { bytes: [7, 7] } Bytes { bytes: [7, 7] } 2 false; [7, 7] [7, 7]",
+    ),
     ("letters tank", "[116, 97, 110, 107]"),
     (
         "same tank tank; same tank tan; same v w",
@@ -75,6 +79,7 @@ impl Bench for Words {
                 let cause = Refusal::from(txg_pipeline::Refusal::OutOfOrder { expected });
                 format!(in alloc; "{cause:?}")
             }
+            "shared" => return shared(alloc),
             _ => return stored(alloc),
         };
         Ok(text?)
@@ -83,11 +88,24 @@ impl Bench for Words {
 
 /// Six bytes, of which two are stored.
 fn stored(alloc: Global) -> Result<String, Fail> {
-    let mut bytes = Bytes::zeros(alloc, 6)?;
+    let mut bytes = VolumeBytes::zeros(alloc, 6)?;
     bytes.store(2, &Bytes::new(vec![in alloc; 7; 2]?));
-    let (len, is_empty) = (bytes.len(), bytes.is_empty());
-    let bytes = bytes.into_vec();
-    Ok(format!(in alloc; "{len} {is_empty} {bytes:?}")?)
+    let (len, bytes) = (bytes.len(), bytes.as_slice());
+    Ok(format!(in alloc; "{len} {bytes:?}")?)
+}
+
+/// Two bytes with three handles: a handle gives back a copy while others are there, and the last one the bytes.
+fn shared(alloc: Global) -> Result<String, Fail> {
+    let mut bytes = Bytes::new(vec![in alloc; 7; 2]?);
+    let mut second = bytes.share(alloc)?;
+    let third = second.share(alloc)?;
+    let (len, is_empty) = (third.len(), third.is_empty());
+    let mut text = format!(in alloc; "{bytes:?} {second:?} {len} {is_empty};")?;
+    drop(third);
+    let copied = bytes.into_vec(alloc)?;
+    let last = second.into_vec(alloc)?;
+    write!(text, " {copied:?} {last:?}")?;
+    Ok(text)
 }
 
 /// What is judged of volumes by their shapes.

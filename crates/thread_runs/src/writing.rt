@@ -17,9 +17,10 @@ fn send<C: PoolSteps, L: Ledger, M: Ledger, R: Wait>(
     rt: &R,
     alloc: Global,
     writer: &mut Writer<'_, C, L, M>,
-    ask: &Ask,
+    ask: &mut Ask,
 ) -> Result<Reply, Refusal>
-    ensures taken { IfOk result (WasTaken C.PoolSteps (asked writer.old.number ask.now)) }
+    ensures taken { IfOk result (WasTaken C.PoolSteps (asked writer.old.number ask.old)) }
+    ensures same { ask.new ≡ ask.old }
     ensures parts { writer.new.shares.steps.parts ≡ writer.old.shares.steps.parts }
 {
     match ask {
@@ -32,7 +33,7 @@ fn send<C: PoolSteps, L: Ledger, M: Ledger, R: Wait>(
             bytes,
         } => {
             let volume = volume.copied(alloc)?;
-            let bytes = bytes.copied(alloc)?;
+            let bytes = bytes.share(alloc)?;
             writer.write(rt, *number, volume, *offset, bytes)
         }
         Ask::Act { number, change } => {
@@ -47,14 +48,15 @@ fn sent<C: PoolSteps, L: Ledger, M: Ledger, R: Wait>(
     rt: &R,
     alloc: Global,
     pool: &SharedPool<C, L, M>,
-    line: &WriterLine,
+    line: &mut WriterLine,
     shares: Shares<L, M>,
 ) -> (Shares<L, M>, Result<Reply, Refusal>)
-    ensures taken { IfOk result.1 (WasTaken C.PoolSteps (step_of line.now)) }
+    ensures taken { IfOk result.1 (WasTaken C.PoolSteps (step_of line.old)) }
+    ensures same { line.new ≡ line.old }
     ensures parts { result.0.steps.parts ≡ shares.steps.parts }
 {
     let mut writer = pool.writer(line.writer, shares);
-    let answer = send(rt, alloc, &mut writer, &line.ask);
+    let answer = send(rt, alloc, &mut writer, &mut line.ask);
     (writer.into_shares(), answer)
 }
 
@@ -99,7 +101,7 @@ pub(crate) fn write_lines<C: PoolSteps, L: Ledger, M: Ledger, R: Wait>(
         if signals.is_stopped() {
             break;
         }
-        let Some(line) = lines.last() else {
+        let Some(line) = lines.last_mut() else {
             break;
         };
         let (back, answer) = sent(rt, alloc, pool, line, shares);

@@ -150,6 +150,12 @@ module _ {P : Type 0} (g : Ghosts P) where
         );
   }
 
+  pub with_more : CameFurther g → PartsAreTrue g → (old mid new : Device P) (offset len done count at : ℕ) (bytes piece slice all : List ℕ) → HasRead old offset len done bytes mid → at ≡ offset + done → done + count ≤ len → g.came_from mid.core new.core
+      → new ≡ record mid { core = new.core } → Leads g mid new (AreRead mid.name at count piece) → slice ≡ piece → all ≡ bytes ++ slice → HasRead old offset len (done + count) all new
+  with_more further parts old mid new offset len done count at bytes piece slice all so_far place within follows kept leads same appended =
+      subst (λ (xs : List ℕ). HasRead old offset len (done + count) xs new) (sym (appended ∙ ap (λ (xs : List ℕ). bytes ++ xs) same))
+      (more further parts old mid new offset len done count at bytes piece so_far place within follows kept leads)
+
   pub stays : (old : Device P) (offset len done : ℕ) (bytes : List ℕ) (new : Device P) → HasRead old offset len done bytes new → Leads g old new IsSame
   stays old offset len done bytes new so_far c shows truly = let it = so_far.leads c shows truly in (it.0, it.1, it.2.1)
 

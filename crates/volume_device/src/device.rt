@@ -79,7 +79,8 @@ impl<P: PoolSteps> Device<P> {
             (reading (name_of self.old) offset len) self.old self.new) }
     {
         let mut done = len.min(MOST_BYTES as u64);
-        let mut bytes = self.read_piece(alloc, offset, done)?;
+        let first = self.read_piece(alloc, offset, done)?;
+        let mut bytes = given_back(alloc, first)?;
         while done < len {
             let more = (len - done).min(MOST_BYTES as u64);
             let Some(at) = offset.checked_add(done) else {
@@ -93,11 +94,11 @@ impl<P: PoolSteps> Device<P> {
     }
 
     /// Reads by one step.
-    fn read_piece(&mut self, alloc: Global, offset: u64, len: u64) -> Result<Vec<u8>, Refusal>
+    fn read_piece(&mut self, alloc: Global, offset: u64, len: u64) -> Result<Bytes, Refusal>
         ensures follows { P.came_from (core_of self.old) (core_of self.new) }
         ensures kept { self.new ≡ record self.old { core = core_of self.new } }
         ensures read { IfOk result (λ bytes. Leads P.PoolSteps self.old self.new
-            (AreRead (name_of self.old) offset len bytes.items)) }
+            (AreRead (name_of self.old) offset len bytes)) }
         ensures refused { OnErr result (Leads P.PoolSteps self.old self.new IsSame) }
         ensures caused { IfErr result (IsCaused P.PoolSteps
             (reading (name_of self.old) offset len) self.old self.new) }
@@ -107,7 +108,7 @@ impl<P: PoolSteps> Device<P> {
         };
         let reply = self.core.take_step(Step::Read { name, offset, len });
         match reply {
-            Reply::Bytes(bytes) => Ok(bytes.into_vec()),
+            Reply::Bytes(bytes) => Ok(bytes),
             _ => Err(cause_of(&reply)),
         }
     }
@@ -357,6 +358,17 @@ fn cause_of(reply: &Reply) -> Refusal
     match reply {
         Reply::Refused(cause) => *cause,
         _ => Refusal::NoMemory,
+    }
+}
+
+/// The bytes of a reply.
+fn given_back(alloc: Global, bytes: Bytes) -> Result<Vec<u8>, Refusal>
+    ensures same { IfOk result (λ back. back.items ≡ bytes) }
+    ensures refused { IfErr result (λ cause. cause ≡ NoMemory) }
+{
+    match bytes.into_vec(alloc) {
+        Ok(back) => Ok(back),
+        Err(_) => Err(Refusal::NoMemory),
     }
 }
 
