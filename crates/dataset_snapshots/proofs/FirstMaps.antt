@@ -21,9 +21,8 @@ use Rattle.dataset_groups.specs.Leaving.{AddsData, AddsMeta, IsReachExchanged}
 use Rattle.dataset_groups.specs.Names.{reach_by}
 use Rattle.dead_list.specs.Datasets.{Pool}
 use Rattle.dnode.specs.declared.object_set.ObjectSetKind.TheVariants as sets
-use Rattle.meta_objset.specs.Reading.{HasConfig, HasDirectory}
-use Rattle.meta_objset.specs.StaleSpans.{FitsSpan, spans_kind}
-use Rattle.object_table.specs.Tables.{HasTable}
+use Rattle.meta_objset.specs.declared.stale_spans.StaleSpan.{StaleSpan}
+use Rattle.meta_objset.specs.Reading.{HasConfig, HasDirectory, HasStaleSpans}
 use Rattle.objset.proofs.Numbers.{changed_left}
 use Rattle.objset.specs.declared.changes.ObjectChange.{ObjectChange}
 use Rattle.objset.specs.Changes.{after_change, changed}
@@ -111,17 +110,17 @@ module _ (changes : List ObjectChange) (next : ℕ) (is_next : IsNextOf changes 
 
 -- ---- the pool
 
-module _ (vdevs : List PlainVdev) (datasets : GroupDatasets) (changes : List ObjectChange) (all : IsWithTables vdevs datasets changes) (next : ℕ) (is_next : IsNextOf changes next) where
+module _ (vdevs : List PlainVdev) (stale : List StaleSpan) (datasets : GroupDatasets) (changes : List ObjectChange) (all : IsWithTables vdevs stale datasets changes) (next : ℕ) (is_next : IsNextOf changes next) where
   pub first_of_others : (stored : Contents) (group : ℕ) (pool : Pool) (readings : ℕ → Reading) (plain : PlainPool) → SpellsGroup stored group nothing datasets pool readings plain
       → AreOfOthers nothing changes [] next
   first_of_others stored group pool readings plain spells =
-      of_others changes next is_next (lacks_maps vdevs datasets changes all) (first_may vdevs datasets changes all stored group pool readings plain spells)
+      of_others changes next is_next (lacks_maps vdevs stale datasets changes all) (first_may vdevs stale datasets changes all stored group pool readings plain spells)
 
   module _ (whole : List ObjectChange) (others : OthersStay [] next changes whole) where
     low_same : (number : ℕ) → number ≤ 3 → changed whole nothing number ≡ changed changes nothing number
     low_same number low =
         others nothing number (λ is. omega (arith, is, low))
-        (no_map changes next is_next (lacks_maps vdevs datasets changes all) number (let behind = is_next.behind in omega (arith, behind, low)))
+        (no_map changes next is_next (lacks_maps vdevs stale datasets changes all) number (let behind = is_next.behind in omega (arith, behind, low)))
 
     low_has : (Has : Option Object → Type 0) (number : ℕ) → number ≤ 3 → Has (changed changes nothing number) → Has (changed whole nothing number)
     low_has Has number low has = subst Has (sym (low_same number low)) has
@@ -133,8 +132,8 @@ module _ (vdevs : List PlainVdev) (datasets : GroupDatasets) (changes : List Obj
       chains_whole : HasChains stored group (changed whole nothing) pool readings
       chains_whole =
           chains_over stored group (changed changes nothing) (changed whole nothing) pool readings
-          (maps_stay changes next is_next (lacks_maps vdevs datasets changes all) whole others leave spaces maps)
-          (chains_over stored group (changed all.1 nothing) (changed changes nothing) pool readings (tables_stay vdevs datasets changes all)
+          (maps_stay changes next is_next (lacks_maps vdevs stale datasets changes all) whole others leave spaces maps)
+          (chains_over stored group (changed all.1 nothing) (changed changes nothing) pool readings (tables_stay vdevs stale datasets changes all)
           (leaves stored group nothing datasets.changes pool readings all.1 spells.chains all.3))
 
       -- the set of these objects is that of the pool, with the first tables
@@ -149,12 +148,9 @@ module _ (vdevs : List PlainVdev) (datasets : GroupDatasets) (changes : List Obj
         are = set.are;
         rows = datasets.directory;
         directory = low_has (λ o. HasDirectory o datasets.directory) 1 (omega arith)
-            (table_has vdevs datasets changes all (λ o. HasDirectory o datasets.directory) 1 (omega arith) all.2.has_directory);
-        stale = [];
-        spans = (
-          record { each = All-nil FitsSpan; order = λ i j other less within. absurd (omega (arith, within)) },
-          low_has (λ o. HasTable spans_kind o []) 3 (omega arith) (table_has vdevs datasets changes all (λ o. HasTable spans_kind o []) 3 (omega arith) all.2.has_spans),
-        );
+            (table_has vdevs stale datasets changes all (λ o. HasDirectory o datasets.directory) 1 (omega arith) all.2.has_directory);
+        stale = stale;
+        spans = low_has (λ o. HasStaleSpans o stale) 3 (omega arith) (table_has vdevs stale datasets changes all (λ o. HasStaleSpans o stale) 3 (omega arith) all.2.has_spans);
         datasets = pool;
         readings = readings;
         chains = subst (λ n. HasChains later n (changed whole nothing) pool readings) (sym born)
@@ -162,10 +158,10 @@ module _ (vdevs : List PlainVdev) (datasets : GroupDatasets) (changes : List Obj
         names = spells.names;
       }
 
-      first_tables : HasFirstTables spells_first.objects vdevs
+      first_tables : HasFirstTables spells_first.objects vdevs stale
       first_tables = record {
-        config = low_has (λ o. HasConfig o vdevs) 2 (omega arith) (table_has vdevs datasets changes all (λ o. HasConfig o vdevs) 2 (omega arith) all.2.has_config);
-        spans = low_has (λ o. HasTable spans_kind o []) 3 (omega arith) (table_has vdevs datasets changes all (λ o. HasTable spans_kind o []) 3 (omega arith) all.2.has_spans);
+        config = low_has (λ o. HasConfig o vdevs) 2 (omega arith) (table_has vdevs stale datasets changes all (λ o. HasConfig o vdevs) 2 (omega arith) all.2.has_config);
+        spans = spells_first.spans;
       }
 
 -- ---- the maps
@@ -183,22 +179,23 @@ first_behind later group root pool is whole spaces now copied objects_are maps s
 }
 
 -- the first root, by what was planned for the volumes, the maps and the set
-pub first_value : (stored mid later : Contents) (group : ℕ) (vdevs : List PlainVdev) (datasets : GroupDatasets) (changes : List ObjectChange) (all : IsWithTables vdevs datasets changes)
+pub first_value : (stored mid later : Contents) (group : ℕ) (vdevs : List PlainVdev) (stale : List StaleSpan) (datasets : GroupDatasets) (changes : List ObjectChange) (all : IsWithTables vdevs stale datasets changes)
     (next : ℕ) → IsNextOf changes next → (whole : List ObjectChange) → OthersStay [] next changes whole → LeaveMaps nothing changes whole
     → (root : Block) (pool : Pool) (readings : ℕ → Reading) (plain : PlainPool) (spaces now : List VdevSpace) (gone : List Block)
     → SpellsGroup mid group nothing datasets pool readings plain → Extends stored mid → Extends mid later → IsReachExchanged group stored mid [] (reach_by pool datasets.directory) []
     → AddsData stored mid → IsRootGiven mid later group root sets.Meta (changed whole nothing) (blocks_of_set empty_meta [] (λ number. [])) gone → AddsMeta mid later → root.birth ≡ group
     → AreMapsOf (changed whole nothing) spaces planned × AreThere spaces planned → AreSameBefore spaces now
-    → (is : SpellsPool later group root plain) × HasFirstTables is.objects vdevs × IsReachExchanged group stored later [] (reach_of is) [] × (datasets.directory ≡ is.rows) × HasMapsBehind now [] is
-first_value stored mid later group vdevs datasets changes all next is_next whole others leave root pool readings plain spaces now gone spells first last volumes added given meta_added born maps same =
+    → (is : SpellsPool later group root plain) × HasFirstTables is.objects vdevs stale × (is.stale ≡ stale) × IsReachExchanged group stored later [] (reach_of is) [] × (datasets.directory ≡ is.rows) × HasMapsBehind now [] is
+first_value stored mid later group vdevs stale datasets changes all next is_next whole others leave root pool readings plain spaces now gone spells first last volumes added given meta_added born maps same =
     let set = given.0 in
-    let is = spells_first vdevs datasets changes all next is_next whole others leave spaces maps.0 mid later group root pool readings plain spells last set born in
+    let is = spells_first vdevs stale datasets changes all next is_next whole others leave spaces maps.0 mid later group root pool readings plain spells last set born in
     let meta = reach_copied (λ (block : Block). length (dvas block.copies) ≡ 3) group mid later (blocks_of_set empty_meta [] (λ number. [])) (root ∷ blocks_of_set set.set set.own set.blocks) gone
     given.1 meta_added (All-nil (λ (block : Block). length (dvas block.copies) ≡ 3)) in
     let rest = reach_copied (λ (block : Block). length (dvas block.copies) ≢ 3) group stored mid [] (reach_by pool datasets.directory) [] volumes added
     (All-nil (λ (block : Block). length (dvas block.copies) ≢ 3)) in (
       is,
-      first_tables vdevs datasets changes all next is_next whole others leave spaces maps.0 mid later group root pool readings plain spells last set born,
+      first_tables vdevs stale datasets changes all next is_next whole others leave spaces maps.0 mid later group root pool readings plain spells last set born,
+      refl,
       first_given stored mid later group root (reach_by pool datasets.directory) (blocks_of_set set.set set.own set.blocks) gone first last volumes given.1,
       refl,
       first_behind later group root plain is whole spaces now (record { meta = meta; others = rest }) refl maps same,

@@ -32,6 +32,7 @@ use Rattle.dnode.specs.declared.object_set.ObjectSetKind.TheVariants as sets
 use Rattle.dnode_tree.proofs.Exchanging.{count_by-append}
 use Rattle.dnode_tree.specs.Writes.{IsForRoom}
 use Rattle.meta_objset.specs.declared.directory.DirectoryRow.{DirectoryRow}
+use Rattle.meta_objset.specs.declared.stale_spans.StaleSpan.{StaleSpan}
 use Rattle.object_table.specs.declared.kind.TableKind.{TableKind}
 use Rattle.object_table.specs.Tables.{HasTable}
 use Rattle.objset.proofs.Numbers.{changed_left}
@@ -176,7 +177,7 @@ Comes change later = change.number < later.number
 abbrev one : ℕ → Change → ObjectChange
 one number change = record { number = number; change = change }
 
-module _ (vdevs : List PlainVdev) (rows : List DirectoryRow) (tables : List ObjectChange) (are : AreTableChanges vdevs rows tables) where
+module _ (vdevs : List PlainVdev) (stale : List StaleSpan) (rows : List DirectoryRow) (tables : List ObjectChange) (are : AreTableChanges vdevs stale rows tables) where
   each_table : (P : ObjectChange → Type 0) → P (one 1 are.directory) → P (one 2 are.config) → P (one 3 are.spans) → All P tables
   each_table P first second third =
       subst (All P) (sym are.are)
@@ -189,7 +190,7 @@ module _ (vdevs : List PlainVdev) (rows : List DirectoryRow) (tables : List Obje
       each_table (λ change. MayChange change.change (nothing change.number))
       (may_make are.directory are.has_directory.1.there are.has_directory.1.is)
       (may_make are.config are.has_config.1.there are.has_config.1.is)
-      (may_make are.spans are.has_spans.there are.has_spans.is)
+      (may_make are.spans are.has_spans.1.there are.has_spans.1.is)
 
   tables_low : All (λ change. (0 < change.number) × (change.number ≤ 3)) tables
   tables_low = each_table (λ change. (0 < change.number) × (change.number ≤ 3)) (omega arith, omega arith) (omega arith, omega arith) (omega arith, omega arith)
@@ -217,13 +218,13 @@ pub neither_of_table : (kind : TableKind) (object : Option Object) (bytes : List
 neither_of_table kind object bytes one two table =
     neither_of_type object kind.object_type one two (λ there is. ap (λ (o : Object). o.object_type) (same_some there table.there (sym is ∙ table.is)) ∙ table.of_kind.0)
 
-module _ (vdevs : List PlainVdev) (datasets : GroupDatasets) (changes : List ObjectChange) (all : IsWithTables vdevs datasets changes) where
+module _ (vdevs : List PlainVdev) (stale : List StaleSpan) (datasets : GroupDatasets) (changes : List ObjectChange) (all : IsWithTables vdevs stale datasets changes) where
   -- the changes may be made of nothing
   pub first_may : (stored : Contents) (group : ℕ) (pool : Pool) (readings : ℕ → Reading) (plain : PlainPool) → SpellsGroup stored group nothing datasets pool readings plain
       → All (λ change. MayChange change.change (nothing change.number)) changes
   first_may stored group pool readings plain spells =
       subst (All (λ (change : ObjectChange). MayChange change.change (nothing change.number))) (sym all.4)
-      (All-append (λ (change : ObjectChange). MayChange change.change (nothing change.number)) all.0 all.1 (tables_may vdevs datasets.directory all.0 all.2)
+      (All-append (λ (change : ObjectChange). MayChange change.change (nothing change.number)) all.0 all.1 (tables_may vdevs stale datasets.directory all.0 all.2)
       (all.3.over nothing spells.chains.over).may)
 
   of_datasets_apart : (number : ℕ) → number ≤ 4 → All (λ change. change.number ≢ number) all.1
@@ -233,7 +234,7 @@ module _ (vdevs : List PlainVdev) (datasets : GroupDatasets) (changes : List Obj
   of_tables_apart : (number : ℕ) → 3 < number → All (λ change. change.number ≢ number) all.0
   of_tables_apart number high =
       All-weaker (λ (change : ObjectChange). (0 < change.number) × (change.number ≤ 3)) (λ change. change.number ≢ number) (λ change low is. omega (arith, low.1, is, high)) all.0
-      (tables_low vdevs datasets.directory all.0 all.2)
+      (tables_low vdevs stale datasets.directory all.0 all.2)
 
   -- none is of the space maps' table
   pub lacks_maps : All (λ change. change.number ≢ 4) changes
@@ -260,10 +261,10 @@ module _ (vdevs : List PlainVdev) (datasets : GroupDatasets) (changes : List Obj
     | inl none ↦ neither_of_none (changed all.0 nothing number) none.1
     | inr (change, held, at, now) ↦ subst IsNeither (sym now)
         (All-contains (λ (c : ObjectChange). IsNeither (after_change c.change None)) all.0 change
-        (each_table vdevs datasets.directory all.0 all.2 (λ (c : ObjectChange). IsNeither (after_change c.change None))
+        (each_table vdevs stale datasets.directory all.0 all.2 (λ (c : ObjectChange). IsNeither (after_change c.change None))
         (neither_of_table _ _ _ (omega arith) (omega arith) all.2.has_directory.1)
         (neither_of_table _ _ _ (omega arith) (omega arith) all.2.has_config.1)
-        (neither_of_table _ _ _ (omega arith) (omega arith) all.2.has_spans))
+        (neither_of_table _ _ _ (omega arith) (omega arith) all.2.has_spans.1))
         held)
   ]
 
@@ -293,9 +294,9 @@ first_given planned mid later group root new_volumes new_set gone first last one
 
 -- ---- places and refusals
 
-group_changes : (old mid : Store) (group : ℕ) (vdevs : List PlainVdev) (datasets : GroupDatasets) (actions : List Action) (changes : List ObjectChange)
-    → (volumes : AreFirstVolumes old mid group actions datasets) → IsWithTables vdevs datasets changes → AreFirstGroupChanges vdevs volumes.made changes
-group_changes old mid group vdevs datasets actions changes volumes all = record {
+group_changes : (old mid : Store) (group : ℕ) (vdevs : List PlainVdev) (stale : List StaleSpan) (datasets : GroupDatasets) (actions : List Action) (changes : List ObjectChange)
+    → (volumes : AreFirstVolumes old mid group actions datasets) → IsWithTables vdevs stale datasets changes → AreFirstGroupChanges vdevs stale volumes.made changes
+group_changes old mid group vdevs stale datasets actions changes volumes all = record {
   rows = datasets.directory;
   count = volumes.count;
   tables = all.0;
@@ -307,20 +308,20 @@ group_changes old mid group vdevs datasets actions changes volumes all = record 
   are = all.4;
 }
 
-module _ (old mid : Store) (group : ℕ) (vdevs : List PlainVdev) (items : Entry) (datasets : GroupDatasets) (changes : List ObjectChange) (next : ℕ) (steps : OnlyReadsAndPlans old mid [])
-    (volumes : AreFirstVolumes old mid group items.actions datasets) (all : IsWithTables vdevs datasets changes) (next_is : next ≡ datasets.next) where
-  placed_first : AreFirstPlaced old mid group vdevs items.actions changes next
+module _ (old mid : Store) (group : ℕ) (vdevs : List PlainVdev) (stale : List StaleSpan) (items : Entry) (datasets : GroupDatasets) (changes : List ObjectChange) (next : ℕ) (steps : OnlyReadsAndPlans old mid [])
+    (volumes : AreFirstVolumes old mid group items.actions datasets) (all : IsWithTables vdevs stale datasets changes) (next_is : next ≡ datasets.next) where
+  placed_first : AreFirstPlaced old mid group vdevs stale items.actions changes next
   placed_first = record {
     made = volumes.made;
     made_are = volumes.are;
     before = steps;
     places = volumes.places;
-    changes_are = group_changes old mid group vdevs datasets items.actions changes volumes all;
+    changes_are = group_changes old mid group vdevs stale datasets items.actions changes volumes all;
     next_is = next_is ∙ volumes.next;
   }
 
   pub first_has : (planned new : Store) (whole : List ObjectChange) → OnlyReadsBlocks mid planned [] → OthersStay [] next changes whole × AreSparing mid.spaces [] [] next changes whole
-      → HasRootPlaces planned new empty_meta group whole → HasFirstPlaces old new group vdevs items
+      → HasRootPlaces planned new empty_meta group whole → HasFirstPlaces old new group vdevs stale items
   first_has planned new whole reads (others, sparing) (of_root, root_asks, root_has) =
       let spaces_are : planned.spaces ≡ mid.spaces = ap (λ (s : Store). s.spaces) reads.rest in
       let numbered : next ≡ 5 + 2 * length volumes.made = next_is ∙ volumes.next in
@@ -330,7 +331,7 @@ module _ (old mid : Store) (group : ℕ) (vdevs : List PlainVdev) (items : Entry
         of_made = volumes.places.0;
         made_ask = volumes.places.1;
         changes = changes;
-        changes_are = group_changes old mid group vdevs datasets items.actions changes volumes all;
+        changes_are = group_changes old mid group vdevs stale datasets items.actions changes volumes all;
         mid = mid.spaces;
         volumes = volumes.places.2;
         all = whole;
@@ -344,13 +345,13 @@ module _ (old mid : Store) (group : ℕ) (vdevs : List PlainVdev) (items : Entry
         places = have_both old.spaces mid.spaces new.spaces volumes.places.0 of_root volumes.places.2 (subst (λ spaces. HavePlaces spaces of_root new.spaces) spaces_are root_has);
       }
 
-  pub first_maps_refused : (new : Store) (refusal : Refusal) → (refusal ≡ NoMemory) ⊎ AreFirstRefused mid new changes next refusal → IsFirstRefused old new group vdevs items refusal
+  pub first_maps_refused : (new : Store) (refusal : Refusal) → (refusal ≡ NoMemory) ⊎ AreFirstRefused mid new changes next refusal → IsFirstRefused old new group vdevs stale items refusal
   first_maps_refused new refusal (inl memory) = inl memory
   first_maps_refused new refusal (inr why) = inr (inr (inr (inl (record { mid = mid; changes = changes; next = next; volumes = placed_first; why = why }))))
 
   pub first_set_refused : (planned new : Store) (whole : List ObjectChange) (refusal : Refusal) → OnlyReadsBlocks mid planned []
       → OthersStay [] next changes whole × AreSparing mid.spaces [] [] next changes whole → IsRootRefused planned new empty_meta group group whole refusal
-      → IsFirstRefused old new group vdevs items refusal
+      → IsFirstRefused old new group vdevs stale items refusal
   first_set_refused planned new whole refusal reads (others, sparing) why =
       inr (inr (inr (inr (record {
         mid = mid;
@@ -364,10 +365,10 @@ module _ (old mid : Store) (group : ℕ) (vdevs : List PlainVdev) (items : Entry
         why = why;
       }))))
 
-pub first_volumes_refused : (old new : Store) (group : ℕ) (vdevs : List PlainVdev) (items : Entry) (actions : List Action) (refusal : Refusal) → actions ≡ items.actions
-    → (refusal ≡ NoMemory) ⊎ AreFirstActionsRefused old new group actions refusal → IsFirstRefused old new group vdevs items refusal
-first_volumes_refused old new group vdevs items actions refusal same (inl memory) = inl memory
-first_volumes_refused old new group vdevs items actions refusal same (inr why) =
+pub first_volumes_refused : (old new : Store) (group : ℕ) (vdevs : List PlainVdev) (stale : List StaleSpan) (items : Entry) (actions : List Action) (refusal : Refusal) → actions ≡ items.actions
+    → (refusal ≡ NoMemory) ⊎ AreFirstActionsRefused old new group actions refusal → IsFirstRefused old new group vdevs stale items refusal
+first_volumes_refused old new group vdevs stale items actions refusal same (inl memory) = inl memory
+first_volumes_refused old new group vdevs stale items actions refusal same (inr why) =
     inr (inl (subst (λ (list : List Action). AreFirstActionsRefused old new group list refusal) same why))
 
 -- what was made of sound datasets is of numbers below the next, and nothing has both a record and a dead list
@@ -379,11 +380,11 @@ first_datasets_known known group datasets pool readings plain refusal behind spe
     absurd (not_misnumbered known group nothing datasets pool readings plain datasets.next (omega arith) behind spells why.1)
 
 -- or what becomes of the records and dead lists can't be
-pub first_datasets_refused : (old mid : Store) (group : ℕ) (vdevs : List PlainVdev) (items : Entry) (datasets : GroupDatasets) (refusal : Refusal) → OnlyReadsAndPlans old mid []
+pub first_datasets_refused : (old mid : Store) (group : ℕ) (vdevs : List PlainVdev) (stale : List StaleSpan) (items : Entry) (datasets : GroupDatasets) (refusal : Refusal) → OnlyReadsAndPlans old mid []
     → AreFirstVolumes old mid group items.actions datasets → (refusal ≡ NoMemory) ⊎ ((refusal ≡ BadPointer) × AreMisnumbered datasets.changes datasets.next)
-    → IsFirstRefused old mid group vdevs items refusal
-first_datasets_refused old mid group vdevs items datasets refusal steps volumes (inl memory) = inl memory
-first_datasets_refused old mid group vdevs items datasets refusal steps volumes (inr why) =
+    → IsFirstRefused old mid group vdevs stale items refusal
+first_datasets_refused old mid group vdevs stale items datasets refusal steps volumes (inl memory) = inl memory
+first_datasets_refused old mid group vdevs stale items datasets refusal steps volumes (inr why) =
     inr (inr (inl (record {
       bad = why.0;
       planned = steps;

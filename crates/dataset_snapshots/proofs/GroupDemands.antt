@@ -1,5 +1,5 @@
 -- What a group's root asks places for, from what its parts ask.
-use Rattle.std.proofs.Common.{Bool, IsTrue, ◌≡◌, ◌⊎◌, ◌↔◌, inl, inr, Ok, Err, Result, ℕ, ◌-◌, List, [], ◌∷◌, ◌++◌, length, Contains, refl, ap, subst, sym}
+use Rattle.std.proofs.Common.{Bool, IsTrue, ◌≡◌, ◌⊎◌, ◌↔◌, inl, inr, Ok, Err, Result, ℕ, ◌-◌, List, [], ◌∷◌, ◌++◌, Option, length, Contains, refl, ap, subst, sym}
 use Rattle.std.specs.Prelude.{Any, IfErr, IfOk, OnOk}
 use Rattle.block_pointer.specs.declared.block.Block.{Block}
 use Rattle.block_pointer.specs.Copies.{dvas}
@@ -14,6 +14,7 @@ use Rattle.block_store.specs.Store.{Store}
 use Rattle.dnode.specs.declared.object_set.ObjectSet.{ObjectSet}
 use Rattle.dnode_tree.specs.Writes.{IsForRoom}
 use Rattle.meta_objset.specs.declared.directory.DirectoryRow.{DirectoryRow}
+use Rattle.meta_objset.specs.declared.stale_spans.StaleSpan.{StaleSpan}
 use Rattle.objset.specs.declared.changes.ObjectChange.{ObjectChange}
 use Rattle.objset.specs.declared.changes.SetCopies.{SetCopies}
 use Rattle.objset.specs.Demands.{HasDemands, LacksRoom}
@@ -136,13 +137,13 @@ renamed_by rows kept destroyed renamed same is = subst (λ (list : List Director
 
 -- ---- the group
 
-module _ (old first second new : Store) (root : Block) (rows : List DirectoryRow) (group : ℕ) (destroyed : List (List ℕ)) (items : Entry) (opened : Opened) (reads : OnlyReadsBlocks old first [])
+module _ (old first second new : Store) (root : Block) (rows : List DirectoryRow) (group : ℕ) (spans : Option (List StaleSpan)) (destroyed : List (List ℕ)) (items : Entry) (opened : Opened) (reads : OnlyReadsBlocks old first [])
     (found : IsGroupFound old.spaces (group - 1) root rows destroyed items.writes opened) (room : HasRoomFor opened.datasets (length items.actions)) where
-  pub group_volumes_refused : (refusal : Refusal) → AreMappedRefused first new root.birth group opened items.actions refusal → IsGroupRefused old new root rows group destroyed items refusal
+  pub group_volumes_refused : (refusal : Refusal) → AreMappedRefused first new root.birth group spans opened items.actions refusal → IsGroupRefused old new root rows group spans destroyed items refusal
   group_volumes_refused refusal why = inr (inr (record { opened = opened; found = found; room = room; mid = first; before = reads; why = inl why }))
 
-  pub group_changes_refused : (gone : List Block) (changes : List ObjectChange) (refusal : Refusal) → OnlyReadsAndPlans first second [] → HasMappedPlaces first second root.birth group opened items.actions gone changes
-      → IsRootRefused second new opened.set root.birth group changes refusal → IsGroupRefused old new root rows group destroyed items refusal
+  pub group_changes_refused : (gone : List Block) (changes : List ObjectChange) (refusal : Refusal) → OnlyReadsAndPlans first second [] → HasMappedPlaces first second root.birth group spans opened items.actions gone changes
+      → IsRootRefused second new opened.set root.birth group changes refusal → IsGroupRefused old new root rows group spans destroyed items refusal
   group_changes_refused gone changes refusal steps volumes why =
       inr (inr (record {
         opened = opened;
@@ -154,14 +155,14 @@ module _ (old first second new : Store) (root : Block) (rows : List DirectoryRow
       }))
 
   pub group_has : (gone of_meta replaced : List Block) (all : List ObjectChange) → OnlyReadsAndPlans first second []
-      → HasMappedPlaces first second root.birth group opened items.actions gone all → HasRootPlaces second new opened.set group all
-      → replaced ≡ root ∷ gone ++ of_meta → HasGroupPlaces old new root rows group destroyed items replaced
+      → HasMappedPlaces first second root.birth group spans opened items.actions gone all → HasRootPlaces second new opened.set group all
+      → replaced ≡ root ∷ gone ++ of_meta → HasGroupPlaces old new root rows group spans destroyed items replaced
   group_has gone of_meta replaced all steps mapped (of_root, root_asks, root_has) given_back =
       let volumes = mapped.volumes in
       let same : first.spaces ≡ old.spaces = ap (λ (s : Store). s.spaces) reads.rest in
       let now : second.spaces ≡ mapped.mid.spaces = ap (λ (s : Store). s.spaces) mapped.reads.rest in
       let demands : List Demand = (volumes.of_written ++ volumes.of_made) ++ of_root in
-      let ask : HasGroupDemands first.spaces root.birth group opened items.actions gone demands = record {
+      let ask : HasGroupDemands first.spaces root.birth group spans opened items.actions gone demands = record {
         made = volumes.made;
         made_are = volumes.made_are;
         of_written = volumes.of_written;
@@ -192,12 +193,12 @@ module _ (old first second new : Store) (root : Block) (rows : List DirectoryRow
         of_meta = of_meta;
         given_back = given_back;
         demands = demands;
-        ask = subst (λ (spaces : List VdevSpace). HasGroupDemands spaces root.birth group opened items.actions gone demands) same ask;
+        ask = subst (λ (spaces : List VdevSpace). HasGroupDemands spaces root.birth group spans opened items.actions gone demands) same ask;
         places = subst (λ (spaces : List VdevSpace). HavePlaces spaces demands new.spaces) same have;
       }
 
-pub group_unread : (old new : Store) (root : Block) (rows : List DirectoryRow) (group : ℕ) (destroyed : List (List ℕ)) (items : Entry) (names : List (List ℕ)) (refusal : Refusal) → names ≡ destroyed
-    → (refusal ≡ NoMemory) ⊎ IsGroupUnread old new root rows group names items.writes refusal → IsGroupRefused old new root rows group destroyed items refusal
-group_unread old new root rows group destroyed items names refusal same (inl memory) = inl memory
-group_unread old new root rows group destroyed items names refusal same (inr why) =
+pub group_unread : (old new : Store) (root : Block) (rows : List DirectoryRow) (group : ℕ) (spans : Option (List StaleSpan)) (destroyed : List (List ℕ)) (items : Entry) (names : List (List ℕ)) (refusal : Refusal) → names ≡ destroyed
+    → (refusal ≡ NoMemory) ⊎ IsGroupUnread old new root rows group names items.writes refusal → IsGroupRefused old new root rows group spans destroyed items refusal
+group_unread old new root rows group spans destroyed items names refusal same (inl memory) = inl memory
+group_unread old new root rows group spans destroyed items names refusal same (inr why) =
     inr (inl (subst (λ (gone : List (List ℕ)). IsGroupUnread old new root rows group gone items.writes refusal) same why))

@@ -8,6 +8,7 @@ use Rattle.dnode.specs.declared.object_set.ObjectSetKind.{ObjectSetKind}
 use Rattle.dnode.specs.declared.object_set.ObjectSetKind.TheVariants.{Meta}
 use Rattle.dnode_tree.proofs.Exchanging.{count_by-append}
 use Rattle.meta_objset.specs.declared.directory.DirectoryRow.{DirectoryRow}
+use Rattle.meta_objset.specs.declared.stale_spans.StaleSpan.{StaleSpan}
 use Rattle.objset.specs.declared.changes.ObjectChange.{ObjectChange}
 use Rattle.objset.specs.Changes.{changed}
 use Rattle.objset.specs.Objects.{Object}
@@ -29,9 +30,9 @@ IsRootGiven planned later group root kind objects before gone =
     (then : IsSetOf later group root kind objects) × IsReachExchanged group planned later before (root ∷ blocks_of_set then.set then.own then.blocks) gone
 
 -- volumes were planned for those that had these blocks, and the directory has these rows
-abbrev pub AreVolumesGiven : Contents → Contents → ℕ → (ℕ → Option Object) → List ObjectChange → PlainPool → List Block → List Block → List DirectoryRow → Type 0
-AreVolumesGiven planned later group objects changes pool before gone rows =
-    (then : SpellsAfter later group objects changes pool) × IsReachExchanged group planned later before (reach_by then.datasets then.rows) gone × (then.rows ≡ rows)
+abbrev pub AreVolumesGiven : Contents → Contents → ℕ → (ℕ → Option Object) → List ObjectChange → Option (List StaleSpan) → PlainPool → List Block → List Block → List DirectoryRow → Type 0
+AreVolumesGiven planned later group objects changes spans pool before gone rows =
+    (then : SpellsAfter later group objects changes spans pool) × IsReachExchanged group planned later before (reach_by then.datasets then.rows) gone × (then.rows ≡ rows)
 
 -- the set is that of the root before, and these are the changes
 pub root_given : (planned later : Contents) (group : ℕ) (root : Block) (set same : ObjectSet) (changes list : List ObjectChange) (objects : ℕ → Option Object) (own : List Block)
@@ -44,12 +45,12 @@ root_given planned later group root set same changes list objects own blocks gon
     (subst (λ (cs : List ObjectChange). IsRootGiven planned later group root set.kind (changed cs objects) (blocks_of_set set own blocks) gone) are given))
 
 -- the actions are those of the items
-pub items_given : (planned later : Contents) (group : ℕ) (objects : ℕ → Option Object) (changes : List ObjectChange) (pool : PlainPool) (items : Entry) (actions : List Action)
+pub items_given : (planned later : Contents) (group : ℕ) (objects : ℕ → Option Object) (changes : List ObjectChange) (spans : Option (List StaleSpan)) (pool : PlainPool) (items : Entry) (actions : List Action)
     (before gone : List Block) (rows : List DirectoryRow) → actions ≡ items.actions
-    → AreVolumesGiven planned later group objects changes (applied group pool (record { writes = items.writes; actions = actions })) before gone rows
-    → AreVolumesGiven planned later group objects changes (applied group pool items) before gone rows
-items_given planned later group objects changes pool items actions before gone rows same given =
-    subst (λ (list : List Action). AreVolumesGiven planned later group objects changes (applied group pool (record { writes = items.writes; actions = list })) before gone rows) same given
+    → AreVolumesGiven planned later group objects changes spans (applied group pool (record { writes = items.writes; actions = actions })) before gone rows
+    → AreVolumesGiven planned later group objects changes spans (applied group pool items) before gone rows
+items_given planned later group objects changes spans pool items actions before gone rows same given =
+    subst (λ (list : List Action). AreVolumesGiven planned later group objects changes spans (applied group pool (record { writes = items.writes; actions = list })) before gone rows) same given
 
 -- the root is given back, then what volumes give back, and then what the set does
 pub replaced_are : (root : Block) (alone front gone given gone_too replaced : List Block) → alone ≡ root ∷ [] → front ≡ alone ++ given → given ≡ gone → replaced ≡ front ++ gone_too

@@ -1,5 +1,5 @@
 -- Which records and dead lists a group changed, and what its volumes ask.
-use Rattle.std.proofs.Common.{◌≡◌, ◌⊎◌, Bool, true, false, true≢false, inl, inr, ℕ, ◌+◌, ◌*◌, List, [], ◌∷◌, length, refl, sym, ap, subst, ◌∙◌, arith}
+use Rattle.std.proofs.Common.{◌≡◌, ◌⊎◌, Bool, true, false, true≢false, inl, inr, ℕ, ◌+◌, ◌*◌, List, [], ◌∷◌, Option, length, refl, sym, ap, subst, ◌∙◌, arith}
 use Rattle.std.specs.Prelude.{max, not, ◌==◌}
 use Rattle.std.proofs.lemmas.Bool.{eq-eqb, ne_eqb}
 use Rattle.block_store.proofs.Demands.{have_both}
@@ -17,6 +17,7 @@ use Rattle.dataset_groups.specs.Demands.{AreAsked, AreMade, HasActionDemands, Ha
 use Rattle.dataset_groups.specs.Groups.{first_number, next_behind}
 use Rattle.dataset_groups.specs.Touched.{TouchesHeads, TouchesMade}
 use Rattle.meta_objset.specs.declared.directory.DirectoryRow.{DirectoryRow}
+use Rattle.meta_objset.specs.declared.stale_spans.StaleSpan.{StaleSpan}
 use Rattle.objset.specs.declared.changes.ObjectChange.{ObjectChange}
 use Rattle.pool_model.specs.declared.item.Action.{Action}
 use Rattle.pool_model.specs.declared.item.Change.{Change}
@@ -44,25 +45,29 @@ pub renamed_so : (gone : Bool) (made : List Action) (next first : ℕ) → gone 
 renamed_so gone [] next first none is = ap not (eq-eqb next first (omega (arith, is))) ∙ sym none
 renamed_so gone (action ∷ made) next first none is = ap not (ne_eqb next first (λ same. omega (arith, is, same)))
 
-pub group_changes : (opened : Opened) (datasets : GroupDatasets) (renamed : Bool) (made : List Action) (changes : List ObjectChange) → AreGroupDatasets opened made datasets.changes
-    → length datasets.directory ≡ length opened.datasets.directory + length made → renamed ≡ are_renamed opened.renamed made → HasDatasetChanges datasets renamed changes
-    → AreGroupChanges opened made changes
-group_changes opened datasets false made changes are rows is (of, of_are, alone, behind) = record {
+pub group_changes : (opened : Opened) (datasets : GroupDatasets) (renamed : Bool) (made : List Action) (spans : Option (List StaleSpan)) (changes : List ObjectChange) → AreGroupDatasets opened made datasets.changes
+    → length datasets.directory ≡ length opened.datasets.directory + length made → renamed ≡ are_renamed opened.renamed made → HasDatasetChanges datasets renamed spans changes
+    → AreGroupChanges opened made spans changes
+group_changes opened datasets false made spans changes are rows is (of_spans, spans_are, of, of_are, alone, behind) = record {
   of_directory = [];
   directory_are = subst (λ (renamed : Bool). AreDirectoryChanges renamed (length opened.datasets.directory + length made) []) is refl;
+  of_spans = of_spans;
+  spans_are = spans_are;
   datasets = datasets.changes;
   datasets_are = are;
   of_datasets = of;
   of_datasets_are = of_are;
   are = alone refl;
 }
-group_changes opened datasets true made changes are rows is (of, of_are, alone, behind) =
+group_changes opened datasets true made spans changes are rows is (of_spans, spans_are, of, of_are, alone, behind) =
     let with_first = behind refl in
     let first : List ObjectChange = record { number = 1; change = with_first.0 } ∷ [] in
     record {
       of_directory = first;
       directory_are = subst (λ (renamed : Bool). AreDirectoryChanges renamed (length opened.datasets.directory + length made) first) is
           (with_first.0, (datasets.directory, rows, with_first.1), refl);
+      of_spans = of_spans;
+      spans_are = spans_are;
       datasets = datasets.changes;
       datasets_are = are;
       of_datasets = of;
@@ -146,15 +151,15 @@ module _ (old mid new : Store) (group : ℕ) (opened : Opened) (actions : List A
           mis = subst (AreMisnumbered last.changes) (last_next behind) mis;
         })))
 
-    pub volumes_have : (changes : List ObjectChange) (next : ℕ) (renamed : Bool) → opened.datasets.bounds.behind ≡ first_number opened.set → next ≡ next_behind last → shapes_of mid.spaces ≡ shapes_of old.spaces
-        → renamed ≡ are_renamed opened.renamed makes.made → HasDatasetChanges last renamed changes → HasVolumePlaces old new group opened actions changes next
-    volumes_have changes next renamed behind is same renamed_is changes_are =
+    pub volumes_have : (changes : List ObjectChange) (next : ℕ) (renamed : Bool) (spans : Option (List StaleSpan)) → opened.datasets.bounds.behind ≡ first_number opened.set → next ≡ next_behind last → shapes_of mid.spaces ≡ shapes_of old.spaces
+        → renamed ≡ are_renamed opened.renamed makes.made → HasDatasetChanges last renamed spans changes → HasVolumePlaces old new group spans opened actions changes next
+    volumes_have changes next renamed spans behind is same renamed_is changes_are =
         let asked = makes.places in
         record {
           made = makes.made;
           made_are = made_are;
           next_is = is ∙ last_next behind;
-          changes_are = group_changes opened last renamed makes.made changes datasets_are
+          changes_are = group_changes opened last renamed makes.made spans changes datasets_are
               (makes.names.rows ∙ ap (λ (rows : List DirectoryRow). length rows + length makes.made) rows_are) renamed_is changes_are;
           of_written = places.0;
           written_ask = places.1;

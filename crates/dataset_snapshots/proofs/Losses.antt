@@ -1,5 +1,5 @@
 -- Refusals for lack of disks: a block is lost.
-use Rattle.std.proofs.Common.{ℕ, ◌≡◌, ◌⊎◌, inl, inr, List, []}
+use Rattle.std.proofs.Common.{ℕ, ◌≡◌, ◌⊎◌, inl, inr, List, [], Option}
 use Rattle.block_pointer.specs.declared.block.Block.{Block}
 use Rattle.block_store.proofs.Losses.{lost_behind_reads, lost_later}
 use Rattle.block_store.specs.declared.refusal.Refusal.{Refusal}
@@ -16,6 +16,7 @@ use Rattle.dnode.specs.declared.object_set.ObjectSet.{ObjectSet}
 use Rattle.objset.proofs.NodeLosses.{set_lost}
 use Rattle.meta_objset.proofs.Losses.{record_lost, rows_lost}
 use Rattle.meta_objset.specs.declared.directory.DirectoryRow.{DirectoryRow}
+use Rattle.meta_objset.specs.declared.stale_spans.StaleSpan.{StaleSpan}
 use Rattle.meta_objset.specs.Found.{AreDirectoryRows, AreMapRows}
 use Rattle.meta_objset.specs.Reading.{directory_kind}
 use Rattle.meta_objset.specs.SpaceMaps.{maps_kind}
@@ -128,18 +129,18 @@ maps_lost old new set birth gone changes next refusal (inr maps) is = lost_behin
   | inr (bad, taken) ↦ absurd (cc)
 ])
 
-mapped_lost : (old new : Store) (born group : ℕ) (opened : Opened) (actions : List Action) (refusal : Refusal) → AreMappedRefused old new born group opened actions refusal → refusal ≡ DiskFault
+mapped_lost : (old new : Store) (born group : ℕ) (spans : Option (List StaleSpan)) (opened : Opened) (actions : List Action) (refusal : Refusal) → AreMappedRefused old new born group spans opened actions refusal → refusal ≡ DiskFault
     → IsBlockLost old new []
-mapped_lost old new born group opened actions refusal (inl volumes) is = volumes_lost old new group opened actions refusal volumes is
-mapped_lost old new born group opened actions refusal (inr maps) is =
+mapped_lost old new born group spans opened actions refusal (inl volumes) is = volumes_lost old new group opened actions refusal volumes is
+mapped_lost old new born group spans opened actions refusal (inr maps) is =
     lost_later old maps.mid new [] maps.before (maps_lost maps.mid new opened.set born maps.gone maps.changes maps.next refusal maps.why is)
 
 pub losses_of_groups : LossesOfDestroys → LossesOfGroups
-losses_of_groups lost old new root rows group destroyed items refusal (inl memory) is = absurd (cc)
-losses_of_groups lost old new root rows group destroyed items refusal (inr (inl unread)) is = unread_lost old new root rows group destroyed items.writes refusal lost unread is
-losses_of_groups lost old new root rows group destroyed items refusal (inr (inr unplanned)) is =
+losses_of_groups lost old new root rows group spans destroyed items refusal (inl memory) is = absurd (cc)
+losses_of_groups lost old new root rows group spans destroyed items refusal (inr (inl unread)) is = unread_lost old new root rows group destroyed items.writes refusal lost unread is
+losses_of_groups lost old new root rows group spans destroyed items refusal (inr (inr unplanned)) is =
     lost_behind_reads old unplanned.mid new [] unplanned.before (elim unplanned.why [
-      | inl mapped ↦ mapped_lost unplanned.mid new root.birth group unplanned.opened items.actions refusal mapped is
+      | inl mapped ↦ mapped_lost unplanned.mid new root.birth group spans unplanned.opened items.actions refusal mapped is
       | inr changes ↦ lost_later unplanned.mid changes.mid new [] changes.before (root_lost changes.mid new unplanned.opened.set root.birth group changes.all refusal changes.why is)
     ])
 
@@ -152,12 +153,12 @@ first_maps_lost old new changes next refusal maps is = elim maps.why [
 ]
 
 pub losses_of_first_groups : LossesOfFirstGroups
-losses_of_first_groups old new group vdevs items refusal (inl memory) is = absurd (cc)
-losses_of_first_groups old new group vdevs items refusal (inr (inl (before, none, action))) is = action_lost old new before group [] 5 _ items.actions refusal action is
-losses_of_first_groups old new group vdevs items refusal (inr (inr (inl mis))) is = absurd (let bad = mis.bad in cc)
-losses_of_first_groups old new group vdevs items refusal (inr (inr (inr (inl maps)))) is =
+losses_of_first_groups old new group vdevs stale items refusal (inl memory) is = absurd (cc)
+losses_of_first_groups old new group vdevs stale items refusal (inr (inl (before, none, action))) is = action_lost old new before group [] 5 _ items.actions refusal action is
+losses_of_first_groups old new group vdevs stale items refusal (inr (inr (inl mis))) is = absurd (let bad = mis.bad in cc)
+losses_of_first_groups old new group vdevs stale items refusal (inr (inr (inr (inl maps)))) is =
     lost_later old maps.mid new [] maps.volumes.before (first_maps_lost maps.mid new maps.changes maps.next refusal maps.why is)
-losses_of_first_groups old new group vdevs items refusal (inr (inr (inr (inr set)))) is =
+losses_of_first_groups old new group vdevs stale items refusal (inr (inr (inr (inr set)))) is =
     lost_later old set.mid new [] set.volumes.before
     (lost_behind_reads set.mid set.planned new [] set.reads (root_lost set.planned new empty_meta group group set.all refusal set.why is))
 

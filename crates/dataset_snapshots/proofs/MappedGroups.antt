@@ -11,6 +11,7 @@ use Rattle.block_store.specs.Spaces.{VdevSpace}
 use Rattle.dataset_groups.specs.Groups.{first_number}
 use Rattle.dnode.specs.declared.object_set.ObjectSet.{ObjectSet}
 use Rattle.meta_objset.specs.declared.space_maps.MetaslabMap.{MetaslabMap}
+use Rattle.meta_objset.specs.declared.stale_spans.StaleSpan.{StaleSpan}
 use Rattle.meta_objset.specs.Reading.{HasDirectory}
 use Rattle.objset.specs.Changes.{MayChange, after_change, changed}
 use Rattle.objset.specs.Objects.{Object}
@@ -22,6 +23,7 @@ use Rattle.pool_maps.proofs.Planned.{all_from}
 use Rattle.pool_maps.proofs.Whole.{own_sectors}
 use Rattle.pool_model.specs.Pools.{PlainPool}
 use Rattle.raidz_io.proofs.Written.{same_some}
+use Rattle.dataset_snapshots.specs.Creating.{LeavesSpans}
 use Rattle.dataset_snapshots.specs.Groups.{AreOfDatasets, IsNextOf, IsOfDatasets, SpellsAfter}
 use Rattle.dataset_snapshots.specs.Pools.{SpellsPool}
 use Rattle.dataset_snapshots.proofs.ChangedRows.{changed_or_not, first_or_later, is_first, is_later, none_behind, nothing_in}
@@ -90,11 +92,12 @@ module _ (objects : ℕ → Option Object) (spaces : List VdevSpace) (maps : Are
       let behind = All-contains (λ (m : MetaslabMap). 4 < m.object) maps.maps row maps.are.rows.behind held in
       elim one [
         | inl first ↦ omega (arith, behind, is_row, first)
-        | inr (high, inl none) ↦ let clash : None ≡ Some map.0 = sym none ∙ at in absurd cc
-        | inr (high, inr (inl one_record)) ↦
+        | inr (inl third) ↦ omega (arith, behind, is_row, third)
+        | inr (inr (high, inl none)) ↦ let clash : None ≡ Some map.0 = sym none ∙ at in absurd cc
+        | inr (inr (high, inr (inl one_record))) ↦
             let same : one_record.0 ≡ map.0 = same_some one_record.0 map.0 (sym one_record.1 ∙ at) in
             let clash : 201 ≡ 8 = sym one_record.2.object_type ∙ (ap (λ (o : Object). o.object_type) same ∙ map.2) in omega (arith, clash)
-        | inr (high, inr (inr one_list)) ↦
+        | inr (inr (high, inr (inr one_list))) ↦
             let same : one_list.0 ≡ map.0 = same_some one_list.0 map.0 (sym one_list.1 ∙ at) in
             let clash : 202 ≡ 8 = sym one_list.2.0 ∙ (ap (λ (o : Object). o.object_type) same ∙ map.2) in omega (arith, clash)
       ]
@@ -105,7 +108,8 @@ module _ (objects : ℕ → Option Object) (spaces : List VdevSpace) (maps : Are
 
   not_four : (number : ℕ) → IsOfDatasets number (objects number) → number ≢ 4
   not_four number (inl first) four = omega (arith, first, four)
-  not_four number (inr (high, kind)) four = omega (arith, high, four)
+  not_four number (inr (inl third)) four = omega (arith, third, four)
+  not_four number (inr (inr (high, kind))) four = omega (arith, high, four)
 
   -- they are none of maps
   pub others_are : MayBeMade objects changes → AreOfOthers objects changes maps.maps next
@@ -189,12 +193,16 @@ module _ (objects : ℕ → Option Object) (spaces : List VdevSpace) (maps : Are
         by_number (inr high) = let behind = next_of.behind in omega (arith, behind, high, low)
 
     -- so the pool is spelled with the maps' changes too
-    abbrev pub spells_with_maps : (later : Contents) (group : ℕ) (after : PlainPool) → SpellsAfter later group objects changes after → SpellsAfter later group objects all after
-    spells_with_maps later group after was = record {
+    abbrev pub spells_with_maps : (later : Contents) (group : ℕ) (spans : Option (List StaleSpan)) (after : PlainPool) → SpellsAfter later group objects changes spans after
+        → SpellsAfter later group objects all spans after
+    spells_with_maps later group spans after was = record {
       rows = was.rows;
       directory = subst (λ (o : Option Object). HasDirectory o was.rows) (sym (low_stays 1 (omega arith))) was.directory;
       may = may;
-      tables = λ number low high. low_stays number high ∙ was.tables number low high;
+      tables = record {
+        config = low_stays 2 (omega arith) ∙ was.tables.config;
+        stale = subst (LeavesSpans spans (objects 3)) (sym (low_stays 3 (omega arith))) was.tables.stale;
+      };
       datasets = was.datasets;
       readings = was.readings;
       chains = chains_over later group (changed changes objects) (changed all objects) was.datasets was.readings stays was.chains;

@@ -32,9 +32,10 @@ use Rattle.dataset_snapshots.proofs.Reaching.{reach_known}
 use Rattle.block_store.specs.Releases.{AreReleased, copies_of_all}
 use Rattle.block_store.specs.Plans.{Plans}
 use Rattle.meta_objset.specs.declared.directory.DirectoryRow.{DirectoryRow}
+use Rattle.meta_objset.specs.declared.stale_spans.StaleSpan.{StaleSpan}
 use Rattle.dataset_snapshots.proofs.GroupReach.{AreVolumesGiven, IsRootGiven, group_given}
 use Rattle.dataset_snapshots.proofs.GroupRoot.{root_copied, root_keeps, spells_root}
-use Rattle.dataset_snapshots.specs.Creating.{KeepsTables}
+use Rattle.dataset_snapshots.specs.Creating.{LeavesTables}
 
 abbrev IsThree : Block → Type 0
 IsThree block = length (dvas block.copies) ≡ 3
@@ -110,26 +111,26 @@ module _ (stored : Contents) (birth : ℕ) (old : Block) (pool : PlainPool) (is 
 
 -- the root of a group, by what was planned for the volumes, the maps and the set
 pub group_value : (stored planned mid later : Contents) (birth group : ℕ) (old root : Block) (pool after_pool : PlainPool) (is : SpellsPool stored birth old pool) → AreCopied is
-    → (changes : List ObjectChange) (gone gone_too replaced : List Block) (rows : List DirectoryRow) (store new : Store) → Holds store stored → Plans new stored later
+    → (changes : List ObjectChange) (spans : Option (List StaleSpan)) (gone gone_too replaced : List Block) (rows : List DirectoryRow) (store new : Store) → Holds store stored → Plans new stored later
     → Extends planned mid → Extends mid later
-    → (volumes : AreVolumesGiven planned mid group is.objects changes after_pool (volume_blocks_of is) gone rows)
+    → (volumes : AreVolumesGiven planned mid group is.objects changes spans after_pool (volume_blocks_of is) gone rows)
     → AddsData planned mid → (set : IsRootGiven mid later group root sets.Meta (changed changes is.objects) (blocks_of_set is.set is.own is.blocks) gone_too) → AddsMeta mid later
     → root.birth ≡ group → replaced ≡ ((old ∷ []) ++ gone) ++ gone_too → MapAnew is.objects store.spaces gone changes → AreSameBefore store.spaces new.spaces
     → (last : Contents) × Plans new stored last × Extends planned last × (now_is : SpellsPool last group root after_pool)
-    × KeepsTables is.objects now_is.objects
+    × LeavesTables spans is now_is
     × IsReachExchanged group planned last (reach_of is) (reach_of now_is) replaced × (rows ≡ now_is.rows) × HasMapsBehind new.spaces replaced now_is
-group_value stored planned mid later birth group old root pool after_pool is copied changes gone gone_too replaced rows store new holds plans first last volumes adds_data set adds_meta born replaced_is anew same =
+group_value stored planned mid later birth group old root pool after_pool is copied changes spans gone gone_too replaced rows store new holds plans first last volumes adds_data set adds_meta born replaced_is anew same =
     let reached : List Block = reach_by volumes.0.datasets volumes.0.rows in
     let own = blocks_of_set set.0.set set.0.own set.0.blocks in
-    let now_is = spells_root mid later group root is.objects changes after_pool volumes.0 last set.0 born is.stale is.spans in
-    let copied_now = root_copied mid later group root is.objects changes after_pool volumes.0 last set.0 born is.stale is.spans
+    let now_is = spells_root mid later group root is.objects changes spans after_pool volumes.0 last set.0 born is.stale is.spans in
+    let copied_now = root_copied mid later group root is.objects changes spans after_pool volumes.0 last set.0 born is.stale is.spans
     (meta_then stored birth old pool is copied group planned mid later root reached own gone gone_too volumes.1 set.1 adds_meta)
     (volumes_then stored birth old pool is copied group planned mid later root reached own gone gone_too volumes.1 set.1 adds_data) in (
       later,
       plans,
       λ block bytes known. last block bytes (first block bytes known),
       now_is,
-      root_keeps mid later group root is.objects changes after_pool volumes.0 last set.0 born is.stale is.spans,
+      record { objects = root_keeps mid later group root is.objects changes spans after_pool volumes.0 last set.0 born is.stale is.spans; stale = refl },
       group_given planned mid later group old root (volume_blocks_of is) reached (blocks_of_set is.set is.own is.blocks) own gone gone_too replaced first last volumes.1 set.1 replaced_is,
       sym volumes.2,
       maps_behind stored birth old pool is copied group planned mid later root reached own gone gone_too volumes.1 set.1 store holds changes new.spaces replaced anew same replaced_is after_pool

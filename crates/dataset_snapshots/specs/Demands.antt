@@ -3,7 +3,7 @@ use Rattle.meta_objset.specs.Found.{AreMapsFound}
 use Rattle.meta_objset.specs.declared.space_maps.MetaslabMap.{MetaslabMap}
 use Rattle.pool_maps.specs.Plans.{AreSparing, OthersStay}
 use Rattle.pool_maps.specs.Refused.{IsPlanRefused as AreMapsUnplanned}
-use Rattle.std.specs.Prelude.{ℕ, ◌≡◌, ◌⊎◌, ◌+◌, ◌*◌, ◌≤◌, ◌-◌, Bool, true, false, List, [], ◌∷◌, ◌++◌, length, max, Any, Some}
+use Rattle.std.specs.Prelude.{ℕ, ◌≡◌, ◌⊎◌, ◌+◌, ◌*◌, ◌≤◌, ◌-◌, Bool, true, false, List, [], ◌∷◌, ◌++◌, length, max, Any, Option, Some, None}
 use Rattle.block_pointer.specs.declared.block.Block.{Block}
 use Rattle.block_store.specs.declared.refusal.Refusal.{Refusal}
 use Rattle.block_store.specs.declared.refusal.Refusal.TheVariants.{NoMemory, NoSpace, BadPointer}
@@ -20,7 +20,9 @@ use Rattle.dataset_groups.specs.Groups.{first_number}
 use Rattle.dataset_groups.specs.Touched.{TouchesHeads, TouchesMade}
 use Rattle.dnode.specs.declared.object_set.ObjectSet.{ObjectSet}
 use Rattle.meta_objset.specs.declared.directory.DirectoryRow.{DirectoryRow}
-use Rattle.meta_objset.specs.Reading.{HasDirectory, directory_kind}
+use Rattle.meta_objset.specs.declared.stale_spans.StaleSpan.{StaleSpan}
+use Rattle.meta_objset.specs.Reading.{HasDirectory, HasStaleSpans, directory_kind}
+use Rattle.meta_objset.specs.StaleSpans.{spans_kind}
 use Rattle.object_table.specs.Tables.{IsOfKind}
 use Rattle.objset.specs.declared.changes.Change.{Change as ObjectsChange}
 use Rattle.objset.specs.declared.changes.ObjectChange.{ObjectChange}
@@ -36,7 +38,7 @@ use Rattle.dataset_snapshots.specs.Opening.{IsGroupFound, IsGroupUnread}
 use Rattle.dnode.specs.declared.object_set.ObjectSetKind.TheVariants as kinds
 use Rattle.objset.specs.Changes.{copies_of}
 
--- ---- the directory
+-- ---- the tables
 
 -- the change writes a directory of these rows anew
 abbrev pub WritesRows : List DirectoryRow → ObjectsChange → Type 0
@@ -59,6 +61,18 @@ AreDirectoryChanges false names changes = changes ≡ []
 AreDirectoryChanges true names changes =
     (directory : ObjectsChange) × WritesDirectory names directory
     × (changes ≡ record { number = 1; change = directory } ∷ [])
+
+-- the change writes a table of these stale spans anew
+abbrev pub WritesSpans : List StaleSpan → ObjectsChange → Type 0
+WritesSpans spans change = (object : Object) → IsOfKind spans_kind object
+    → MayChange change (Some object) × HasStaleSpans (after_change change (Some object)) spans
+
+-- where other stale spans come their table is written anew
+abbrev pub AreSpanChanges : Option (List StaleSpan) → List ObjectChange → Type 0
+AreSpanChanges None changes = changes ≡ []
+AreSpanChanges (Some spans) changes =
+    (table : ObjectsChange) × WritesSpans spans table
+    × (changes ≡ record { number = 3; change = table } ∷ [])
 
 -- ---- the meta object set
 
@@ -111,24 +125,31 @@ pub record AreGroupDatasets (opened : Opened) (made : List Action) (datasets : D
   pub kept : HasMoreRows opened.datasets.directory opened.datasets.next rows
   pub touched : TouchesMade written datasets rows opened.datasets.next made
 
--- The changes that a group makes of the set: that of the directory, where names come or go; and those that its records and dead lists come to.
-pub record AreGroupChanges (opened : Opened) (made : List Action) (changes : List ObjectChange) : Type 0 where
+-- The changes that a group makes of the set: that of the directory, where names come or go; that of the stale spans, where others come; and
+-- those that its records and dead lists come to.
+pub record AreGroupChanges (opened : Opened) (made : List Action) (spans : Option (List StaleSpan))
+    (changes : List ObjectChange) : Type 0 where
   pub of_directory : List ObjectChange
   pub directory_are : AreDirectoryChanges (are_renamed opened.renamed made)
       (length opened.datasets.directory + length made) of_directory
+  pub of_spans : List ObjectChange
+  pub spans_are : AreSpanChanges spans of_spans
   pub datasets : DatasetChanges
   pub datasets_are : AreGroupDatasets opened made datasets
   pub of_datasets : List ObjectChange
   pub of_datasets_are : AreChangesOf datasets of_datasets
-  pub are : changes ≡ of_directory ++ of_datasets
+  pub are : changes ≡ of_directory ++ of_spans ++ of_datasets
 
--- these are the changes that the records and dead lists come to, with that of the directory in front where names came or went
-abbrev pub HasDatasetChanges : GroupDatasets → Bool → List ObjectChange → Type 0
-HasDatasetChanges datasets renamed changes =
-    (of_datasets : List ObjectChange) × AreChangesOf datasets.changes of_datasets
-    × (renamed ≡ false → changes ≡ of_datasets)
+-- these are the changes that the records and dead lists come to, with that of the stale spans in front where others come, and that of the
+-- directory where names came or went
+abbrev pub HasDatasetChanges :
+    GroupDatasets → Bool → Option (List StaleSpan) → List ObjectChange → Type 0
+HasDatasetChanges datasets renamed spans changes =
+    (of_spans : List ObjectChange) × AreSpanChanges spans of_spans
+    × (of_datasets : List ObjectChange) × AreChangesOf datasets.changes of_datasets
+    × (renamed ≡ false → changes ≡ of_spans ++ of_datasets)
     × (renamed ≡ true → (directory : ObjectsChange) × WritesRows datasets.directory directory
-    × (changes ≡ record { number = 1; change = directory } ∷ of_datasets))
+    × (changes ≡ record { number = 1; change = directory } ∷ of_spans ++ of_datasets))
 
 -- one number has both a record and a dead list, or one that is changed is behind all objects that there are
 abbrev pub AreMisnumbered : DatasetChanges → ℕ → Type 0
@@ -138,12 +159,13 @@ AreMisnumbered datasets next =
 
 -- the volumes of a group were placed, those that are written to and then those that are made, and
 -- the meta object set is to have these changes; the next object has that number
-pub record HasVolumePlaces (old new : Store) (group : ℕ) (opened : Opened) (actions : List Action)
-    (changes : List ObjectChange) (next : ℕ) : Type 0 where
+pub record HasVolumePlaces (old new : Store) (group : ℕ) (spans : Option (List StaleSpan))
+    (opened : Opened) (actions : List Action) (changes : List ObjectChange) (next : ℕ)
+    : Type 0 where
   pub made : List Action
   pub made_are : AreMade opened.datasets.directory [] actions made
   pub next_is : next ≡ next_after opened made
-  pub changes_are : AreGroupChanges opened made changes
+  pub changes_are : AreGroupChanges opened made spans changes
   pub of_written : List Demand
   pub written_ask : AreAsked (HasHeadDemands old.spaces group) opened.written.items of_written
   pub of_made : List Demand
@@ -195,39 +217,42 @@ pub record AreWithMaps (spaces : List VdevSpace) (set : ObjectSet) (birth : ℕ)
 
 -- the volumes of a group were placed, of which these blocks are given back, and then its space maps
 -- were planned
-pub record HasMappedPlaces (old new : Store) (born group : ℕ) (opened : Opened)
-    (actions : List Action) (gone : List Block) (all : List ObjectChange) : Type 0 where
+pub record HasMappedPlaces (old new : Store) (born group : ℕ) (spans : Option (List StaleSpan))
+    (opened : Opened) (actions : List Action) (gone : List Block) (all : List ObjectChange)
+    : Type 0 where
   pub mid : Store
   pub steps : OnlyReadsAndPlans old mid []
   pub changes : List ObjectChange
   pub next : ℕ
-  pub volumes : HasVolumePlaces old mid group opened actions changes next
+  pub volumes : HasVolumePlaces old mid group spans opened actions changes next
   pub reads : OnlyReadsBlocks mid new []
   pub with_maps : AreWithMaps mid.spaces opened.set born gone next changes all
 
 -- all volumes were placed, and then the space maps were refused
-pub record AreGroupMapsRefused (old new : Store) (born group : ℕ) (opened : Opened)
-    (actions : List Action) (refusal : Refusal) : Type 0 where
+pub record AreGroupMapsRefused (old new : Store) (born group : ℕ)
+    (spans : Option (List StaleSpan)) (opened : Opened) (actions : List Action) (refusal : Refusal)
+    : Type 0 where
   pub mid : Store
   pub before : OnlyReadsAndPlans old mid []
   pub changes : List ObjectChange
   pub next : ℕ
-  pub volumes : HasVolumePlaces old mid group opened actions changes next
+  pub volumes : HasVolumePlaces old mid group spans opened actions changes next
   pub gone : List Block
   pub why : AreMapsUnplanned mid new opened.set born gone changes next refusal
 
 -- why a group's volumes and space maps were not planned
-abbrev pub AreMappedRefused :
-    Store → Store → ℕ → ℕ → Opened → List Action → Refusal → Type 0
-AreMappedRefused old new born group opened actions refusal =
+abbrev pub AreMappedRefused : Store → Store → ℕ → ℕ → Option (List StaleSpan) → Opened
+    → List Action → Refusal → Type 0
+AreMappedRefused old new born group spans opened actions refusal =
     AreVolumesRefused old new group opened actions refusal
-    ⊎ AreGroupMapsRefused old new born group opened actions refusal
+    ⊎ AreGroupMapsRefused old new born group spans opened actions refusal
 
 -- what a group asks, whose root before was born then, and whose volumes give these blocks back: its
 -- volumes, and then its changes of the meta object set, with those of the space maps as its volumes
 -- leave the vdevs
-pub record HasGroupDemands (spaces : List VdevSpace) (born group : ℕ) (opened : Opened)
-    (actions : List Action) (gone : List Block) (demands : List Demand) : Type 0 where
+pub record HasGroupDemands (spaces : List VdevSpace) (born group : ℕ)
+    (spans : Option (List StaleSpan)) (opened : Opened) (actions : List Action) (gone : List Block)
+    (demands : List Demand) : Type 0 where
   pub made : List Action
   pub made_are : AreMade opened.datasets.directory [] actions made
   pub of_written : List Demand
@@ -235,7 +260,7 @@ pub record HasGroupDemands (spaces : List VdevSpace) (born group : ℕ) (opened 
   pub of_made : List Demand
   pub made_ask : AreAsked (HasActionDemands spaces group) made of_made
   pub changes : List ObjectChange
-  pub changes_are : AreGroupChanges opened made changes
+  pub changes_are : AreGroupChanges opened made spans changes
   pub mid : List VdevSpace
   pub places : HavePlaces spaces (of_written ++ of_made) mid
   pub all : List ObjectChange
@@ -247,7 +272,8 @@ pub record HasGroupDemands (spaces : List VdevSpace) (born group : ℕ) (opened 
 -- The root was read, and then places were taken for what the group asks, and for nothing else. Given
 -- back are the root, then what its volumes give back, and then what the meta object set does.
 pub record HasGroupPlaces (old new : Store) (root : Block) (rows : List DirectoryRow) (group : ℕ)
-    (destroyed : List (List ℕ)) (items : Entry) (replaced : List Block) : Type 0 where
+    (spans : Option (List StaleSpan)) (destroyed : List (List ℕ)) (items : Entry)
+    (replaced : List Block) : Type 0 where
   pub opened : Opened
   pub found : IsGroupFound old.spaces (group - 1) root rows destroyed items.writes opened
   pub room : HasRoomFor opened.datasets (length items.actions)
@@ -255,36 +281,38 @@ pub record HasGroupPlaces (old new : Store) (root : Block) (rows : List Director
   pub of_meta : List Block
   pub given_back : replaced ≡ root ∷ gone ++ of_meta
   pub demands : List Demand
-  pub ask : HasGroupDemands old.spaces root.birth group opened items.actions gone demands
+  pub ask : HasGroupDemands old.spaces root.birth group spans opened items.actions gone demands
   pub places : HavePlaces old.spaces demands new.spaces
 
 -- all volumes were placed and the space maps planned, and then the changes of the meta object set,
 -- born by then, were refused
-pub record AreChangesRefused (old new : Store) (born group : ℕ) (opened : Opened)
-    (actions : List Action) (refusal : Refusal) : Type 0 where
+pub record AreChangesRefused (old new : Store) (born group : ℕ) (spans : Option (List StaleSpan))
+    (opened : Opened) (actions : List Action) (refusal : Refusal) : Type 0 where
   pub mid : Store
   pub before : OnlyReadsAndPlans old mid []
   pub gone : List Block
   pub all : List ObjectChange
-  pub volumes : HasMappedPlaces old mid born group opened actions gone all
+  pub volumes : HasMappedPlaces old mid born group spans opened actions gone all
   pub why : IsRootRefused mid new opened.set born group all refusal
 
 -- the root was read, and then the group's volumes or space maps were refused, or its changes
 pub record IsGroupUnplanned (old new : Store) (root : Block) (rows : List DirectoryRow) (group : ℕ)
-    (destroyed : List (List ℕ)) (items : Entry) (refusal : Refusal) : Type 0 where
+    (spans : Option (List StaleSpan)) (destroyed : List (List ℕ)) (items : Entry)
+    (refusal : Refusal) : Type 0 where
   pub opened : Opened
   pub found : IsGroupFound old.spaces (group - 1) root rows destroyed items.writes opened
   pub room : HasRoomFor opened.datasets (length items.actions)
   pub mid : Store
   pub before : OnlyReadsBlocks old mid []
-  pub why : AreMappedRefused mid new root.birth group opened items.actions refusal
-      ⊎ AreChangesRefused mid new root.birth group opened items.actions refusal
+  pub why : AreMappedRefused mid new root.birth group spans opened items.actions refusal
+      ⊎ AreChangesRefused mid new root.birth group spans opened items.actions refusal
 
--- why the root after a group was not planned, by the rows of the directory before: there was no
--- memory, the group was not opened, or a part of it was refused
-abbrev pub IsGroupRefused :
-    Store → Store → Block → List DirectoryRow → ℕ → List (List ℕ) → Entry → Refusal → Type 0
-IsGroupRefused old new root rows group destroyed items refusal =
+-- why the root after a group, with other stale spans or with those before, was not planned, by the
+-- rows of the directory before: there was no memory, the group was not opened, or a part of it was
+-- refused
+abbrev pub IsGroupRefused : Store → Store → Block → List DirectoryRow → ℕ
+    → Option (List StaleSpan) → List (List ℕ) → Entry → Refusal → Type 0
+IsGroupRefused old new root rows group spans destroyed items refusal =
     (refusal ≡ NoMemory)
     ⊎ (IsGroupUnread old new root rows group destroyed items.writes refusal
-    ⊎ IsGroupUnplanned old new root rows group destroyed items refusal)
+    ⊎ IsGroupUnplanned old new root rows group spans destroyed items refusal)

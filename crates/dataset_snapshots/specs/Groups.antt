@@ -19,6 +19,7 @@ use Rattle.dnode.specs.declared.object_set.ObjectSetKind.{ObjectSetKind}
 use Rattle.dnode.specs.ObjectSet.{FitsObjectSet}
 use Rattle.objset.specs.Sets.{IsSetBlock}
 use Rattle.meta_objset.specs.declared.directory.DirectoryRow.{DirectoryRow}
+use Rattle.meta_objset.specs.declared.stale_spans.StaleSpan.{StaleSpan}
 use Rattle.meta_objset.specs.Names.{IsNamed}
 use Rattle.meta_objset.specs.Reading.{HasDirectory}
 use Rattle.objset.specs.declared.changes.ObjectChange.{ObjectChange}
@@ -26,6 +27,7 @@ use Rattle.objset.specs.Changes.{MayChange, changed}
 use Rattle.objset.specs.Objects.{Object, AreObjects}
 use Rattle.pool_model.specs.declared.item.Write.{Write}
 use Rattle.pool_model.specs.Pools.{PlainPool, all_destroyed}
+use Rattle.dataset_snapshots.specs.Creating.{KeepsTables}
 use Rattle.dataset_snapshots.specs.declared.groups.Begun.{Begun}
 use Rattle.dataset_snapshots.specs.declared.groups.Opened.{Opened}
 use Rattle.dataset_snapshots.specs.Pools.{SpellsPool}
@@ -106,9 +108,11 @@ pub record IsNextOf (changes : List ObjectChange) (next : ℕ) : Type 0 where
   pub behind : 4 < next
   pub within : next ≤ numbers_end
 
--- a change of the directory, or behind the tables of an object that may have a record or a dead list, or of none
+-- a change of the directory or of the table of stale spans, or behind the tables of an object that may have a record or a dead list, or of
+-- none
 abbrev pub IsOfDatasets : ℕ → Option Object → Type 0
-IsOfDatasets number object = (number ≡ 1) ⊎ ((4 < number) × ((object ≡ None) ⊎ (IsForRecord object ⊎ IsForList object)))
+IsOfDatasets number object =
+    (number ≡ 1) ⊎ ((number ≡ 3) ⊎ ((4 < number) × ((object ≡ None) ⊎ (IsForRecord object ⊎ IsForList object))))
 
 -- the changes are such
 abbrev pub AreOfDatasets : (ℕ → Option Object) → List ObjectChange → Type 0
@@ -124,13 +128,14 @@ pub record IsSetOf (stored : Contents) (birth : ℕ) (root : Block) (kind : Obje
   pub are : AreObjects stored root.birth set objects own blocks
 
 -- Of these objects the changes make those of the pool: records and dead lists of datasets that fit one another, and the directory, which
--- names them, as the pool's volumes, no more and no fewer. The configuration and the stale spans are as they were.
-pub record SpellsAfter (stored : Contents) (birth : ℕ) (objects : ℕ → Option Object) (changes : List ObjectChange) (pool : PlainPool)
-    : Type 0 where
+-- names them, as the pool's volumes, no more and no fewer. The configuration is as it was, and so are the stale spans, where no others
+-- come.
+pub record SpellsAfter (stored : Contents) (birth : ℕ) (objects : ℕ → Option Object) (changes : List ObjectChange)
+    (spans : Option (List StaleSpan)) (pool : PlainPool) : Type 0 where
   pub rows : List DirectoryRow
   pub directory : HasDirectory (changed changes objects 1) rows
   pub may : All (λ change. MayChange change.change (objects change.number)) changes
-  pub tables : (number : ℕ) → 1 < number → number ≤ 3 → changed changes objects number ≡ objects number
+  pub tables : KeepsTables spans objects (changed changes objects)
   pub datasets : Pool
   pub readings : ℕ → Reading
   pub chains : HasChains stored birth (changed changes objects) datasets readings

@@ -1,5 +1,5 @@
 -- What follows from these definitions for those who have roots.
-use Rattle.std.specs.Prelude.{ℕ, ◌≡◌, ◌≤◌, ◌⊎◌, true, List, [], Some, slice_get, Contains}
+use Rattle.std.specs.Prelude.{ℕ, ◌≡◌, ◌≤◌, ◌⊎◌, true, List, [], Option, Some, slice_get, Contains}
 use Rattle.std.specs.List.{AllByRecursion}
 use Rattle.block_pointer.specs.declared.block.Block.{Block}
 use Rattle.block_pointer.specs.declared.dva.Dva.{Dva}
@@ -14,6 +14,7 @@ use Rattle.dnode_tree.specs.Freeing.{AreOnlyIn}
 use Rattle.dnode_tree.specs.ReadRefusals.{IsForRead}
 use Rattle.dnode_tree.specs.Rewriting.{AreDistinct}
 use Rattle.meta_objset.specs.declared.directory.DirectoryRow.{DirectoryRow}
+use Rattle.meta_objset.specs.declared.stale_spans.StaleSpan.{StaleSpan}
 use Rattle.pool_model.specs.Pools.{Entry, PlainPool}
 use Rattle.volume_rules.specs.GoodChanges.{is_good_making}
 use Rattle.vdev_label.specs.Plain.{PlainVdev}
@@ -86,15 +87,15 @@ LossesOfDatasets =
 abbrev pub LossesOfGroups : Type 0
 LossesOfGroups =
     (old new : Store) (root : Block) (rows : List DirectoryRow) (group : ℕ)
-    (destroyed : List (List ℕ)) (items : Entry) (refusal : Refusal)
-    → IsGroupRefused old new root rows group destroyed items refusal
+    (spans : Option (List StaleSpan)) (destroyed : List (List ℕ)) (items : Entry) (refusal : Refusal)
+    → IsGroupRefused old new root rows group spans destroyed items refusal
     → refusal ≡ DiskFault → IsBlockLost old new []
 
 -- And where the first root is.
 abbrev pub LossesOfFirstGroups : Type 0
 LossesOfFirstGroups =
-    (old new : Store) (group : ℕ) (vdevs : List PlainVdev) (items : Entry) (refusal : Refusal)
-    → IsFirstRefused old new group vdevs items refusal → refusal ≡ DiskFault
+    (old new : Store) (group : ℕ) (vdevs : List PlainVdev) (stale : List StaleSpan) (items : Entry)
+    (refusal : Refusal) → IsFirstRefused old new group vdevs stale items refusal → refusal ≡ DiskFault
     → IsBlockLost old new []
 
 -- And where a range of a volume is.

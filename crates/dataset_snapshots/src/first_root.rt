@@ -1,5 +1,5 @@
 //! The first root of a pool.
-ghost use Rattle.std.specs.Prelude.{◌≡◌, ◌⊎◌, ◌++◌, ◌*◌, ◌^◌, ◌<◌, ◌≤◌, ℕ, [], None, All, AllPairs, length, fold, IfOk, IfErr, OnOk};
+ghost use Rattle.std.specs.Prelude.{◌≡◌, ◌⊎◌, ◌++◌, ◌*◌, ◌^◌, ◌<◌, ◌≤◌, ℕ, [], None, All, IfSome, AllPairs, length, fold, IfOk, IfErr, OnOk};
 ghost use Rattle.block_pointer.specs.declared.block.Block.{Block};
 ghost use Rattle.block_pointer.specs.Block.{FitsBlock};
 ghost use Rattle.block_pointer.specs.Copies.{dvas};
@@ -9,13 +9,14 @@ ghost use Rattle.block_store.specs.Plans.{Plans};
 ghost use Rattle.block_store.specs.Steps.{OnlyReadsAndPlans, AnswersAreTrue};
 ghost use Rattle.objset.specs.Sets.{asked_of_set};
 ghost use Rattle.dnode_tree.specs.Writes.{IsForRoom};
-ghost use Rattle.objset.specs.Changes.{IsGoodChange};
+ghost use Rattle.meta_objset.specs.Reading.{HasStaleSpans};
+ghost use Rattle.objset.specs.Changes.{IsGoodChange, after_change};
 ghost use Rattle.pool_model.specs.Pools.{applied, changed, no_volumes};
 ghost use Rattle.pool_maps.specs.Reached.{UseNothing};
 ghost use Rattle.vdev_label.specs.Config.{FitsConfig, config_bytes};
 ghost use Rattle.vdev_label.specs.Plain.{config_view};
 ghost use Rattle.volume_rules.specs.Parting.{with_made};
-ghost use Rattle.dataset_snapshots.specs.Creating.{HasFirstTables};
+ghost use Rattle.dataset_snapshots.specs.Creating.{HasFirstTables, stale_after};
 ghost use Rattle.dataset_groups.specs.Chains.{Reading};
 ghost use Rattle.dataset_groups.specs.Groups.{SpellsGroup};
 ghost use Rattle.dataset_groups.specs.Names.{reach_by};
@@ -29,12 +30,12 @@ ghost use Rattle.dataset_snapshots.specs.Mapped.{HasMapsBehind};
 ghost use Rattle.dataset_snapshots.specs.Pools.{SpellsPool};
 ghost use Rattle.dataset_snapshots.specs.Reach.{reach_of};
 
-use crate::groups::{MOST_NAMES, Made, are_below, plan_root};
+use crate::groups::{MOST_NAMES, Made, NextGroup, are_below, plan_root};
 use crate::kept::KeptDirectory;
 use block_pointer::Block;
 use block_store::{BlockStore, Refusal};
 use dataset_groups::GroupDatasets;
-use meta_objset::{Directory, EMPTY, STALE_SPANS_KIND, config_creation};
+use meta_objset::{Directory, EMPTY, StaleSpans, config_creation};
 use model_disk::Disk;
 use objset::{Change, ObjectChange};
 use pool_maps::first_maps;
@@ -52,9 +53,9 @@ pub struct FirstRoot {
     pub directory: KeptDirectory,
 }
 
-/// Plans the first root of a pool, which had no volumes so far, after the transaction group `group`: the actions that
+/// Plans the first root of a pool, which had no volumes so far, after the transaction group `next`: the actions that
 /// `parted` has made are done, and then the tables of the meta object set are made: the directory, the configuration,
-/// a table of stale spans with no rows, and the space maps. The writes of `items`, and what `parted` destroys, come
+/// the stale spans that `next` brings, or none, and the space maps. The writes of `items`, and what `parted` destroys, come
 /// to nothing where there are no volumes. `BadConfig` where a volume can't have its name or its sizes, or a snapshot
 /// its name; `NoSpace` also where no numbers are left for objects.
 ///
@@ -63,18 +64,19 @@ pub fn first_group<D: Disk + Drop>(
     store: &mut BlockStore<D>,
     alloc: Global,
     config: &Config,
-    group: u64,
+    next: &NextGroup,
     parted: &PartedActions,
     items: &Pending,
 ) -> Result<FirstRoot, Refusal>
     requires fits { FitsConfig (config_view config.now) }
     requires few { length (config_bytes (config_view config.now)) < 2 ^ 46 }
-    requires born { 0 < group }
+    requires born { 0 < next.now.number }
+    requires few_spans { IfSome next.now.spans (λ spans. length spans < 2 ^ 40) }
     ensures steps { OnlyReadsAndPlans store.old store.new [] }
     ensures fits { IfOk result (λ first. FitsBlock first.root) }
-    ensures born { IfOk result (λ first. first.root.birth ≡ group) }
+    ensures born { IfOk result (λ first. first.root.birth ≡ next.now.number) }
     ensures property { IfOk result (λ first.
-        first.root.property ≡ (asked_of_set group).property) }
+        first.root.property ≡ (asked_of_set next.now.number).property) }
     ensures copies { IfOk result (λ first. length (dvas first.root.copies) ≡ 3) }
 
     // Where nothing was in use, it spells the pool after the group, once the plan is stored, and has the tables of a new pool. What is
@@ -84,10 +86,11 @@ pub fn first_group<D: Disk + Drop>(
         → Plans store.old stored planned → UseNothing store.old.spaces filled
         → AnswersAreTrue store.old store.new
         → (later : Contents) × Plans store.new stored later × Extends planned later
-        × (is : SpellsPool later group first.root
-        (applied group no_volumes (with_made items.now parted.now)))
-        × HasFirstTables is.objects (config_view config.now)
-        × IsReachExchanged group planned later [] (reach_of is) []
+        × (is : SpellsPool later next.now.number first.root
+        (applied next.now.number no_volumes (with_made items.now parted.now)))
+        × HasFirstTables is.objects (config_view config.now) (stale_after next.now.spans [])
+        × (is.stale ≡ stale_after next.now.spans [])
+        × IsReachExchanged next.now.number planned later [] (reach_of is) []
         × (first.directory ≡ is.rows)
         × HasMapsBehind store.new.spaces [] is) }
 
@@ -99,22 +102,19 @@ pub fn first_group<D: Disk + Drop>(
 
     // What places are taken for, and on a refusal its cause.
     ensures places { OnOk result
-        (HasFirstPlaces store.old store.new group (config_view config.now)
-        (with_made items.now parted.now)) }
+        (HasFirstPlaces store.old store.new next.now.number (config_view config.now)
+        (stale_after next.now.spans []) (with_made items.now parted.now)) }
     ensures refused { IfErr result
-        (IsFirstRefused store.old store.new group (config_view config.now)
-        (with_made items.now parted.now)) }
+        (IsFirstRefused store.old store.new next.now.number (config_view config.now)
+        (stale_after next.now.spans []) (with_made items.now parted.now)) }
 {
-    let datasets = first_volumes(store, alloc, group, parted.made())?;
-    let Made {
-        directory,
-        changes,
-        next,
-    } = with_tables(datasets, alloc, config)?;
-    let changes = first_maps(store, alloc, changes, next)?;
+    let datasets = first_volumes(store, alloc, next.number, parted.made())?;
+    let made = with_tables(datasets, alloc, config, next)?;
+    let changes = first_maps(store, alloc, made.changes, made.next)?;
     let mut replaced = Vec::new(alloc);
+    let group = next.number;
     let root = plan_root(&EMPTY, store, alloc, &changes, group, group, &mut replaced)?;
-    let directory = KeptDirectory::new(alloc, directory);
+    let directory = KeptDirectory::new(alloc, made.directory);
     Ok(FirstRoot { root, directory })
 }
 
@@ -154,9 +154,15 @@ fn first_volumes<D: Disk + Drop>(
 /// What was made, with the changes that make the tables but for the space maps' in front of those of the volumes' objects; the directory
 /// has a row for each volume and each snapshot. `NoMemory`, also where the directory would have 2^40 names; `BadPointer` where one number has both
 /// a record and a dead list, and where one that is made is no number below the next.
-fn with_tables(datasets: GroupDatasets, alloc: Global, config: &Config) -> Result<Made, Refusal>
+fn with_tables(
+    datasets: GroupDatasets,
+    alloc: Global,
+    config: &Config,
+    group: &NextGroup,
+) -> Result<Made, Refusal>
     requires fits { FitsConfig (config_view config.now) }
     requires few { length (config_bytes (config_view config.now)) < 2 ^ 46 }
+    requires few_spans { IfSome group.now.spans (λ spans. length spans < 2 ^ 40) }
     requires behind { (4 < datasets.next) × (datasets.next ≤ numbers_end) }
     ensures numbers { IfOk result (λ made. All (λ change. (0 < change.number)
         × (change.number < 32 * 128 ^ 5)) made.changes.items) }
@@ -167,7 +173,8 @@ fn with_tables(datasets: GroupDatasets, alloc: Global, config: &Config) -> Resul
     ensures next { IfOk result (λ made. IsNextOf made.changes.items made.next) }
     ensures next_is { IfOk result (λ made. made.next ≡ datasets.next) }
     ensures tables { IfOk result (λ made.
-        IsWithTables (config_view config.now) datasets made.changes.items) }
+        IsWithTables (config_view config.now) (stale_after group.now.spans []) datasets
+        made.changes.items) }
     ensures directory { IfOk result (λ made. made.directory ≡ datasets.directory) }
     ensures refused { IfErr result (λ refusal. (refusal ≡ Refusal.NoMemory)
         ⊎ ((refusal ≡ Refusal.BadPointer) × AreMisnumbered datasets.changes datasets.next)) }
@@ -182,7 +189,7 @@ fn with_tables(datasets: GroupDatasets, alloc: Global, config: &Config) -> Resul
     if !are_below(&changes, next) {
         return Err(Refusal::BadPointer);
     }
-    let Ok(tables) = table_changes(&directory, alloc, config) else {
+    let Ok(tables) = table_changes(&directory, alloc, config, group) else {
         return Err(Refusal::NoMemory);
     };
     let changes = put_behind(alloc, tables, changes)?;
@@ -212,10 +219,13 @@ fn table_changes(
     directory: &Directory,
     alloc: Global,
     config: &Config,
+    group: &NextGroup,
 ) -> Result<[ObjectChange; 3], object_table::Refusal>
     requires fits { FitsConfig (config_view config.now) }
     requires few { length (config_bytes (config_view config.now)) < 2 ^ 46 }
-    ensures are { IfOk result (AreTableChanges (config_view config.now) directory.now) }
+    requires few_spans { IfSome group.now.spans (λ spans. length spans < 2 ^ 40) }
+    ensures are { IfOk result (AreTableChanges (config_view config.now)
+        (stale_after group.now.spans []) directory.now) }
     ensures good { IfOk result (λ changes. All (λ change. IsGoodChange change.change) changes) }
 {
     if directory.rows().len() >= MOST_NAMES {
@@ -223,12 +233,25 @@ fn table_changes(
     }
     let directory = directory.creation(alloc)?;
     let config = config_creation(alloc, config)?;
-    let spans = object_table::creation(alloc, STALE_SPANS_KIND, &[])?;
+    let spans = spans_creation(alloc, group)?;
     Ok([
         change_of(1, directory),
         change_of(2, config),
         change_of(3, spans),
     ])
+}
+
+/// The change that makes the table of the stale spans that the group brings, or of none. `NoMemory` is the only error.
+fn spans_creation(alloc: Global, group: &NextGroup) -> Result<Change, object_table::Refusal>
+    requires { IfSome group.now.spans (λ spans. length spans < 2 ^ 40) }
+    ensures good { IfOk result IsGoodChange }
+    ensures made { IfOk result (λ change.
+        HasStaleSpans (after_change change None) (stale_after group.now.spans [])) }
+{
+    match &group.spans {
+        Some(spans) => spans.creation(alloc),
+        None => StaleSpans::new(alloc).creation(alloc),
+    }
 }
 
 fn change_of(number: u64, change: Change) -> ObjectChange

@@ -1,5 +1,5 @@
 //! The root of a pool after a group.
-ghost use Rattle.std.specs.Prelude.{IsTrue, ◌↔◌, ◌≡◌, ◌⊎◌, ◌≤◌, ◌<◌, ◌-◌, ◌*◌, ◌^◌, ◌++◌, ℕ, List, [], Option, Some, All, AllPairs, IfOk, IfErr, OnOk, ◌∷◌, length};
+ghost use Rattle.std.specs.Prelude.{IsTrue, ◌↔◌, ◌≡◌, ◌⊎◌, ◌≤◌, ◌<◌, ◌-◌, ◌*◌, ◌^◌, ◌++◌, ℕ, List, [], Option, Some, All, AllPairs, IfOk, IfErr, IfSome, OnOk, ◌∷◌, length};
 ghost use Rattle.block_pointer.specs.Block.{FitsBlock};
 ghost use Rattle.block_pointer.specs.Copies.{dvas};
 ghost use Rattle.block_pointer.specs.declared.block.Block.{Block};
@@ -13,7 +13,8 @@ ghost use Rattle.dnode.specs.ObjectSet.{FitsObjectSet};
 ghost use Rattle.dnode.specs.declared.object_set.ObjectSetKind.TheVariants as sets;
 ghost use Rattle.objset.specs.Sets.{asked_of_set};
 ghost use Rattle.dnode_tree.specs.Writes.{IsForRoom};
-ghost use Rattle.meta_objset.specs.Reading.{HasDirectory, directory_kind};
+ghost use Rattle.meta_objset.specs.Reading.{HasDirectory, HasStaleSpans, directory_kind};
+ghost use Rattle.meta_objset.specs.StaleSpans.{spans_kind};
 ghost use Rattle.object_table.specs.Tables.{IsOfKind};
 ghost use Rattle.objset.specs.Changes.{HasNoRoom, IsGoodChange, MayChange, after_change, changed};
 ghost use Rattle.objset.specs.Objects.{Object, AreObjects};
@@ -23,8 +24,9 @@ ghost use Rattle.pool_maps.specs.Plans.{AreOrdered, MapAnew};
 ghost use Rattle.pool_model.specs.declared.item.Write.{Write};
 ghost use Rattle.pool_model.specs.Pools.{MayBeDestroyed, PlainPool, all_destroyed, applied, written};
 ghost use Rattle.volume_rules.specs.Parting.{with_made};
-ghost use Rattle.dataset_snapshots.specs.Creating.{KeepsTables};
-ghost use Rattle.dataset_snapshots.specs.Demands.{AreMappedRefused, HasDatasetChanges, AreMisnumbered, AreVolumesRefused, HasGroupPlaces, HasMappedPlaces, HasRootPlaces, HasVolumePlaces, IsGroupRefused, IsRootRefused};
+ghost use Rattle.dataset_groups.specs.States.{IsNumber};
+ghost use Rattle.dataset_snapshots.specs.Creating.{LeavesTables};
+ghost use Rattle.dataset_snapshots.specs.Demands.{AreMappedRefused, AreSpanChanges, HasDatasetChanges, AreMisnumbered, AreVolumesRefused, HasGroupPlaces, HasMappedPlaces, HasRootPlaces, HasVolumePlaces, IsGroupRefused, IsRootRefused};
 ghost use Rattle.dataset_groups.specs.Destroys.{HasAtMost};
 ghost use Rattle.dataset_groups.specs.Names.{reach_by};
 ghost use Rattle.dataset_groups.specs.NewVolumes.{AreGoodChanges, numbers_end};
@@ -47,7 +49,7 @@ use block_pointer::Block;
 use block_store::{BlockStore, Refusal};
 use dataset_groups::{GroupDatasets, WrittenHead};
 use dnode::ObjectSet;
-use meta_objset::Directory;
+use meta_objset::{Directory, StaleSpans};
 use model_disk::Disk;
 use objset::{ObjectChange, plan_set};
 use pool_maps::plan_maps;
@@ -55,6 +57,14 @@ use pool_model::{Action, Name};
 use std::alloc::{AllocError, Global};
 use txg_pipeline::Pending;
 use volume_rules::PartedActions;
+
+/// The group that a root is planned for.
+#[derive(Drop)]
+pub struct NextGroup {
+    pub number: u64,
+    /// The pool's stale spans under this root, where they are others than those under the root before.
+    pub spans: Option<StaleSpans>,
+}
 
 /// The root of a pool after a group.
 #[derive(Drop)]
@@ -92,7 +102,8 @@ pub(crate) struct Begun {
 pub(crate) struct Made {
     /// The directory after the group.
     pub directory: Directory,
-    /// The changes of all objects, in the order of their numbers; that of the directory is among them where it changed.
+    /// The changes of all objects, in the order of their numbers; those of the directory and of the stale spans are among them where
+    /// these changed.
     pub changes: Vec<ObjectChange>,
     /// The number of the next object that is made.
     pub next: u64,
@@ -101,12 +112,16 @@ pub(crate) struct Made {
 /// The number of the directory's object.
 const DIRECTORY: u64 = 1;
 
+/// The number of the stale spans' object.
+const STALE_SPANS: u64 = 3;
+
 /// A directory of so many names has 2^46 bytes.
 pub(crate) const MOST_NAMES: usize = 1 << 40;
 
-/// Plans the root of a pool after the transaction group `group`. First the volumes and snapshots go that `parted`
+/// Plans the root of a pool after the transaction group `next`. First the volumes and snapshots go that `parted`
 /// destroys, in order; then the writes of `items` are done, and then the actions that `parted` keeps: they make
-/// volumes and clones, and take snapshots of what volumes are by then. The actions of `items` are not looked at.
+/// volumes and clones, and take snapshots of what volumes are by then. The actions of `items` are not looked at. The
+/// stale spans that `next` brings come in the place of those before, of which none is kept.
 ///
 /// `root` is the root of the group before, and `directory` the one under it, which is kept in memory: none of its
 /// blocks is read. Each block that a write reaches is read, and then each of them is planned anew: so where one can't
@@ -123,40 +138,43 @@ pub fn after_group<D: Disk + Drop>(
     root: &Block,
     store: &mut BlockStore<D>,
     alloc: Global,
-    group: u64,
+    next: &NextGroup,
     directory: &KeptDirectory,
     parted: &PartedActions,
     items: &Pending,
 ) -> Result<NextRoot, Refusal>
-    requires born { 0 < group }
+    requires born { 0 < next.now.number }
+    requires few { IfSome next.now.spans (λ spans. length spans < 2 ^ 40) }
     ensures steps { OnlyReadsAndPlans store.old store.new [] }
     ensures fits { IfOk result (λ after. FitsBlock after.root) }
-    ensures born { IfOk result (λ after. after.root.birth ≡ group) }
+    ensures born { IfOk result (λ after. after.root.birth ≡ next.now.number) }
     ensures property { IfOk result (λ after.
-        after.root.property ≡ (asked_of_set group).property) }
+        after.root.property ≡ (asked_of_set next.now.number).property) }
     ensures copies { IfOk result (λ after. length (dvas after.root.copies) ≡ 3) }
 
     // Where the directory is the root's, and the space maps are those of what is stored, it spells the pool after the group, once
-    // the plan is stored, and has the other tables that there were. The blocks that gave way are those that the root before leads
-    // to and this one doesn't; what is planned is what it leads to besides. Once they are given back the space maps are those of
-    // the plan. The directory then is the one that it spells the pool by.
+    // the plan is stored, with the stale spans that the group brings, and has the other tables that there were. The blocks that gave
+    // way are those that the root before leads to and this one doesn't; what is planned is what it leads to besides. Once they are
+    // given back the space maps are those of the plan. The directory then is the one that it spells the pool by.
     ensures value { IfOk result (λ after. (stored planned : Contents) (pool : PlainPool)
-        → Plans store.old stored planned → (is : SpellsPool stored (group - 1) root.now pool)
+        → Plans store.old stored planned
+        → (is : SpellsPool stored (next.now.number - 1) root.now pool)
         → directory.now ≡ is.rows → HasMapsBy store.old.spaces filled is
         → MayBeDestroyed parted.now.destroyed pool → AnswersAreTrue store.old store.new
         → (later : Contents) × Plans store.new stored later × Extends planned later
-        × (then : SpellsPool later group after.root
-        (applied group (all_destroyed parted.now.destroyed pool)
+        × (then : SpellsPool later next.now.number after.root
+        (applied next.now.number (all_destroyed parted.now.destroyed pool)
         (with_made items.now parted.now)))
-        × KeepsTables is.objects then.objects
-        × IsReachExchanged group planned later (reach_of is) (reach_of then)
+        × LeavesTables next.now.spans is then
+        × IsReachExchanged next.now.number planned later (reach_of is) (reach_of then)
         after.replaced.items
         × (after.directory ≡ then.rows)
         × HasMapsBehind store.new.spaces after.replaced.items then) }
 
     // Over disks that answer truly, and where all may be made, only room is wanting, or disks.
     ensures known { IfErr result (λ refusal. (stored planned : Contents) (pool : PlainPool)
-        → Plans store.old stored planned → (is : SpellsPool stored (group - 1) root.now pool)
+        → Plans store.old stored planned
+        → (is : SpellsPool stored (next.now.number - 1) root.now pool)
         → directory.now ≡ is.rows → HasMapsBy store.old.spaces filled is
         → StandsOnce store.old.spaces is → AnswersAreTrue store.old store.new
         → MayBeDestroyed parted.now.destroyed pool → AreGoodChanges parted.now.made
@@ -165,24 +183,33 @@ pub fn after_group<D: Disk + Drop>(
     // Whatever the root and the directory are: what places are taken for and what is given back, and
     // on a refusal its cause.
     ensures places { IfOk result (λ after. HasGroupPlaces store.old store.new root.now directory.now
-        group parted.now.destroyed (with_made items.now parted.now) after.replaced.items) }
-    ensures refused { IfErr result (IsGroupRefused store.old store.new root.now directory.now group
-        parted.now.destroyed (with_made items.now parted.now)) }
+        next.now.number next.now.spans parted.now.destroyed (with_made items.now parted.now)
+        after.replaced.items) }
+    ensures refused { IfErr result (IsGroupRefused store.old store.new root.now directory.now
+        next.now.number next.now.spans parted.now.destroyed (with_made items.now parted.now)) }
 {
     // There are few vdevs, and so no volume has too many blocks.
     let _vdevs = store.vdev_count();
-    let opened = open_group(root, store, alloc, group, directory, parted, items)?;
+    let opened = open_group(root, store, alloc, next.number, directory, parted, items)?;
     let set = opened.set;
     let born = root.birth;
     let mut gone = Vec::new(alloc);
-    let made = mapped_changes(opened, store, alloc, born, group, parted.made(), &mut gone)?;
+    let made = mapped_changes(opened, store, alloc, born, next, parted.made(), &mut gone)?;
     let mut replaced = only(root, alloc)?;
     replaced.extend_from_slice(&gone)?;
     let changes = &made.changes;
-    let next = plan_root(&set, store, alloc, changes, born, group, &mut replaced)?;
+    let root = plan_root(
+        &set,
+        store,
+        alloc,
+        changes,
+        born,
+        next.number,
+        &mut replaced,
+    )?;
     let directory = directory.after(alloc, made.directory, &made.changes)?;
     Ok(NextRoot {
-        root: next,
+        root,
         replaced,
         directory,
     })
@@ -301,11 +328,12 @@ fn mapped_changes<D: Disk + Drop>(
     store: &mut BlockStore<D>,
     alloc: Global,
     born: u64,
-    group: u64,
+    group: &NextGroup,
     actions: &[Action],
     gone: &mut Vec<Block>,
 ) -> Result<Made, Refusal>
-    requires born { 0 < group }
+    requires born { 0 < group.now.number }
+    requires few { IfSome group.now.spans (λ spans. length spans < 2 ^ 40) }
     requires opened { (writes : List Write) × IsOpened writes opened }
     requires none { gone.old.items ≡ [] }
     ensures steps { OnlyReadsAndPlans store.old store.new [] }
@@ -313,29 +341,31 @@ fn mapped_changes<D: Disk + Drop>(
     ensures value { IfOk result (λ made. (stored planned : Contents) (birth : ℕ)
         (root : Block) (pool : PlainPool) (writes : List Write)
         → Plans store.old stored planned → (is : SpellsPool stored birth root pool)
-        → (destroyed : List (List ℕ)) → root.birth ≡ born → born < group → IsOpened writes opened
-        → IsOpenedFrom stored group birth root pool is destroyed writes opened
+        → (destroyed : List (List ℕ)) → root.birth ≡ born → born < group.now.number
+        → IsOpened writes opened
+        → IsOpenedFrom stored group.now.number birth root pool is destroyed writes opened
         → AreMapsOf is.objects store.old.spaces filled → AnswersAreTrue store.old store.new
         → (later : Contents) × Plans store.new stored later × Extends planned later
-        × (then : SpellsAfter later group is.objects made.changes.items
-        (applied group (all_destroyed destroyed pool)
+        × (then : SpellsAfter later group.now.number is.objects made.changes.items
+        group.now.spans (applied group.now.number (all_destroyed destroyed pool)
         (record { writes = writes; actions = actions.now })))
-        × IsReachExchanged group planned later
+        × IsReachExchanged group.now.number planned later
         (volume_blocks_of is) (reach_by then.datasets then.rows) gone.new.items
         × (then.rows ≡ made.directory) × AddsData planned later
         × MapAnew is.objects store.new.spaces gone.new.items made.changes.items) }
     ensures known { IfErr result (λ refusal. (stored planned : Contents) (birth : ℕ)
         (root : Block) (pool : PlainPool) (writes : List Write)
         → Plans store.old stored planned → (is : SpellsPool stored birth root pool)
-        → (destroyed : List (List ℕ)) → root.birth ≡ born → born < group → IsOpened writes opened
-        → IsOpenedFrom stored group birth root pool is destroyed writes opened
+        → (destroyed : List (List ℕ)) → root.birth ≡ born → born < group.now.number
+        → IsOpened writes opened
+        → IsOpenedFrom stored group.now.number birth root pool is destroyed writes opened
         → AreMapsOf is.objects store.old.spaces filled → StandsOnce store.old.spaces is
         → AnswersAreTrue store.old store.new → AreGoodChanges actions.now
         → IsForRoom refusal ⊎ (refusal ≡ Refusal.DiskFault)) }
-    ensures places { IfOk result (λ made. HasMappedPlaces store.old store.new born group opened
-        actions.now gone.new.items made.changes.items) }
-    ensures refused { IfErr result
-        (AreMappedRefused store.old store.new born group opened actions.now) }
+    ensures places { IfOk result (λ made. HasMappedPlaces store.old store.new born
+        group.now.number group.now.spans opened actions.now gone.new.items made.changes.items) }
+    ensures refused { IfErr result (AreMappedRefused store.old store.new born group.now.number
+        group.now.spans opened actions.now) }
 {
     let set = opened.set;
     let made = changes_of(opened, store, alloc, group, actions, gone)?;
@@ -359,11 +389,12 @@ fn changes_of<D: Disk + Drop>(
     opened: Opened,
     store: &mut BlockStore<D>,
     alloc: Global,
-    group: u64,
+    group: &NextGroup,
     actions: &[Action],
     replaced: &mut Vec<Block>,
 ) -> Result<Made, Refusal>
-    requires born { 0 < group }
+    requires born { 0 < group.now.number }
+    requires few { IfSome group.now.spans (λ spans. length spans < 2 ^ 40) }
     requires opened { (writes : List Write) × IsOpened writes opened }
     ensures steps { OnlyReadsAndPlans store.old store.new [] }
     ensures numbers { IfOk result (λ made. All (λ change. (0 < change.number)
@@ -376,30 +407,30 @@ fn changes_of<D: Disk + Drop>(
     ensures value { IfOk result (λ made. (stored planned : Contents) (birth : ℕ)
         (root : Block) (pool : PlainPool) (writes : List Write)
         → Plans store.old stored planned → (is : SpellsPool stored birth root pool)
-        → (destroyed : List (List ℕ)) → root.birth < group → IsOpened writes opened
-        → IsOpenedFrom stored group birth root pool is destroyed writes opened
+        → (destroyed : List (List ℕ)) → root.birth < group.now.number → IsOpened writes opened
+        → IsOpenedFrom stored group.now.number birth root pool is destroyed writes opened
         → AnswersAreTrue store.old store.new
         → (later : Contents) × Plans store.new stored later × Extends planned later
-        × (then : SpellsAfter later group is.objects made.changes.items
-        (applied group (all_destroyed destroyed pool)
+        × (then : SpellsAfter later group.now.number is.objects made.changes.items
+        group.now.spans (applied group.now.number (all_destroyed destroyed pool)
         (record { writes = writes; actions = actions.now })))
         × (gone : List Block) × (replaced.new.items ≡ replaced.old.items ++ gone)
-        × IsReachExchanged group planned later
+        × IsReachExchanged group.now.number planned later
         (volume_blocks_of is) (reach_by then.datasets then.rows) gone
         × (then.rows ≡ made.directory) × AddsData planned later
         × AreOfDatasets is.objects made.changes.items) }
     ensures known { IfErr result (λ refusal. (stored planned : Contents) (birth : ℕ)
         (root : Block) (pool : PlainPool) (writes : List Write)
         → Plans store.old stored planned → (is : SpellsPool stored birth root pool)
-        → (destroyed : List (List ℕ)) → root.birth < group → IsOpened writes opened
-        → IsOpenedFrom stored group birth root pool is destroyed writes opened
+        → (destroyed : List (List ℕ)) → root.birth < group.now.number → IsOpened writes opened
+        → IsOpenedFrom stored group.now.number birth root pool is destroyed writes opened
         → AnswersAreTrue store.old store.new → AreGoodChanges actions.now
         → IsForRoom refusal ⊎ (refusal ≡ Refusal.DiskFault)) }
     ensures places { IfOk result (λ made.
-        HasVolumePlaces store.old store.new group opened actions.now made.changes.items
-        made.next) }
+        HasVolumePlaces store.old store.new group.now.number group.now.spans opened actions.now
+        made.changes.items made.next) }
     ensures refused { IfErr result
-        (AreVolumesRefused store.old store.new group opened actions.now) }
+        (AreVolumesRefused store.old store.new group.now.number opened actions.now) }
 {
     let Opened {
         mut datasets,
@@ -410,16 +441,22 @@ fn changes_of<D: Disk + Drop>(
     } = opened;
     replaced.append(&mut freed)?;
     let first = datasets.next;
-    datasets.write_all(store, alloc, group, written, replaced)?;
-    datasets.act_all(store, alloc, group, actions)?;
+    datasets.write_all(store, alloc, group.number, written, replaced)?;
+    datasets.act_all(store, alloc, group.number, actions)?;
     let renamed = renamed || datasets.next != first;
-    with_directory(datasets, alloc, renamed)
+    with_directory(datasets, alloc, renamed, group)
 }
 
-/// What became of the datasets: the changes of the objects of their records and dead lists, with the change of the directory in front where names
-/// came or went. `NoMemory`, also where the directory would have 2^40 names;
+/// What became of the datasets: the changes of the objects of their records and dead lists, with the change of the stale spans in front where the
+/// group brings others, and that of the directory where names came or went. `NoMemory`, also where the directory would have 2^40 names;
 /// `BadPointer` where one number has both a record and a dead list, and where one that is changed is behind all objects.
-fn with_directory(datasets: GroupDatasets, alloc: Global, renamed: bool) -> Result<Made, Refusal>
+fn with_directory(
+    datasets: GroupDatasets,
+    alloc: Global,
+    renamed: bool,
+    group: &NextGroup,
+) -> Result<Made, Refusal>
+    requires few { IfSome group.now.spans (λ spans. length spans < 2 ^ 40) }
     requires behind { 4 < datasets.next }
     requires within { next_behind datasets ≤ numbers_end }
     ensures numbers { IfOk result (λ made. All (λ change. (0 < change.number)
@@ -431,7 +468,8 @@ fn with_directory(datasets: GroupDatasets, alloc: Global, renamed: bool) -> Resu
     ensures next { IfOk result (λ made. IsNextOf made.changes.items made.next) }
     ensures next_is { IfOk result (λ made. made.next ≡ next_behind datasets) }
     ensures directory { IfOk result (λ made. made.directory ≡ datasets.directory) }
-    ensures changes { IfOk result (λ made. HasDatasetChanges datasets renamed made.changes.items) }
+    ensures changes { IfOk result (λ made.
+        HasDatasetChanges datasets renamed group.now.spans made.changes.items) }
     ensures refused { IfErr result (λ refusal. (refusal ≡ Refusal.NoMemory)
         ⊎ ((refusal ≡ Refusal.BadPointer)
         × AreMisnumbered datasets.changes (next_behind datasets))) }
@@ -446,6 +484,7 @@ fn with_directory(datasets: GroupDatasets, alloc: Global, renamed: bool) -> Resu
     if !are_below(&changes, next) {
         return Err(Refusal::BadPointer);
     }
+    put_spans(&mut changes, alloc, group)?;
     if renamed {
         let change = directory_change(&directory, alloc)?;
         put_first(&mut changes, change)?;
@@ -462,6 +501,37 @@ pub(crate) fn are_below(changes: &[ObjectChange], next: u64) -> bool
     ensures { IsTrue result ↔ All (λ change. change.number < next) changes.now }
 {
     changes.iter().all(|change| change.number < next)
+}
+
+/// Puts the change that writes the stale spans anew in front of those of datasets, where the group brings others. `NoMemory` is its only error.
+fn put_spans(
+    changes: &mut Vec<ObjectChange>,
+    alloc: Global,
+    group: &NextGroup,
+) -> Result<(), Refusal>
+    requires few { IfSome group.now.spans (λ spans. length spans < 2 ^ 40) }
+    requires numbers { All (λ change. IsNumber change.number) changes.old.items }
+    requires order { AllPairs (λ change later. change.number < later.number) changes.old.items }
+    requires good { All (λ change. IsGoodChange change.change) changes.old.items }
+    ensures spans { OnOk result ((of_spans : List ObjectChange)
+        × AreSpanChanges group.now.spans of_spans
+        × (changes.new.items ≡ of_spans ++ changes.old.items)) }
+    ensures numbers { OnOk result (All (λ change. (1 < change.number)
+        × (change.number < 32 * 128 ^ 5)) changes.new.items) }
+    ensures below { OnOk result ((next : ℕ) → 4 < next
+        → All (λ change. change.number < next) changes.old.items
+        → All (λ change. change.number < next) changes.new.items) }
+    ensures order { OnOk result
+        (AllPairs (λ change later. change.number < later.number) changes.new.items) }
+    ensures good { OnOk result (All (λ change. IsGoodChange change.change) changes.new.items) }
+    ensures refused { IfErr result (λ refusal. refusal ≡ Refusal.NoMemory) }
+{
+    let Some(spans) = &group.spans else {
+        return Ok(());
+    };
+    let change = spans_change(spans, alloc)?;
+    put_first(changes, change)?;
+    Ok(())
 }
 
 /// Puts a change in front of others.
@@ -488,6 +558,26 @@ fn directory_change(directory: &Directory, alloc: Global) -> Result<ObjectChange
     match directory.replacement(alloc) {
         Ok(change) => Ok(ObjectChange {
             number: DIRECTORY,
+            change,
+        }),
+        Err(_) => Err(Refusal::NoMemory),
+    }
+}
+
+/// The change that writes the stale spans anew.
+fn spans_change(spans: &StaleSpans, alloc: Global) -> Result<ObjectChange, Refusal>
+    requires { length spans.now < 2 ^ 40 }
+    ensures number { IfOk result (λ change. change.number ≡ 3) }
+    ensures good { IfOk result (λ change. IsGoodChange change.change) }
+    ensures may { IfOk result (λ change. (object : Object) → IsOfKind spans_kind object
+        → MayChange change.change (Some object)) }
+    ensures made { IfOk result (λ change. (object : Object) → IsOfKind spans_kind object
+        → HasStaleSpans (after_change change.change (Some object)) spans.now) }
+    ensures refused { IfErr result (λ refusal. refusal ≡ Refusal.NoMemory) }
+{
+    match spans.replacement(alloc) {
+        Ok(change) => Ok(ObjectChange {
+            number: STALE_SPANS,
             change,
         }),
         Err(_) => Err(Refusal::NoMemory),

@@ -19,7 +19,7 @@ pub use block_store::Refusal;
 pub use contents::{RootContents, contents_under};
 pub use finding::{Dataset, directory_under, find, find_in};
 pub use first_root::{FirstRoot, first_group};
-pub use groups::{NextRoot, after_group};
+pub use groups::{NextGroup, NextRoot, after_group};
 pub use kept::KeptDirectory;
 pub use laws::{
     good_changes_may_be_made, losses_by_rows, losses_of_datasets, losses_of_first_groups,

@@ -1,8 +1,9 @@
 //! What is told of a pool.
-ghost use Rattle.std.specs.Prelude.{◌≡◌, IfOk, map, string_bytes};
-ghost use Rattle.file_pools.specs.Telling.{Shows, disk_rows, has_lost, told, vdev_rows};
-ghost use Rattle.pool_create.specs.CoreStateOf.{state_of};
+ghost use Rattle.std.specs.Prelude.{◌≡◌, false, IfOk, map, string_bytes};
+ghost use Rattle.file_pools.specs.Telling.{Shows, disk_rows, has_lost, state_of, told, vdev_rows};
+ghost use Rattle.pool_create.specs.CoreStateOf.{state_of as core_state};
 
+use meta_objset::StaleSpan;
 use model_disk::{FileDisk, Member};
 use pool_command::{DiskState, DiskStatus, PoolStatus, VdevStatus};
 use pool_create::Core;
@@ -10,14 +11,40 @@ use std::alloc::{AllocError, Global};
 use uberblock_ring::Uberblock;
 use vdev_label::Config;
 
-/// The disks from this number on; those that are marked are absent.
+/// Of which groups a disk in use lacks blocks, if it has a span.
+fn state_in_use(spans: &[StaleSpan], guid: u64) -> DiskState
+    ensures { result ≡ state_of false spans.now guid }
+{
+    match spans.split_first() {
+        Some((span, _)) if span.disk == guid => DiskState::Stale {
+            from: span.from,
+            to: span.to,
+        },
+        Some((_, rest)) => state_in_use(rest, guid),
+        None => DiskState::Online,
+    }
+}
+
+/// Whether a disk is in use, and of which groups it lacks blocks then.
+fn state(is_out: bool, spans: &[StaleSpan], guid: u64) -> DiskState
+    ensures { result ≡ state_of is_out spans.now guid }
+{
+    if is_out {
+        return DiskState::Absent;
+    }
+    state_in_use(spans, guid)
+}
+
+/// The disks from this number on; those that are marked are absent, and of the others those stale that have a span.
 fn disks_of(
     alloc: Global,
     guids: &[u64],
     first: usize,
     out: &[bool],
+    spans: &[StaleSpan],
 ) -> Result<Vec<DiskStatus>, AllocError>
-    ensures { IfOk result (λ disks. disks.items ≡ disk_rows first guids.now out.now) }
+    ensures { IfOk result (λ disks.
+        disks.items ≡ disk_rows first guids.now out.now spans.now) }
 {
     let mut disks = Vec::new(alloc);
     let mut number = first;
@@ -26,11 +53,7 @@ fn disks_of(
         disks.push(DiskStatus {
             number,
             guid: *guid,
-            state: if is_out {
-                DiskState::Absent
-            } else {
-                DiskState::Online
-            },
+            state: state(is_out, spans, *guid),
         })?;
         number = number.saturating_add(1);
     }
@@ -38,9 +61,14 @@ fn disks_of(
 }
 
 /// The vdevs of the configuration, in order.
-fn vdevs_of(alloc: Global, config: &Config, out: &[bool]) -> Result<Vec<VdevStatus>, AllocError>
+fn vdevs_of(
+    alloc: Global,
+    config: &Config,
+    out: &[bool],
+    spans: &[StaleSpan],
+) -> Result<Vec<VdevStatus>, AllocError>
     ensures { IfOk result (λ vdevs. map told vdevs.items
-        ≡ vdev_rows 0 0 config.now.vdevs.items out.now) }
+        ≡ vdev_rows 0 0 config.now.vdevs.items out.now spans.now) }
 {
     let mut vdevs = Vec::new(alloc);
     let mut first = 0usize;
@@ -49,7 +77,7 @@ fn vdevs_of(alloc: Global, config: &Config, out: &[bool]) -> Result<Vec<VdevStat
         vdevs.push(VdevStatus {
             number,
             parities: vdev.parity.min(255) as u32,
-            disks: disks_of(alloc, vdev.children.as_slice(), first, out)?,
+            disks: disks_of(alloc, vdev.children.as_slice(), first, out, spans)?,
         })?;
         first = first.saturating_add(vdev.children.len());
     }
@@ -73,13 +101,14 @@ pub(crate) fn status_of(
     name: &String,
     uberblock: &Uberblock,
 ) -> Result<PoolStatus, AllocError>
-    ensures { IfOk result (Shows (state_of core.now) (string_bytes name.now) uberblock.now) }
+    ensures { IfOk result (Shows (core_state core.now) (string_bytes name.now) uberblock.now) }
 {
     let out = core.marks(alloc)?;
+    let spans = core.stale_spans().rows();
     Ok(PoolStatus {
         name: name.clone()?,
         claim: uberblock.claim,
         group: uberblock.group,
-        vdevs: vdevs_of(alloc, core.config(), out.as_slice())?,
+        vdevs: vdevs_of(alloc, core.config(), out.as_slice(), spans)?,
     })
 }

@@ -27,7 +27,7 @@ pub kept_stays : (before later : Contents) (group : ℕ) (kept : Option KeptGrou
     → SpellsKept before group kept pool → SpellsKept later group kept pool
 kept_stays before later group (Some kept) (Some pool) more spells = record {
   root = root_stays before later group kept.root pool more spells.root;
-  directory = spells_by_stays before later group kept.root pool kept.directory.value (config_view kept.config.value) more spells.directory;
+  directory = spells_by_stays before later group kept.root pool kept.directory.value (config_view kept.config.value) kept.spans_under.value more spells.directory;
   names = spells.names;
 }
 kept_stays before later group None None more spells = tt

@@ -75,7 +75,7 @@ pub kept_spells_stand : (old new : Contents) (group : ℕ) (kept : Option KeptGr
     → KeptLeadsTo old group kept pool blocks → SpellsKept old group kept pool → SpellsKept new group kept pool
 kept_spells_stand old new group (Some kept) (Some pool) blocks keeps leads spells = record {
   root = spells_stand old new group kept.root pool blocks (leads_stand old new group kept.root pool blocks keeps leads) spells.root;
-  directory = spells_by_stands old new group kept.root pool kept.directory.value (config_view kept.config.value) blocks keeps leads spells.directory;
+  directory = spells_by_stands old new group kept.root pool kept.directory.value (config_view kept.config.value) kept.spans_under.value blocks keeps leads spells.directory;
   names = spells.names;
 }
 kept_spells_stand old new group None None blocks keeps leads spells = tt

@@ -36,6 +36,8 @@ use Rattle.dataset_snapshots.proofs.MapsReadSets.{read_are_sets}
 use Rattle.dataset_snapshots.proofs.MapsReaching.{lie_before_meta}
 use Rattle.pool_model.specs.Pools.{PlainPool, no_volumes}
 use Rattle.pool_model.specs.View.{Vdev, opened_as}
+use Rattle.meta_objset.specs.Reading.{HasStaleSpans}
+use Rattle.meta_objset.specs.declared.stale_spans.StaleSpan.{StaleSpan}
 use Rattle.pool_commit.specs.Configs.{HasConfigAs}
 use Rattle.pool_commit.proofs.Starting.{same_some}
 use Rattle.objset.specs.Objects.{Object}
@@ -168,20 +170,23 @@ pub record IsFound (stored : Contents) (group : ℕ) (kept : KeptGroup) (pool : 
   pub leads : LeadsTo stored group kept.root pool blocks
 
 found_by : (spaces : List VdevSpace) (stored : Contents) (group : ℕ) (root : Block) (pool : PlainPool) (contents : RootContents) (kept : KeptGroup)
-    → (config : Config) → IsGroupOf root contents.directory contents.names config kept → (are : AreContentsOf stored spaces group root pool contents)
-    → HasConfigAs (are.is.objects 2) (config_view config) → IsFound (among (reach_of are.is) stored) group kept pool (reach_of are.is)
-found_by spaces stored group root pool contents kept config is are has =
+    → (config : Config) → IsGroupOf root contents.directory contents.names config kept → kept.spans_under.value ≡ contents.spans
+    → (are : AreContentsOf stored spaces group root pool contents) → HasConfigAs (are.is.objects 2) (config_view config) → IsFound (among (reach_of are.is) stored) group kept pool (reach_of are.is)
+found_by spaces stored group root pool contents kept config is table are has =
     let blocks = reach_of are.is in
     let keeps : KeepsEach stored (among blocks stored) blocks = λ block bytes held known. among_keeps blocks stored block bytes held known in
     let still = roots_stand stored (among blocks stored) group group root pool (omega arith) are.is keeps in
     let has_still : HasConfigAs (still.0.objects 2) (config_view kept.config.value) =
     subst (λ (c : Config). HasConfigAs (still.0.objects 2) (config_view c)) (sym is.config_is)
     (subst (λ (objects : ℕ → Option Object). HasConfigAs (objects 2) (config_view config)) (sym still.4) has) in
+    let spans_still : HasStaleSpans (still.0.objects 3) kept.spans_under.value =
+    subst (λ (objects : ℕ → Option Object). HasStaleSpans (objects 3) kept.spans_under.value) (sym still.4)
+    (subst (λ (spans : List StaleSpan). HasStaleSpans (are.is.objects 3) spans) (sym (table ∙ are.spans)) are.is.spans) in
     record {
       spells = record {
         root = subst (λ (o : Option Block). SpellsRoot (among blocks stored) group o pool) (sym is.root_is) still.0;
-        directory = subst (λ (o : Option Block). SpellsBy (among blocks stored) group o pool kept.directory.value (config_view kept.config.value)) (sym is.root_is)
-            (still.0, is.directory_is ∙ are.rows ∙ sym still.2, has_still);
+        directory = subst (λ (o : Option Block). SpellsBy (among blocks stored) group o pool kept.directory.value (config_view kept.config.value) kept.spans_under.value) (sym is.root_is)
+            (still.0, is.directory_is ∙ are.rows ∙ sym still.2, has_still, spans_still);
         names = subst (λ index. Knows index pool) (sym is.names_are) are.names;
       };
       leads = subst (λ (o : Option Block). LeadsTo (among blocks stored) group o pool blocks) (sym is.root_is) (still.0, still.1);
@@ -285,12 +290,12 @@ all_in_use old mid new stored group root pool contents taken empty holds are its
     record { filled_just = just.0; planned_just = just.1; holds = taken.keeps stored (taken.loads.keeps stored holds) }
 
 pub backs_opened : FoundInUseAreStored → (old mid new : Store) (stamp : Stamp) (group : ℕ) (root : Block) (contents : RootContents) (last : KeptGroup)
-    (s : State) → AreTaken old mid new contents.maps.items contents.blocks.items → (config : Config) → IsGroupOf root contents.directory contents.names config last → IsOfGroup new stamp group last s
-    → Plans old nothing_stored nothing_stored → AreEmpty old.spaces → (stored : Contents) (pool : PlainPool)
+    (s : State) → AreTaken old mid new contents.maps.items contents.blocks.items → (config : Config) → IsGroupOf root contents.directory contents.names config last → last.spans_under.value ≡ contents.spans
+    → IsOfGroup new stamp group last s → Plans old nothing_stored nothing_stored → AreEmpty old.spaces → (stored : Contents) (pool : PlainPool)
     → Holds old stored → AreContentsOf stored old.spaces group root pool contents → HasMaps old.spaces stored group (Some root) pool
     → IsConfiguredUnder stamp stored group root pool → IsStampOf (config_view config) stamp.claim stamp
     → Backs s (opened_as (vdevs_of old.spaces) (is_out old.out) group pool)
-backs_opened in_use_stored old mid new stamp group root contents last s taken config is_group is plans empty stored pool holds are has configured stamped =
+backs_opened in_use_stored old mid new stamp group root contents last s taken config is_group table_known is plans empty stored pool holds are has configured stamped =
     let reach = reach_of are.is in
     let mine = among reach stored in
     let at : s.store ≡ new = is.store_is in
@@ -309,7 +314,7 @@ backs_opened in_use_stored old mid new stamp group root contents last s taken co
     (ap (λ (store : Store). shapes_of store.spaces) at ∙ taken.shapes ∙ taken.loads.shapes)
     (ap (λ (store : Store). store.out) at ∙ taken.out ∙ ap (λ (store : Store). store.out) taken.loads.rest)
     (subst (λ store. Plans store mine mine) (sym at) plans_new)
-    (found_by old.spaces stored group root pool contents last config is_group are table) its.once
+    (found_by old.spaces stored group root pool contents last config is_group table_known are table) its.once
     (λ block bytes known. (among_are reach stored block bytes known).0)
     (λ block held. subst (λ (store : Store). CopiesLieOn IsInUse store.spaces filled block) (sym at) (all.filled_just.in_use block held))
     (subst (λ (store : Store). AreInBlocks store.spaces filled reach) (sym at) all.filled_just.accounted)
@@ -330,7 +335,7 @@ found_empty : (stored : Contents) (group : ℕ) (last : KeptGroup) (config : Con
 found_empty stored group last config is = record {
   spells = record {
     root = subst (λ (o : Option Block). SpellsRoot stored group o no_volumes) (sym is.root_is) refl;
-    directory = subst (λ (o : Option Block). SpellsBy stored group o no_volumes last.directory.value (config_view last.config.value)) (sym is.root_is) is.directory;
+    directory = subst (λ (o : Option Block). SpellsBy stored group o no_volumes last.directory.value (config_view last.config.value) last.spans_under.value) (sym is.root_is) (is.directory, is.table);
     names = is.names;
   };
   leads = subst (λ (o : Option Block). LeadsTo stored group o no_volumes []) (sym is.root_is) refl;

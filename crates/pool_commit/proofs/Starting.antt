@@ -75,7 +75,7 @@ kept_first kept vdevs c b e empty group = elim (cases_eq group 3) [
 no_volumes_first : (kept : Kept) → IsFirst kept → (stored : Contents) (birth : ℕ) → SpellsGroup stored birth kept.last no_volumes
 no_volumes_first kept is stored birth = record {
   root = subst (λ (root : Option Block). SpellsRoot stored birth root no_volumes) (sym is.root) refl;
-  directory = subst (λ (root : Option Block). SpellsBy stored birth root no_volumes kept.last.directory.value (config_view kept.last.config.value)) (sym is.root) is.directory;
+  directory = subst (λ (root : Option Block). SpellsBy stored birth root no_volumes kept.last.directory.value (config_view kept.last.config.value) kept.last.spans_under.value) (sym is.root) (is.directory, is.table);
   names = is.names;
 }
 

@@ -22,11 +22,13 @@ use Rattle.block_store.specs.Store.{Store, outs, outs_from, is_out}
 use Rattle.block_store.proofs.ReadingLost.{absent_earlier}
 use Rattle.block_store.proofs.ReadingSteps.{reads_on}
 use Rattle.meta_objset.specs.declared.directory.DirectoryRow.{DirectoryRow}
+use Rattle.meta_objset.specs.declared.stale_spans.StaleSpan.{StaleSpan}
 use Rattle.pool_model.specs.Pools.{Entry, PlainPool, volume_at}
 use Rattle.pool_model.specs.Refusals.{read_refusal}
 use Rattle.pool_model.specs.View.{View, Vdev, lost_in}
 use Rattle.dataset_snapshots.proofs.Losses.{losses_by_rows, losses_of_destroys, losses_of_first_groups, losses_of_groups}
 use Rattle.dataset_snapshots.proofs.ReadRefusals.{reads_need_no_room}
+use Rattle.dataset_snapshots.specs.Creating.{stale_after}
 use Rattle.dataset_snapshots.specs.Ranges.{IsRangeRefusedIn}
 use Rattle.volume_rules.specs.Parting.{destroyed_by, made_by}
 use Rattle.pool_commit.specs.declared.kept.KeptGroup.{KeptGroup}
@@ -38,7 +40,7 @@ use Rattle.pool_commit.specs.Causes.{of_store}
 use Rattle.pool_commit.specs.Config.{shown, vdevs_of}
 use Rattle.vdev_label.specs.Plain.{PlainVdev, config_view}
 use Rattle.pool_commit.specs.Reading.{IsFaultIn, IsLost, IsLostForPlan, IsLostUnder, IsReadCause, IsUnreadForPlan, IsUnreadOf, LosesOn, is_lost}
-use Rattle.pool_commit.specs.Room.{IsNextRefused}
+use Rattle.pool_commit.specs.Room.{IsGroupRefusedBehind, IsNextRefused}
 use Rattle.pool_commit.specs.State.{State, group_at}
 use Rattle.pool_commit.proofs.Planning.{same_vdevs}
 use Rattle.pool_commit.proofs.Refusing.{only_lost, read_faults}
@@ -175,10 +177,16 @@ lost_under v old new group kept name offset len missing refusal backs is_kept re
       (λ lost. losses_by_rows.ranges old.store new missing group is.root kept.directory.value name offset len is.cause is.unread (only_lost is.cause (sym is.answered ∙ lost))) fault;
 }
 
-next_lost : (old new : Store) (last : Option Block) (rows : List DirectoryRow) (vdevs : List PlainVdev) (group : ℕ) (items : Entry) (refusal : StoreRefusal)
-    → IsNextRefused old new last rows vdevs group items refusal → refusal ≡ store.DiskFault → IsBlockLost old new []
-next_lost old new (Some root) rows vdevs group items refusal why is = losses_of_groups losses_of_destroys old new root rows group (destroyed_by items) (made_by items) refusal why is
-next_lost old new None rows vdevs group items refusal why is = losses_of_first_groups old new group vdevs (made_by items) refusal why is
+next_lost : (old new : Store) (last : Option Block) (rows : List DirectoryRow) (vdevs : List PlainVdev) (group : ℕ) (spans : Option (List StaleSpan)) (items : Entry)
+    (refusal : StoreRefusal) → IsNextRefused old new last rows vdevs group spans items refusal → refusal ≡ store.DiskFault → IsBlockLost old new []
+next_lost old new (Some root) rows vdevs group spans items refusal why is = losses_of_groups losses_of_destroys old new root rows group spans (destroyed_by items) (made_by items) refusal why is
+next_lost old new None rows vdevs group spans items refusal why is = losses_of_first_groups old new group vdevs (stale_after spans []) (made_by items) refusal why is
+
+behind_lost : (old new : Store) (last : KeptGroup) (group : ℕ) (items : Entry) (refusal : StoreRefusal) → IsGroupRefusedBehind old new last group items refusal
+    → refusal ≡ store.DiskFault → IsBlockLost old new []
+behind_lost old new last group items refusal (inl memory) is = absurd (let no : store.NoMemory ≡ store.DiskFault = sym memory ∙ is in cc)
+behind_lost old new last group items refusal (inr it) is =
+    next_lost old new last.root last.directory.value (config_view last.config.value) group it.spans items refusal it.why is
 
 pub lost_for_plan : (v : View) (old new : State) (items : Entry) (refusal : Refusal) (is : IsUnreadForPlan old new items refusal)
     → Backs (record old { store = is.refused.begun; planned = None }) v → OnlyReads is.refused.begun.disks new.store.disks
@@ -186,6 +194,6 @@ pub lost_for_plan : (v : View) (old new : State) (items : Entry) (refusal : Refu
 lost_for_plan v old new items refusal is backs reads fault = record {
   unread = is;
   lost = lost_in_states v [] old new is.refused.begun refusal is.refused.is_begun.disks (record { vdevs = backs.vdevs; out = backs.out; reads = reads })
-      (λ lost. next_lost is.refused.begun new.store old.kept.last.root old.kept.last.directory.value (config_view old.kept.last.config.value) is.refused.group items is.cause is.refused.why
+      (λ lost. behind_lost is.refused.begun new.store old.kept.last is.refused.group items is.cause is.refused.why
       (only_lost is.cause (sym is.answered ∙ lost))) fault;
 }

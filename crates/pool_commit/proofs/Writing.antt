@@ -13,6 +13,7 @@ use Rattle.block_store.specs.Releases.{AreSettledInSome}
 use Rattle.pool_commit.proofs.Accounting.{for_before, settled_not_free}
 use Rattle.block_store.specs.Store.{Store, IsOutToo, is_out}
 use Rattle.pool_model.specs.declared.step.Phase.{Phase}
+use Rattle.pool_commit.specs.Spans.{HasSpansAfter}
 use Rattle.pool_commit.specs.declared.device.Progress.{Progress}
 use Rattle.pool_commit.specs.declared.device.Progress.TheVariants.{Moved, Done, Dropped}
 use Rattle.disk_set.specs.declared.behind.Behind.{Behind}
@@ -257,6 +258,7 @@ from_begun s begun group none out shapes some = record {
   shapes = shapes;
   filled = settled_not_free group s.store.spaces begun.spaces shapes some;
   flushes = λ plan is. absurd (let no : None ≡ Some plan = sym none ∙ is in cc);
+  spans = λ plan is. absurd (let no : None ≡ Some plan = sym none ∙ is in cc);
 }
 
 -- of the same with other marks of what is planned
@@ -269,18 +271,20 @@ from_then s mid new none before out shapes stays = record {
   shapes = shapes ∙ before.shapes;
   filled = λ at used. before.filled at (for_before IsNotFree mid.spaces new.spaces filled_marks filled_marks at shapes stays used);
   flushes = λ plan is. absurd (let no : None ≡ Some plan = sym none ∙ is in cc);
+  spans = λ plan is. absurd (let no : None ≡ Some plan = sym none ∙ is in cc);
 }
 
 -- of a plan that was made
 pub from_made : (s : State) (new : Store) (plan : Planned) → PlansFrom s (record s { store = new }) → plan.behind.flushes.items ≡ in_use_of s
-    → PlansFrom s (record s { store = new; planned = Some plan })
-from_made s new plan before flushes = record {
+    → HasSpansAfter s.kept.last s.store.out plan.uberblock.group plan.after → PlansFrom s (record s { store = new; planned = Some plan })
+from_made s new plan before flushes spans = record {
   kept = refl;
   stamp = refl;
   out = before.out;
   shapes = before.shapes;
   filled = before.filled;
   flushes = λ other is. of_plan (λ p. p.behind.flushes.items ≡ in_use_of s) plan other is flushes;
+  spans = λ other is. of_plan (λ p. HasSpansAfter s.kept.last s.store.out p.uberblock.group p.after) plan other is spans;
 }
 
 -- of none
@@ -292,4 +296,5 @@ from_none s none = record {
   shapes = refl;
   filled = λ at used. used;
   flushes = λ plan is. absurd (let no : None ≡ Some plan = sym none ∙ is in cc);
+  spans = λ plan is. absurd (let no : None ≡ Some plan = sym none ∙ is in cc);
 }

@@ -37,11 +37,11 @@ abbrev pub SpellsRoot : Contents → ℕ → Option Block → PlainPool → Type
 SpellsRoot stored group (Some root) pool = SpellsPool stored group root pool
 SpellsRoot stored group None pool = pool ≡ no_volumes
 
--- a group's root spells its pool, by the directory that is kept, and has its configuration, and its names are those of the pool
+-- a group's root spells its pool, by the directory and the table of stale spans that are kept, and has its configuration, and its names are those of the pool
 pub record SpellsGroup (stored : Contents) (group : ℕ) (kept : KeptGroup) (pool : PlainPool)
     : Type 0 where
   pub root : SpellsRoot stored group kept.root pool
-  pub directory : SpellsBy stored group kept.root pool kept.directory.value (config_view kept.config.value)
+  pub directory : SpellsBy stored group kept.root pool kept.directory.value (config_view kept.config.value) kept.spans_under.value
   pub names : Knows kept.names.value pool
 
 -- a kept group spells its pool; another isn't there

@@ -18,6 +18,7 @@ pub mod Reopened
 pub mod Causes
 pub mod Room
 pub mod Space
+pub mod Spans
 pub mod Suspension
 pub mod Writing
 pub use Rattle.dataset_snapshots.specs.Contents

@@ -39,11 +39,12 @@ group_at kept group =
     if group == kept.committed then Some kept.last
     else (if suc group == kept.committed then kept.before else (if suc (suc group) == kept.committed then kept.earliest else None))
 
--- group 3 is committed, with no volumes, no root and no rows, and none before it
+-- group 3 is committed, with no volumes, no root, no rows and no spans, and none before it
 pub record IsFirst (kept : Kept) : Type 0 where
   pub committed : kept.committed ≡ 3
   pub root : kept.last.root ≡ None
   pub directory : kept.last.directory.value ≡ []
+  pub table : kept.last.spans_under.value ≡ []
   pub names : Knows kept.last.names.value no_volumes
   pub before : kept.before ≡ None
   pub earliest : kept.earliest ≡ None

@@ -17,6 +17,7 @@ use Rattle.pool_commit.specs.Calls.{IsFlushed}
 use Rattle.pool_commit.specs.Progress.{IsShifted}
 use Rattle.pool_commit.specs.Slots.{place_of}
 use Rattle.pool_commit.specs.Space.{IsFor}
+use Rattle.pool_commit.specs.Spans.{HasSpansAfter}
 use Rattle.pool_commit.specs.State.{State}
 
 -- the plan, where there is one, has an uberblock with this timestamp
@@ -90,8 +91,8 @@ pub record WritesPlan (old new : State) : Type 0 where
 abbrev pub in_use_of : State → List ℕ
 in_use_of s = filter (λ disk. not (is_out s.store.out disk)) (disks_of (vdevs_of s.store.spaces))
 
--- A plan was made, or refused. What is committed stays as it was, no sector that was free is filled now, and each disk in use is to be
--- flushed before the plan's slots.
+-- A plan was made, or refused. What is committed stays as it was, no sector that was free is filled now, each disk in use is to be
+-- flushed before the plan's slots, and the table of the plan's root has a span of each disk that is out.
 pub record PlansFrom (old new : State) : Type 0 where
   pub kept : new.kept ≡ old.kept
   pub stamp : new.stamp ≡ old.stamp
@@ -99,3 +100,4 @@ pub record PlansFrom (old new : State) : Type 0 where
   pub shapes : shapes_of new.store.spaces ≡ shapes_of old.store.spaces
   pub filled : (at : SectorAt) → IsFor IsNotFree new.store.spaces filled_marks at → IsFor IsNotFree old.store.spaces filled_marks at
   pub flushes : (plan : Planned) → new.planned ≡ Some plan → plan.behind.flushes.items ≡ in_use_of old
+  pub spans : (plan : Planned) → new.planned ≡ Some plan → HasSpansAfter old.kept.last old.store.out plan.uberblock.group plan.after

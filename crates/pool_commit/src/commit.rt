@@ -26,7 +26,7 @@ use block_pointer::Block;
 use block_store::{BlockStore, VdevConfig, VdevShape};
 use dataset_snapshots::KeptDirectory;
 use disk_set::{Behind, SlotWrite};
-use meta_objset::Directory;
+use meta_objset::{Directory, StaleSpans};
 use model_disk::{Disk, DiskArray};
 use raidz_io::Vdev;
 use std::alloc::{AllocError, Global};
@@ -70,6 +70,13 @@ pub(crate) fn no_names(alloc: Global) -> Result<Arc<NameIndex, Global>, AllocErr
     ensures { IfOk result (λ names. Knows names.value no_volumes) }
 {
     Ok(Arc::new(alloc, NameIndex::new(alloc))?)
+}
+
+/// No spans: no disk lacks a block.
+pub(crate) fn no_spans(alloc: Global) -> Result<Arc<StaleSpans, Global>, AllocError>
+    ensures { IfOk result (λ spans. spans.value ≡ []) }
+{
+    Ok(Arc::new(alloc, StaleSpans::new(alloc))?)
 }
 
 /// A configuration that each group after it shares.
@@ -137,6 +144,8 @@ impl<D: Disk + Drop> Commit<D> {
             root: None,
             names: no_names(alloc)?,
             directory: no_directory(alloc)?,
+            spans_under: no_spans(alloc)?,
+            spans: no_spans(alloc)?,
             config: shared(alloc, config)?,
         };
         let suspended = lacks_disks(&store);

@@ -7,7 +7,7 @@ ghost use Rattle.pool_commit.specs.Configs.{FitsTable, FitsTable-prop};
 use block_pointer::Block;
 use dataset_snapshots::KeptDirectory;
 use disk_set::Behind;
-use meta_objset::Directory;
+use meta_objset::{Directory, StaleSpans};
 use std::alloc::Global;
 use std::mem;
 use std::sync::Arc;
@@ -15,14 +15,19 @@ use uberblock_ring::Uberblock;
 use vdev_label::Config;
 use volume_rules::NameIndex;
 
-/// A group: its root, through which all else of it is read, and in memory the names of its pool, the directory under the root, and the
-/// configuration. Groups share the names that make no volume, the directory whose rows are the same, and the configuration. A pool has no
-/// root before its first group is planned, and no volumes and no rows then; that group's root gets the configuration.
+/// A group: its root, through which all else of it is read, and in memory the names of its pool, the directory and the table of stale spans
+/// under the root, the spans that are known, and the configuration. Groups share the names that make no volume, the directory and the spans
+/// whose rows are the same, and the configuration. A pool has no root before its first group is planned, and no volumes and no rows then;
+/// that group's root gets the configuration.
 #[derive(Drop)]
 pub struct KeptGroup {
     pub(crate) root: Option<Block>,
     pub(crate) names: Arc<NameIndex, Global>,
     pub(crate) directory: Arc<KeptDirectory, Global>,
+    /// The table of stale spans under the root.
+    pub(crate) spans_under: Arc<StaleSpans, Global>,
+    /// The spans that are known: in the group that was opened those of disks that are back have an end.
+    pub(crate) spans: Arc<StaleSpans, Global>,
     pub(crate) config: Arc<Config, Global>,
     ghost table: { root ≡ None → FitsTable (config_view config.value) } by { Prim.hlevel FitsTable-prop },
 }
@@ -64,6 +69,13 @@ impl KeptGroup {
         ensures { result.now ≡ self.now.config.value }
     {
         self.config.as_ref()
+    }
+
+    /// The spans that are known.
+    pub(crate) fn spans(&self) -> &StaleSpans
+        ensures { result.now ≡ self.now.spans.value }
+    {
+        self.spans.as_ref()
     }
 
     /// The directory under its root.

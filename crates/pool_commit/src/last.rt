@@ -4,11 +4,27 @@ ghost use Rattle.pool_commit.specs.Last.{IsLastUberblock, LacksUberblock};
 ghost use Rattle.pool_slots.specs.Slots.{HaveLabels};
 
 use crate::commit::Commit;
+use block_store::BlockStore;
+use meta_objset::StaleSpans;
 use model_disk::Disk;
 use std::alloc::{AllocError, Global};
 use uberblock_ring::Uberblock;
 use vdev_label::Config;
 use words::LAST_COUNT;
+
+/// Of each disk of a store, whether it is out.
+pub(crate) fn marks_of<D: Disk + Drop>(
+    store: &BlockStore<D>,
+    alloc: Global,
+) -> Result<Vec<bool>, AllocError>
+    ensures { IfOk result (λ marks. marks.items ≡ store.now.out) }
+{
+    let mut marks = Vec::with_capacity(alloc, store.disk_count())?;
+    for disk in 0..store.disk_count() {
+        marks.push(store.is_out(disk))?;
+    }
+    Ok(marks)
+}
 
 impl<D: Disk + Drop> Commit<D> {
     ghost use Rattle.pool_commit.specs.StateOf.{state_of, disks_in};
@@ -52,11 +68,14 @@ impl<D: Disk + Drop> Commit<D> {
     pub fn marks(&self, alloc: Global) -> Result<Vec<bool>, AllocError>
         ensures marks { IfOk result (λ marks. marks.items ≡ (state_of self.now).store.out) }
     {
-        let mut marks = Vec::with_capacity(alloc, self.store.disk_count())?;
-        for disk in 0..self.store.disk_count() {
-            marks.push(self.store.is_out(disk))?;
-        }
-        Ok(marks)
+        marks_of(&self.store, alloc)
+    }
+
+    /// The stale spans that are known.
+    pub fn stale_spans(&self) -> &StaleSpans
+        ensures { result.now ≡ (state_of self.now).kept.last.spans.value }
+    {
+        self.kept.last().spans()
     }
 
     /// A law: there is a mark for each disk, and each disk has room for four labels.

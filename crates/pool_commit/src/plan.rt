@@ -1,5 +1,5 @@
 //! The plan of a group.
-ghost use Rattle.std.specs.Prelude.{◌≡◌, ◌⊎◌, ◌↔◌, ◌<◌, ◌-◌, ◌^◌, suc, List, [], Some, None, Err, false, IsTrue, OnOk, OnErr, IfOk, IfErr};
+ghost use Rattle.std.specs.Prelude.{◌≡◌, ◌⊎◌, ◌↔◌, ◌<◌, ◌-◌, ◌^◌, suc, length, List, [], Some, None, Err, false, IsTrue, OnOk, OnErr, IfOk, IfErr, IfSome};
 ghost use Rattle.block_pointer.specs.Block.{FitsBlock};
 ghost use Rattle.block_pointer.specs.declared.block.Block.{Block};
 ghost use Rattle.block_store.specs.Blocks.{Contents, Extends, AreDistinct, AreStored};
@@ -28,19 +28,25 @@ ghost use Rattle.pool_commit.specs.Backs.{Backs, BeginsWithMaps, LeadsTo, Leaves
 ghost use Rattle.pool_commit.specs.Directories.{SpellsBy};
 ghost use Rattle.pool_commit.specs.Reading.{PoolAnswersTruly, IsReadFault};
 ghost use Rattle.pool_commit.specs.Reading.{IsUnreadForPlan, IsLostForPlan};
-ghost use Rattle.pool_commit.specs.Room.{LacksRoom, IsNextRefused};
+ghost use Rattle.dataset_snapshots.specs.Creating.{stale_after};
+ghost use Rattle.stale_disks.specs.Rules.{AreSpansAfter, guids_in};
+ghost use Rattle.pool_commit.specs.Room.{LacksRoom, IsGroupRefusedBehind, IsNextRefused};
 ghost use Rattle.pool_commit.specs.Space.{GivesBack};
+ghost use Rattle.pool_commit.specs.Spans.{HasSpansAfter};
 ghost use Rattle.pool_commit.specs.State.{HasNoPlan};
 ghost use Rattle.pool_commit.specs.StateOf.{state_of, disks_in, outs_in};
 ghost use Rattle.pool_commit.specs.Writing.{IsTimed, PlansFrom};
 
 use crate::commit::Commit;
 use crate::kept::{KeptGroup, Planned};
+use crate::last::marks_of;
 use crate::refusal::Refusal;
 use block_pointer::Block as RootBlock;
 use block_store::BlockStore;
-use dataset_snapshots::{FirstRoot, KeptDirectory, after_group, first_group};
+use dataset_snapshots::{FirstRoot, KeptDirectory, NextGroup, after_group, first_group};
+use meta_objset::StaleSpans;
 use model_disk::Disk;
+use stale_disks::{disk_guids, spans_after};
 use std::alloc::{AllocError, Global};
 use std::sync::Arc;
 use txg_pipeline::Pending;
@@ -48,42 +54,46 @@ use vdev_label::{Config, small_configs_fit};
 use volume_rules::{NameIndex, PartedActions, makes_good_volumes, part};
 use words::LAST_COUNT;
 
+/// So many spans are too many for a table.
+const MOST_SPANS: usize = 1 << 40;
+
 /// Plans the first root of a pool of this configuration, of which nothing is in use so far, and of which nothing can be destroyed.
 fn first_root<D: Disk + Drop>(
     store: &mut BlockStore<D>,
     alloc: Global,
     config: &Config,
-    group: u64,
+    next: &NextGroup,
     parted: &PartedActions,
     items: &Pending,
 ) -> Result<FirstRoot, block_store::Refusal>
     requires fits { FitsTable (config_view config.now) }
-    requires born { 0 < group }
+    requires born { 0 < next.now.number }
+    requires few { IfSome next.now.spans (λ spans. length spans < 2 ^ 40) }
     ensures steps { OnlyReadsAndPlans store.old store.new [] }
-    ensures root { IfOk result (λ first. IsRoot group first.root × FitsBlock first.root) }
-    ensures value { IfOk result (λ first. (stored planned : Contents)
+    ensures root { IfOk result (λ first.
+        IsRoot next.now.number first.root × FitsBlock first.root) }
+    ensures value { let group = next.now.number in
+        let pool = applied group no_volumes (with_made items.now parted.now) in
+        IfOk result (λ first. (stored planned : Contents)
         → Plans store.old stored planned → UseNothing store.old.spaces filled
         → AnswersAreTrue store.old store.new
         → (later : Contents) × Plans store.new stored later × Extends planned later
-        × SpellsRoot later group (Some first.root)
-        (applied group no_volumes (with_made items.now parted.now))
-        × (reach : List Block) × LeadsTo later group (Some first.root)
-        (applied group no_volumes (with_made items.now parted.now)) reach
+        × SpellsRoot later group (Some first.root) pool
+        × (reach : List Block) × LeadsTo later group (Some first.root) pool reach
         × IsReachExchanged group planned later [] reach []
-        × SpellsBy later group (Some first.root)
-        (applied group no_volumes (with_made items.now parted.now)) first.directory
-        (config_view config.now)
-        × LeavesMaps store.new.spaces [] later group first.root
-        (applied group no_volumes (with_made items.now parted.now))) }
+        × SpellsBy later group (Some first.root) pool first.directory
+        (config_view config.now) (stale_after next.now.spans [])
+        × LeavesMaps store.new.spaces [] later group first.root pool) }
     ensures known { IfErr result (λ refusal. (stored planned : Contents)
         → Plans store.old stored planned → UseNothing store.old.spaces filled
         → AnswersAreTrue store.old store.new → AreGoodChanges parted.now.made
         → IsForRoom refusal ⊎ (refusal ≡ lost_blocks.DiskFault)) }
-    ensures refused { IfErr result (IsFirstRefused store.old store.new group
-        (config_view config.now) (with_made items.now parted.now)) }
+    ensures refused { IfErr result (IsFirstRefused store.old store.new next.now.number
+        (config_view config.now) (stale_after next.now.spans [])
+        (with_made items.now parted.now)) }
 {
     small_configs_fit();
-    first_group(store, alloc, config, group, parted, items)
+    first_group(store, alloc, config, next, parted, items)
 }
 
 /// A root that is planned, the directory under it, and the blocks that the one before led to and this one doesn't.
@@ -100,35 +110,39 @@ fn root_after<D: Disk + Drop>(
     last: &KeptGroup,
     store: &mut BlockStore<D>,
     alloc: Global,
-    group: u64,
+    next: &NextGroup,
     items: &Pending,
 ) -> Result<PlannedRoot, block_store::Refusal>
-    requires born { 0 < group }
+    requires born { 0 < next.now.number }
+    requires few { IfSome next.now.spans (λ spans. length spans < 2 ^ 40) }
     ensures steps { OnlyReadsAndPlans store.old store.new [] }
-    ensures root { IfOk result (λ next. IsRoot group next.root × FitsBlock next.root) }
-    ensures value { IfOk result (λ next. (stored planned : Contents) (pool : PlainPool)
+    ensures root { IfOk result (λ made. IsRoot next.now.number made.root × FitsBlock made.root) }
+    ensures value { let group = next.now.number in
+        IfOk result (λ made. (stored planned : Contents) (pool : PlainPool)
         (before : List Block)
         → Plans store.old stored planned → SpellsGroup stored (group - 1) last.now pool
         → LeadsTo stored (group - 1) last.now.root pool before
         → BeginsWithMaps store.old.spaces stored (group - 1) last.now.root pool
         → AnswersAreTrue store.old store.new → GroupTakesEffect group pool items.now
         → (later : Contents) × Plans store.new stored later × Extends planned later
-        × SpellsRoot later group (Some next.root) (applied group pool items.now)
-        × (reach : List Block) × LeadsTo later group (Some next.root)
+        × SpellsRoot later group (Some made.root) (applied group pool items.now)
+        × (reach : List Block) × LeadsTo later group (Some made.root)
         (applied group pool items.now) reach
-        × IsReachExchanged group planned later before reach next.replaced.items
-        × SpellsBy later group (Some next.root) (applied group pool items.now)
-        next.directory (config_view last.now.config.value)
-        × LeavesMaps store.new.spaces next.replaced.items later group next.root
+        × IsReachExchanged group planned later before reach made.replaced.items
+        × SpellsBy later group (Some made.root) (applied group pool items.now)
+        made.directory (config_view last.now.config.value)
+        (stale_after next.now.spans last.now.spans_under.value)
+        × LeavesMaps store.new.spaces made.replaced.items later group made.root
         (applied group pool items.now)) }
-    ensures known { IfErr result (λ refusal. (stored planned : Contents) (pool : PlainPool)
+    ensures known { let group = next.now.number in
+        IfErr result (λ refusal. (stored planned : Contents) (pool : PlainPool)
         → Plans store.old stored planned → SpellsGroup stored (group - 1) last.now pool
         → BeginsWithMaps store.old.spaces stored (group - 1) last.now.root pool
         → AnswersAreTrue store.old store.new → MakesGoodVolumes items.now
         → GroupTakesEffect group pool items.now
         → IsForRoom refusal ⊎ (refusal ≡ lost_blocks.DiskFault)) }
     ensures refused { IfErr result (IsNextRefused store.old store.new last.now.root
-        last.now.directory.value (config_view last.now.config.value) group items.now) }
+        last.now.directory.value (config_view last.now.config.value) next.now.number next.now.spans items.now) }
 {
     let parted = part(alloc, items.actions())?;
     match &last.root {
@@ -137,7 +151,7 @@ fn root_after<D: Disk + Drop>(
                 root,
                 store,
                 alloc,
-                group,
+                next,
                 last.kept_directory(),
                 &parted,
                 items,
@@ -149,7 +163,7 @@ fn root_after<D: Disk + Drop>(
             })
         }
         None => {
-            let first = first_root(store, alloc, last.config(), group, &parted, items)?;
+            let first = first_root(store, alloc, last.config(), next, &parted, items)?;
             Ok(PlannedRoot {
                 root: first.root,
                 directory: first.directory,
@@ -190,9 +204,47 @@ fn directory_after(
     Ok(Arc::new(alloc, directory)?)
 }
 
+/// The table of stale spans of the group behind the last one, where it is another one than that of the last.
+fn changed_spans<D: Disk + Drop>(
+    last: &KeptGroup,
+    store: &BlockStore<D>,
+    alloc: Global,
+    group: u64,
+) -> Result<Option<StaleSpans>, AllocError>
+    ensures after { IfOk result (λ changed. AreSpansAfter
+        (guids_in (config_view last.now.config.value)) store.now.out group last.now.spans.value
+        (stale_after changed last.now.spans_under.value)) }
+    ensures few { IfOk result (λ changed. IfSome changed (λ spans. length spans < 2 ^ 40)) }
+{
+    let guids = disk_guids(alloc, last.config())?;
+    let marks = marks_of(store, alloc)?;
+    let spans = spans_after(alloc, last.spans(), &guids, &marks, group)?;
+    if spans.rows() == last.spans_under.as_ref().rows() {
+        return Ok(None);
+    }
+    if spans.rows().len() >= MOST_SPANS {
+        return Err(AllocError);
+    }
+    Ok(Some(spans))
+}
+
+/// A table of stale spans to be kept. Where it isn't another one than the one before, that one is shared.
+fn spans_after_group(
+    last: &Arc<StaleSpans, Global>,
+    alloc: Global,
+    changed: Option<StaleSpans>,
+) -> Result<Arc<StaleSpans, Global>, AllocError>
+    ensures { IfOk result (λ after. after.value ≡ stale_after changed last.now.value) }
+{
+    match changed {
+        Some(spans) => Ok(Arc::new(alloc, spans)?),
+        None => Arc::try_clone(last),
+    }
+}
+
 /// The next group, its root, and the blocks that the root no longer leads to.
 #[derive(Drop)]
-struct NextGroup {
+struct GroupAfter {
     after: KeptGroup,
     root: RootBlock,
     replaced: Vec<RootBlock>,
@@ -206,12 +258,14 @@ fn group_after<D: Disk + Drop>(
     alloc: Global,
     group: u64,
     items: &Pending,
-) -> Result<NextGroup, block_store::Refusal>
+) -> Result<GroupAfter, block_store::Refusal>
     requires born { 0 < group }
     ensures steps { OnlyReadsAndPlans store.old store.new [] }
     ensures root { IfOk result (λ next. IsRoot group next.root × FitsBlock next.root) }
     ensures is_root { IfOk result (λ next. next.after.root ≡ Some next.root) }
     ensures config { IfOk result (λ next. next.after.config.value ≡ last.now.config.value) }
+    ensures spans { IfOk result (λ next.
+        HasSpansAfter last.now store.old.out group next.after) }
     ensures value { IfOk result (λ next. (stored planned : Contents) (pool : PlainPool)
         (before : List Block)
         → Plans store.old stored planned → SpellsGroup stored (group - 1) last.now pool
@@ -231,23 +285,31 @@ fn group_after<D: Disk + Drop>(
         → AnswersAreTrue store.old store.new → MakesGoodVolumes items.now
         → GroupTakesEffect group pool items.now
         → IsForRoom refusal ⊎ (refusal ≡ lost_blocks.DiskFault)) }
-    ensures refused { IfErr result (IsNextRefused store.old store.new last.now.root
-        last.now.directory.value (config_view last.now.config.value) group items.now) }
+    ensures refused { IfErr result
+        (IsGroupRefusedBehind store.old store.new last.now group items.now) }
 {
     let config = Arc::try_clone(&last.config)?;
     let names = names_after(&last.names, alloc, group, items)?;
-    let next = root_after(last, store, alloc, group, items)?;
-    let directory = directory_after(&last.directory, alloc, next.directory)?;
+    let spans = changed_spans(last, store, alloc, group)?;
+    let next = NextGroup {
+        number: group,
+        spans,
+    };
+    let made = root_after(last, store, alloc, &next, items)?;
+    let directory = directory_after(&last.directory, alloc, made.directory)?;
+    let spans_under = spans_after_group(&last.spans_under, alloc, next.spans)?;
     let after = KeptGroup {
-        root: Some(next.root),
+        root: Some(made.root),
         names,
         directory,
+        spans: Arc::try_clone(&spans_under)?,
+        spans_under,
         config,
     };
-    Ok(NextGroup {
+    Ok(GroupAfter {
         after,
-        root: next.root,
-        replaced: next.replaced,
+        root: made.root,
+        replaced: made.replaced,
     })
 }
 

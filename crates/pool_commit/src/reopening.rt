@@ -12,37 +12,56 @@ ghost use Rattle.pool_commit.specs.Config.{vdevs_of};
 ghost use Rattle.pool_commit.specs.Reopened.{AreMisplaced, IsConfiguredUnder, IsEmptyGroup, IsGroupOf, IsOfGroup};
 ghost use Rattle.pool_commit.specs.Configs.{FitsTable};
 ghost use Rattle.pool_commit.specs.Slots.{IsStampOf, LabelsLieAside};
+ghost use Rattle.pool_commit.specs.Spans.{HasSpansOpened};
 ghost use Rattle.vdev_label.specs.Plain.{config_view};
 
-use crate::commit::{Commit, no_directory, no_names};
+use crate::commit::{Commit, no_directory, no_names, no_spans};
 use crate::kept::{Kept, KeptGroup};
+use crate::last::marks_of;
 use crate::refusal::Refusal;
 use crate::stamp::Stamp;
 use crate::suspension::lacks_disks;
 use block_pointer::Block;
 use block_store::{BlockStore, found_in_use_are_stored};
 use dataset_snapshots::{KeptDirectory, RootContents, load_maps};
+use meta_objset::StaleSpans;
 use model_disk::{Disk, DiskArray};
+use stale_disks::{disk_guids, spans_opened};
 use std::alloc::{AllocError, Global};
 use std::sync::Arc;
 use vdev_label::Config;
 use volume_rules::NameIndex;
 
-/// A group with this root, of whose pool these are the directory, the names and the configuration.
+/// What is kept of a group's tables: the directory, the spans of its table, and the configuration.
+#[derive(Drop)]
+struct Tables {
+    directory: KeptDirectory,
+    spans: StaleSpans,
+    config: Arc<Config, Global>,
+}
+
+/// The group with this root, of whose pool these are the tables and the names, as it is opened with these disks out.
 fn group_of(
     alloc: Global,
     root: Block,
-    directory: KeptDirectory,
+    group: u64,
+    tables: Tables,
     names: NameIndex,
-    config: Arc<Config, Global>,
+    out: &[bool],
 ) -> Result<KeptGroup, AllocError>
-    ensures { IfOk result (IsGroupOf root directory names config.value) }
+    ensures is { IfOk result (IsGroupOf root tables.directory names tables.config.value) }
+    ensures table { IfOk result (λ kept. kept.spans_under.value ≡ tables.spans) }
+    ensures spans { IfOk result (HasSpansOpened out.now group) }
 {
+    let guids = disk_guids(alloc, tables.config.as_ref())?;
+    let spans = spans_opened(alloc, &tables.spans, &guids, out, group)?;
     Ok(KeptGroup {
         root: Some(root),
         names: Arc::new(alloc, names)?,
-        directory: Arc::new(alloc, directory)?,
-        config,
+        directory: Arc::new(alloc, tables.directory)?,
+        spans_under: Arc::new(alloc, tables.spans)?,
+        spans: Arc::new(alloc, spans)?,
+        config: tables.config,
     })
 }
 
@@ -55,6 +74,8 @@ fn empty_group(alloc: Global, config: Arc<Config, Global>) -> Result<KeptGroup, 
         root: None,
         names: no_names(alloc)?,
         directory: no_directory(alloc)?,
+        spans_under: no_spans(alloc)?,
+        spans: no_spans(alloc)?,
         config,
     })
 }
@@ -136,6 +157,12 @@ impl<D: Disk + Drop> Commit<D> {
         ensures shapes { IfOk result (λ commit.
             shapes_of (state_of commit).store.spaces ≡ shapes_of store.spaces) }
 
+        // The table of stale spans is what was read, and what is known are its spans.
+        ensures table { IfOk result (λ commit.
+            (state_of commit).kept.last.spans_under.value ≡ contents.spans) }
+        ensures spans { IfOk result (λ commit.
+            HasSpansOpened store.out group (state_of commit).kept.last) }
+
         // Where the store's disks have the blocks, the root spells a pool, has its space maps and a configuration, and the stamp names that
         // and this one, that pool is committed as the group.
         ensures backs { IfOk result (λ commit. (stored : Contents) (pool : PlainPool)
@@ -155,7 +182,7 @@ impl<D: Disk + Drop> Commit<D> {
             names,
             blocks,
             maps,
-            ..
+            spans,
         } = contents;
         let mut store = store;
         if !load_maps(&mut store, maps) {
@@ -165,7 +192,15 @@ impl<D: Disk + Drop> Commit<D> {
             Ok(()) => {}
             Err(refusal) => return Err((Refusal::from(refusal), store.into_array())),
         }
-        match group_of(alloc, root, directory, names, config) {
+        let tables = Tables {
+            directory,
+            spans,
+            config,
+        };
+        let Ok(marks) = marks_of(&store, alloc) else {
+            return Err((Refusal::NoMemory, store.into_array()));
+        };
+        match group_of(alloc, root, group, tables, names, &marks) {
             Ok(last) => Ok(Commit::of_group(store, stamp, group, last)),
             Err(_) => Err((Refusal::NoMemory, store.into_array())),
         }

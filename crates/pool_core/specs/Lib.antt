@@ -25,6 +25,7 @@ pub use Rattle.pool_commit.specs.Progress
 pub use Rattle.pool_commit.specs.Reopened
 pub use Rattle.pool_commit.specs.Slots
 pub use Rattle.pool_commit.specs.Space
+pub use Rattle.pool_commit.specs.Spans
 pub use Rattle.pool_commit.specs.Started
 pub use Rattle.pool_commit.specs.State as CommitState
 pub use Rattle.pool_commit.specs.Writing as CommitWriting

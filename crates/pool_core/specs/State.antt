@@ -1,5 +1,7 @@
 -- What a pool's core shows.
+use Rattle.std.specs.Prelude.{List}
 use Rattle.model_disk.specs.Joint.{Disks}
+use Rattle.meta_objset.specs.declared.stale_spans.StaleSpan.{StaleSpan}
 use Rattle.pool_commit.specs.State.{State}
 use Rattle.pool_intake.specs.declared.intake.Intake.{Intake}
 use Rattle.vdev_label.specs.declared.label.Config.{Config}
@@ -14,3 +16,7 @@ disks_of s = s.commit.store.disks
 -- the configuration that it keeps
 abbrev pub config_of : CoreState → Config
 config_of s = s.commit.kept.last.config.value
+
+-- the stale spans that it knows
+abbrev pub spans_of : CoreState → List StaleSpan
+spans_of s = s.commit.kept.last.spans.value

@@ -2,11 +2,12 @@
 ghost use Rattle.std.specs.Prelude.{◌≡◌, length, None, IfOk, IfSome};
 ghost use Rattle.pool_commit.specs.Last.{IsLastUberblock, LacksUberblock};
 ghost use Rattle.pool_core.specs.Exporting.{IsAgainstExport, IsExportable};
-ghost use Rattle.pool_core.specs.State.{config_of};
+ghost use Rattle.pool_core.specs.State.{config_of, spans_of};
 ghost use Rattle.pool_core.specs.StateOf.{disks_in, state_of};
 ghost use Rattle.pool_slots.specs.Slots.{HaveLabels};
 
 use crate::pool::Core;
+use meta_objset::StaleSpans;
 use model_disk::Disk;
 use pool_model::Refusal;
 use std::alloc::{AllocError, Global};
@@ -43,6 +44,14 @@ impl<D: Disk + Drop> Core<D> {
         ensures { result.now ≡ config_of (state_of self.now) }
     {
         self.commit.config()
+    }
+
+    /// Of which groups disks lack blocks, as far as it is known: of a disk that was away, and is in use again, those between; of one that was
+    /// out as the last group was planned all from the first one on.
+    pub fn stale_spans(&self) -> &StaleSpans
+        ensures { result.now ≡ spans_of (state_of self.now) }
+    {
+        self.commit.stale_spans()
     }
 
     /// Of each disk, whether it is out.

@@ -9,6 +9,7 @@ ghost use Rattle.pool_commit.specs.Config.{vdevs_of};
 ghost use Rattle.pool_commit.specs.Configs.{FitsTable};
 ghost use Rattle.pool_commit.specs.Reopened.{AreContentsOf, AreMisplaced, IsConfiguredUnder};
 ghost use Rattle.pool_commit.specs.Slots.{IsStampOf, LabelsLieAside};
+ghost use Rattle.pool_commit.specs.Spans.{HasSpansOpened};
 ghost use Rattle.pool_model.specs.Pools.{PlainPool, no_volumes};
 ghost use Rattle.pool_model.specs.Refusals.{greatest};
 ghost use Rattle.pool_model.specs.View.{opened_as};
@@ -88,6 +89,8 @@ impl<D: Disk + Drop> Core<D> {
         ensures stamp { IfOk result (λ core. (state_of core).commit.stamp ≡ stamp) }
         ensures root { IfOk result (λ core. (state_of core).commit.kept.last.root ≡ Some root) }
         ensures config { IfOk result (λ core. config_of (state_of core) ≡ config.value) }
+        ensures spans { IfOk result (λ core.
+            HasSpansOpened store.out group (state_of core).commit.kept.last) }
         ensures out { IfOk result (λ core. (state_of core).commit.store.out ≡ store.out) }
         ensures shapes { IfOk result (λ core.
             shapes_of (state_of core).commit.store.spaces ≡ shapes_of store.spaces) }

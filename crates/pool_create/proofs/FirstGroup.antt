@@ -10,7 +10,7 @@ use Rattle.block_store.specs.Spaces.{VdevSpace}
 use Rattle.block_store.specs.Store.{is_out}
 use Rattle.block_store.specs.declared.shape.VdevShape.{VdevShape}
 use Rattle.model_disk.specs.Joint.{Disks}
-use Rattle.pool_open.specs.Opening.{SpellsWithMaps}
+use Rattle.pool_open.specs.Mapped.{SpellsWithMaps}
 use Rattle.pool_open.proofs.CommitMapping.{its_maps_over}
 use Rattle.pool_open.specs.Backs.{HasMaps, KeptHasMaps, SpellsKept, kept_pool}
 use Rattle.pool_open.specs.Calls.{GrewTo}
@@ -109,9 +109,9 @@ configured_if : (stored : Contents) (group : ℕ) (last : KeptGroup) (kept : Boo
     → SpellsKept stored group (Some last) (if kept then Some pool else None) → last.root ≡ Some b → pool ≡ no_volumes
     → IsStampOf (config_view last.config.value) stamp.claim stamp → IsConfiguredUnder stamp stored group b no_volumes
 configured_if stored group last true pool b stamp it is none stamped =
-    let by : SpellsBy stored group (Some b) no_volumes last.directory.value (config_view last.config.value) =
-    subst (λ (p : PlainPool). SpellsBy stored group (Some b) p last.directory.value (config_view last.config.value)) none
-    (subst (λ (r : Option Block). SpellsBy stored group r pool last.directory.value (config_view last.config.value)) is it.directory) in
+    let by : SpellsBy stored group (Some b) no_volumes last.directory.value (config_view last.config.value) last.spans_under.value =
+    subst (λ (p : PlainPool). SpellsBy stored group (Some b) p last.directory.value (config_view last.config.value) last.spans_under.value) none
+    (subst (λ (r : Option Block). SpellsBy stored group r pool last.directory.value (config_view last.config.value) last.spans_under.value) is it.directory) in
     let (its, has, alike) = by.2 in
     (by.0, its, has, record { claim_is = refl; guids = stamped.guids ∙ sym alike.guids; digest = stamped.digest ∙ sym alike.digest })
 configured_if stored group last false pool b stamp it is none stamped = absurd it

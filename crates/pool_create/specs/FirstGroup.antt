@@ -6,7 +6,7 @@ use Rattle.block_store.specs.Blocks.{Contents}
 use Rattle.block_store.specs.Places.{shapes_of}
 use Rattle.block_store.specs.Store.{is_out}
 use Rattle.model_disk.specs.Joint.{Disks}
-use Rattle.pool_open.specs.Opening.{SpellsWithMaps}
+use Rattle.pool_open.specs.Mapped.{SpellsWithMaps}
 use Rattle.pool_open.specs.Calls.{GrewTo}
 use Rattle.pool_open.specs.Reopened.{IsConfiguredUnder}
 use Rattle.pool_open.specs.CommitState.{NoneIsOut}

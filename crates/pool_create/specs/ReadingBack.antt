@@ -14,7 +14,8 @@ use Rattle.pool_model.specs.Pools.{no_volumes}
 use Rattle.pool_model.specs.View.{opened_as}
 use Rattle.pool_open.specs.Causes.{of_root, of_slots}
 use Rattle.pool_open.specs.Held.{HoldOver}
-use Rattle.pool_open.specs.Opening.{AreMisplacedOver, RootContents, SpellsWithMaps}
+use Rattle.pool_open.specs.Mapped.{SpellsWithMaps}
+use Rattle.pool_open.specs.Opening.{AreMisplacedOver, RootContents}
 use Rattle.pool_open.specs.Roots.{IsReadOfRoot, RootRefuses}
 use Rattle.pool_open.specs.Words.{stamp_of, vdevs_in}
 use Rattle.pool_open.specs.declared.refusal.Refusal.{Refusal}

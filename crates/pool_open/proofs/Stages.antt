@@ -7,6 +7,7 @@ use Rattle.block_store.specs.Opened.{MayBeOpened}
 use Rattle.block_store.specs.Places.{shapes_of}
 use Rattle.block_store.specs.Store.{Store, is_out}
 use Rattle.block_store.specs.declared.shape.VdevShape.{VdevShape}
+use Rattle.pool_core.specs.Spans.{HasSpansOpened}
 use Rattle.pool_core.specs.RootContents.{RootContents}
 use Rattle.pool_core.specs.Reopened.{LabelsOfOpenedLie}
 use Rattle.pool_core.specs.Slots.{LabelsLieAside}
@@ -202,6 +203,7 @@ pub record IsMadeCore (later : List Bool) (new : Disks) (shapes : List VdevShape
   pub root : core.commit.kept.last.root ≡ Some u.root
   pub outs : core.commit.store.out ≡ later
   pub vdevs : shapes_of core.commit.store.spaces ≡ shapes
+  pub spans : HasSpansOpened later u.group core.commit.kept.last
   pub represents : CoreRepresents new shapes later u contents core
 
 pub opened_over : WritesElsewhereKeep → (out later : List Bool) (rewind : ℕ) (old surveyed read new : Disks) (shapes : List VdevShape) (s : Surveyed) (contents : RootContents) (core : CoreState)
@@ -231,6 +233,7 @@ opened_over keep out later rewind old surveyed read new shapes s contents core f
       may = may;
       outs = made.outs;
       vdevs = made.vdevs;
+      spans = made.spans;
       represents = represents;
       possible = opens_possible (IsClaimWrite read.starts later s.claimed) old read new shapes later rewind s core few are.whole.found_on is begun.makes.makes made.disks represents;
     }

@@ -7,7 +7,8 @@ use Rattle.block_store.specs.Opened.{MayBeOpened}
 use Rattle.block_store.specs.Places.{AreEmpty, shapes_of}
 use Rattle.block_store.specs.Store.{Store, is_out}
 use Rattle.block_store.specs.declared.shape.VdevShape.{VdevShape}
-pub use Rattle.pool_core.specs.Mapped.{SpellsWithMaps}
+pub use Rattle.pool_core.specs.Spans.{HasSpansOpened}
+use Rattle.pool_core.specs.Mapped.{SpellsWithMaps}
 pub use Rattle.pool_core.specs.RootContents.{RootContents}
 use Rattle.pool_core.specs.Reopened.{AreMisplaced}
 use Rattle.pool_core.specs.Represents.{Represents}
@@ -84,6 +85,8 @@ pub record IsOpenedOver (old : Disks) (shapes : List VdevShape) (out : List Bool
   pub may : MayBeOpened old.starts shapes out
   pub outs : core.commit.store.out ≡ later
   pub vdevs : shapes_of core.commit.store.spaces ≡ shapes
+  -- and the spans of the group's table, which end with the group for disks that are back
+  pub spans : HasSpansOpened later claimed.group core.commit.kept.last
   pub represents : RepresentsRoot old shapes later claimed core
   pub possible : OpensPossible old shapes later rewind claimed core
 

@@ -7,6 +7,7 @@ ghost use Rattle.block_store.specs.Store.{is_out};
 ghost use Rattle.pool_core.specs.Mapped.{SpellsWithMaps};
 ghost use Rattle.pool_core.specs.Represents.{Represents};
 ghost use Rattle.pool_core.specs.State.{config_of};
+ghost use Rattle.pool_core.specs.Spans.{HasSpansOpened};
 ghost use Rattle.pool_core.specs.StateOf.{disks_in, state_of};
 ghost use Rattle.pool_model.specs.Pools.{PlainPool};
 ghost use Rattle.pool_model.specs.declared.refusal.Refusal.TheVariants as Causes;
@@ -131,6 +132,8 @@ pub fn core_over<D: Disk + Drop>(
     ensures shapes { IfOk result (λ core.
         shapes_of (state_of core).commit.store.spaces ≡ shapes.now) }
     ensures config { IfOk result (λ core. config_of (state_of core) ≡ config.value) }
+    ensures spans { IfOk result (λ core.
+        HasSpansOpened out.now claimed.now.group (state_of core).commit.kept.last) }
     ensures represents { IfOk result (λ core. (stored : Contents) (pool : PlainPool)
         → HoldOver disks shapes.now out.now stored
         → AreContentsOver shapes.now stored claimed.now.group claimed.now.root pool contents

@@ -100,8 +100,8 @@ kept_with_maps spaces stored group root found kept pool false is root_is spells 
 configured_after : (stored : Contents) (group : ℕ) (kept : KeptGroup) (root : Block) (pool : PlainPool) (stamp : Stamp) → kept.root ≡ Some root → SpellsGroup stored group kept pool
     → IsStampOf (config_view kept.config.value) stamp.claim stamp → IsConfiguredUnder stamp stored group root pool
 configured_after stored group kept root pool stamp is spells stamped =
-    let by : SpellsBy stored group (Some root) pool kept.directory.value (config_view kept.config.value) =
-    subst (λ (o : Option Block). SpellsBy stored group o pool kept.directory.value (config_view kept.config.value)) is spells.directory in
+    let by : SpellsBy stored group (Some root) pool kept.directory.value (config_view kept.config.value) kept.spans_under.value =
+    subst (λ (o : Option Block). SpellsBy stored group o pool kept.directory.value (config_view kept.config.value) kept.spans_under.value) is spells.directory in
     let (its, has, alike) = by.2 in
     (by.0, its, has, record { claim_is = refl; guids = stamped.guids ∙ sym alike.guids; digest = stamped.digest ∙ sym alike.digest })
 

@@ -2,7 +2,7 @@
 use crate::stores::{Store, new_store, opened_again, store_plan};
 use crate::walked::{sectors_if_right, sectors_of};
 use block_store::Refusal;
-use dataset_snapshots::{FirstRoot, after_group, first_group};
+use dataset_snapshots::{FirstRoot, NextGroup, after_group, first_group};
 use pool_model::{Action, Bytes, Change, Item, Name, Write};
 use std::alloc::{AllocError, Global};
 use std::process::Abort;
@@ -240,7 +240,11 @@ fn made(store: &mut Store, alloc: Global) -> Result<FirstRoot, Fail> {
     store.drop_plan(1);
     let items = pipeline.open_items();
     let parted = part(alloc, items.actions())?;
-    let first = first_group(store, alloc, &config, 1, &parted, items)?;
+    let next = NextGroup {
+        number: 1,
+        spans: None,
+    };
+    let first = first_group(store, alloc, &config, &next, &parted, items)?;
     store_plan(store);
     Ok(first)
 }
@@ -279,11 +283,15 @@ fn next(
     let items = pipeline.open_items();
     let parted = part(alloc, items.actions())?;
     store.begin_plan(group)?;
+    let next = NextGroup {
+        number: group,
+        spans: None,
+    };
     let after = after_group(
         &before.root,
         store,
         alloc,
-        group,
+        &next,
         &before.directory,
         &parted,
         items,

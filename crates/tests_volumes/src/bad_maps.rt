@@ -46,15 +46,17 @@ fn table_of(alloc: Global, metaslab: MetaslabPlace) -> Result<SpaceMaps, Fail>
 }
 
 /// One disk missed the blocks of groups 2 and 3.
-fn one_span(alloc: Global) -> Result<StaleSpans, Fail>
+pub(crate) const SPAN: StaleSpan = StaleSpan {
+    disk: 101,
+    from: 2,
+    to: 3,
+};
+
+pub(crate) fn one_span(alloc: Global) -> Result<StaleSpans, Fail>
     ensures { IfOk result (λ spans. length spans < 2 ^ 40) }
 {
     let mut spans = StaleSpans::new(alloc);
-    spans.set(StaleSpan {
-        disk: 101,
-        from: 2,
-        to: 3,
-    })?;
+    spans.set(SPAN)?;
     if spans.rows().len() > 1 {
         return Ok(StaleSpans::new(alloc));
     }

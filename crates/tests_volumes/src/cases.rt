@@ -33,6 +33,7 @@ const KEPT: &[(&str, &str)] = &[
         "[true, true, true, true, true]",
     ),
     ("kept of a root", "[true, true, true, true, true]"),
+    ("stale spans of roots", "[true, true, true]"),
     // Read of the disks: all are there, one is out, two are, and one has no mark.
     ("read ---", "Ok([true, true, true, true, true])"),
     ("read -x-", "Ok([true, true, true, true, true])"),
@@ -73,6 +74,7 @@ fn of_root(store: &mut Store, alloc: Global, case: &str) -> Result<String, Fail>
         "directories of roots" => format!(in alloc; "{:?}", kept::are_kept(store, alloc)?),
         "reads by a kept directory" => format!(in alloc; "{:?}", kept::outcomes(store, alloc)?),
         "kept of a root" => format!(in alloc; "{:?}", contents::kept(store, alloc)?),
+        "stale spans of roots" => format!(in alloc; "{:?}", contents::stale(store, alloc)?),
         _ => return Err(Fail::new(format_args!("no case {case}"))),
     };
     Ok(text?)

@@ -1,5 +1,6 @@
 //! What an open keeps of a root.
-use crate::groups::{SIZE, written_root};
+use crate::bad_maps::{SPAN, one_span};
+use crate::groups::{SIZE, group_of, next_root, planned_with, root_of_three, write, written_root};
 use crate::kept::has_rows;
 use crate::stores::{Store, new_store};
 use block_pointer::Block;
@@ -49,6 +50,32 @@ pub(crate) fn kept(store: &mut Store, alloc: Global) -> Result<[bool; 5], Fail> 
     let mut left = LEFT;
     let contents = contents_under(&root, store, alloc, root.birth, &mut left, &[])?;
     outcomes(&contents, alloc)
+}
+
+/// Whether an open finds one stale span under a root, and no other; or whether it finds none.
+fn is_stale(root: &Block, store: &mut Store, alloc: Global, stale: bool) -> Result<bool, Fail> {
+    let mut left = LEFT;
+    let contents = contents_under(root, store, alloc, root.birth, &mut left, &[])?;
+    let spans = contents.spans.rows();
+    Ok(if stale {
+        spans == [SPAN].as_slice()
+    } else {
+        spans.is_empty()
+    })
+}
+
+/// Whether it finds none under a root, that of the next group, which brings one, and the same after a group that brings none.
+pub(crate) fn stale(store: &mut Store, alloc: Global) -> Result<[bool; 3], Fail> {
+    let first = root_of_three(store, alloc)?;
+    let group = group_of(alloc, write(alloc, 1, b'v')?)?;
+    let spans = one_span(alloc)?;
+    let second = planned_with(&first, store, alloc, &group, Some(spans))?.root;
+    let third = next_root(&second, store, alloc, write(alloc, 1, b'v')?)?;
+    Ok([
+        is_stale(&first, store, alloc, false)?,
+        is_stale(&second, store, alloc, true)?,
+        is_stale(&third, store, alloc, true)?,
+    ])
 }
 
 fn shapes(store: &Store, alloc: Global) -> Result<Vec<VdevShape>, Fail> {

@@ -1,10 +1,14 @@
 //! Roots after groups.
+ghost use Rattle.std.specs.Prelude.{◌<◌, ◌^◌, length, IfSome};
+
 use crate::roots::{create_empty, find_letter, first_root};
 use crate::stores::{Store, store_plan};
 use block_pointer::Block;
 use dataset_snapshots::{
-    KeptDirectory, NextRoot, Refusal, VolumeRange, after_group, directory_under, read_range,
+    KeptDirectory, NextGroup, NextRoot, Refusal, VolumeRange, after_group, directory_under,
+    read_range,
 };
+use meta_objset::StaleSpans;
 use pool_model::{Action, Bytes, Change, Item, Name, Write};
 use std::alloc::Global;
 use std::test::Fail;
@@ -88,15 +92,29 @@ pub(crate) fn planned(
     alloc: Global,
     pipeline: &Pipeline,
 ) -> Result<NextRoot, Refusal> {
-    let group = root.birth.saturating_add(1);
+    planned_with(root, store, alloc, pipeline, None)
+}
+
+/// And with these stale spans, if any.
+pub(crate) fn planned_with(
+    root: &Block,
+    store: &mut Store,
+    alloc: Global,
+    pipeline: &Pipeline,
+    spans: Option<StaleSpans>,
+) -> Result<NextRoot, Refusal>
+    requires { IfSome spans (λ spans. length spans < 2 ^ 40) }
+{
+    let number = root.birth.saturating_add(1);
+    let next = NextGroup { number, spans };
     let directory = directory_under(root, store, alloc, root.birth, &[])?;
     let directory = KeptDirectory::new(alloc, directory);
-    store.drop_plan(group);
+    store.drop_plan(number);
     let items = pipeline.open_items();
     let parted = part(alloc, items.actions())?;
-    let next = after_group(root, store, alloc, group, &directory, &parted, items);
+    let after = after_group(root, store, alloc, &next, &directory, &parted, items);
     store_plan(store);
-    next
+    after
 }
 
 /// And the blocks that it replaced, and its directory. It is planned by the directory under the root before.

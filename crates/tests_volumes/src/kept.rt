@@ -8,8 +8,8 @@ use crate::sets::name_of;
 use crate::stores::{Store, new_store};
 use block_pointer::Block;
 use dataset_snapshots::{
-    FirstRoot, KeptDirectory, NextRoot, Refusal, VolumeRange, after_group, directory_under,
-    find_in, read_range_in,
+    FirstRoot, KeptDirectory, NextGroup, NextRoot, Refusal, VolumeRange, after_group,
+    directory_under, find_in, read_range_in,
 };
 use meta_objset::{Directory, DirectoryRow};
 use pool_model::Name;
@@ -251,7 +251,11 @@ fn written_of_many(store: &mut Store, alloc: Global, count: u8) -> Result<NextRo
     let root = &first.root;
     let items = pipeline.open_items();
     let parted = part(alloc, items.actions())?;
-    after_group(root, store, alloc, 2, &first.directory, &parted, items).map_err(Fail::from)
+    let next = NextGroup {
+        number: 2,
+        spans: None,
+    };
+    after_group(root, store, alloc, &next, &first.directory, &parted, items).map_err(Fail::from)
 }
 
 /// The group that it is born in.

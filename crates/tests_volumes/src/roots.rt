@@ -6,7 +6,7 @@ ghost use Rattle.meta_objset.specs.Record.{FitsRecord};
 use crate::sets::{EMPTY, name_of, record_of, root_block, volume_block, with};
 use crate::stores::{Store, store_plan};
 use block_pointer::Block;
-use dataset_snapshots::{Dataset, FirstRoot, find, first_group};
+use dataset_snapshots::{Dataset, FirstRoot, NextGroup, find, first_group};
 use dnode::ObjectSet;
 use meta_objset::{DatasetRecord, Directory, is_name, record_creation};
 use pool_model::Name;
@@ -99,7 +99,11 @@ pub(crate) fn first_with(
     store.drop_plan(1);
     let items = pipeline.open_items();
     let parted = part(alloc, items.actions())?;
-    let first = first_group(store, alloc, &config, 1, &parted, items);
+    let next = NextGroup {
+        number: 1,
+        spans: None,
+    };
+    let first = first_group(store, alloc, &config, &next, &parted, items);
     store_plan(store);
     first.map_err(Fail::from)
 }

@@ -17,6 +17,7 @@ use Rattle.pool_model.specs.Pools.{changed as pool_changed}
 use Rattle.vdev_label.specs.Plain.{config_view}
 use Rattle.volume.proofs.Made.{no_objects}
 use Rattle.volume_rules.specs.Parting.{with_made}
+use Rattle.dataset_snapshots.specs.Creating.{stale_after}
 use Rattle.dataset_snapshots.specs.Demands.{HasRootPlaces, IsRootRefused}
 use Rattle.dataset_snapshots.specs.FirstGroup.{AreFirstVolumes, empty_meta}
 use Rattle.dataset_snapshots.proofs.FirstMaps.{first_of_others, first_value, unused_still}
@@ -33,49 +34,49 @@ returns-in_err-datasets-clause-known g c =
 pub returns-in_err-datasets-clause-refused : goal.returns-in_err-datasets-clause-refused
 returns-in_err-datasets-clause-refused g c =
     passed_on _ _ _ c.from_residual.ensures.1
-    (first_volumes_refused c.args.store.now c.first_volumes.new.store c.args.group (config_view c.args.config.now) (with_made c.args.items.now c.args.parted.now) c.made.result.now _ c.made.ensures
+    (first_volumes_refused c.args.store.now c.first_volumes.new.store c.args.next.now.number (config_view c.args.config.now) (stale_after c.args.next.now.spans []) (with_made c.args.items.now c.args.parted.now) c.made.result.now _ c.made.ensures
     c.in_err-datasets.ensures.refused)
 
-pub returns-in_err-directory-clause-known : goal.returns-in_err-directory-clause-known
-returns-in_err-directory-clause-known g c =
-    passed_on _ _ _ c.from_residual-in_err-directory.ensures.1 (λ stored planned plans unused honest good.
+pub returns-in_err-made-clause-known : goal.returns-in_err-made-clause-known
+returns-in_err-made-clause-known g c =
+    passed_on _ _ _ c.from_residual-in_err-made.ensures.1 (λ stored planned plans unused honest good.
     let volumes = c.in_ok-datasets.ensures.value stored planned plans honest in
-    first_datasets_known volumes.0 c.args.group c.in_ok-datasets.datasets volumes.3 volumes.4 _ _ c.in_ok-datasets.ensures.bounds volumes.5 c.in_err-directory.ensures.refused)
+    first_datasets_known volumes.0 c.args.next.now.number c.in_ok-datasets.datasets volumes.3 volumes.4 _ _ c.in_ok-datasets.ensures.bounds volumes.5 c.in_err-made.ensures.refused)
 
-pub returns-in_err-directory-clause-refused : goal.returns-in_err-directory-clause-refused
-returns-in_err-directory-clause-refused g c =
-    let volumes = subst (λ (actions : List Action). AreFirstVolumes c.args.store.now c.first_volumes.new.store c.args.group actions c.in_ok-datasets.datasets) c.made.ensures
+pub returns-in_err-made-clause-refused : goal.returns-in_err-made-clause-refused
+returns-in_err-made-clause-refused g c =
+    let volumes = subst (λ (actions : List Action). AreFirstVolumes c.args.store.now c.first_volumes.new.store c.args.next.now.number actions c.in_ok-datasets.datasets) c.made.ensures
     c.in_ok-datasets.ensures.places in
-    passed_on _ _ _ c.from_residual-in_err-directory.ensures.1
-    (first_datasets_refused c.args.store.now c.first_volumes.new.store c.args.group (config_view c.args.config.now) (with_made c.args.items.now c.args.parted.now) c.in_ok-datasets.datasets _ c.in_ok-datasets.ensures.steps volumes
-    c.in_err-directory.ensures.refused)
+    passed_on _ _ _ c.from_residual-in_err-made.ensures.1
+    (first_datasets_refused c.args.store.now c.first_volumes.new.store c.args.next.now.number (config_view c.args.config.now) (stale_after c.args.next.now.spans []) (with_made c.args.items.now c.args.parted.now) c.in_ok-datasets.datasets _ c.in_ok-datasets.ensures.steps volumes
+    c.in_err-made.ensures.refused)
 
 pub returns-in_err-changes-clause-steps : goal.returns-in_err-changes-clause-steps
 returns-in_err-changes-clause-steps g c = steps_on _ _ _ _ c.in_ok-datasets.ensures.steps (steps_read _ _ _ c.in_err-changes.ensures.reads)
 
 pub returns-in_err-changes-clause-known : goal.returns-in_err-changes-clause-known
 returns-in_err-changes-clause-known g c =
-    let made = c.in_ok-directory.field-0 in
+    let made = c.in_ok-made.made in
     passed_on _ _ _ c.from_residual-in_err-changes.ensures.1 (λ stored planned plans unused honest good.
     let steps = c.in_ok-datasets.ensures.steps in
     let volumes = c.in_ok-datasets.ensures.value stored planned plans
     (true_before c.args.store.now c.first_volumes.new.store c.first_maps.new.store c.in_err-changes.ensures.reads.reads honest) in
-    let pool = fold (λ p a. pool_changed c.args.group p a.change) no_volumes c.made.result.now in
+    let pool = fold (λ p a. pool_changed c.args.next.now.number p a.change) no_volumes c.made.result.now in
     inl (c.in_err-changes.ensures.known
-    (first_of_others (config_view c.args.config.now) c.in_ok-datasets.datasets made.changes.items c.in_ok-directory.ensures.tables made.next
-    c.in_ok-directory.ensures.next volumes.0 c.args.group volumes.3 volumes.4 pool volumes.5)
+    (first_of_others (config_view c.args.config.now) (stale_after c.args.next.now.spans []) c.in_ok-datasets.datasets made.changes.items c.in_ok-made.ensures.tables made.next
+    c.in_ok-made.ensures.next volumes.0 c.args.next.now.number volumes.3 volumes.4 pool volumes.5)
     (unused_still c.args.store.now c.first_volumes.new.store steps unused)
     (true_after c.args.store.now c.first_volumes.new.store c.first_maps.new.store steps.reads honest)))
 
 pub returns-in_err-changes-clause-refused : goal.returns-in_err-changes-clause-refused
 returns-in_err-changes-clause-refused g c =
-    let made = c.in_ok-directory.field-0 in
-    let volumes = subst (λ (actions : List Action). AreFirstVolumes c.args.store.now c.first_volumes.new.store c.args.group actions c.in_ok-datasets.datasets) c.made.ensures
+    let made = c.in_ok-made.made in
+    let volumes = subst (λ (actions : List Action). AreFirstVolumes c.args.store.now c.first_volumes.new.store c.args.next.now.number actions c.in_ok-datasets.datasets) c.made.ensures
     c.in_ok-datasets.ensures.places in
     IfErr-weaker c.from_residual-in_err-changes.result _ _
     (λ refusal why.
-    first_maps_refused c.args.store.now c.first_volumes.new.store c.args.group (config_view c.args.config.now) (with_made c.args.items.now c.args.parted.now) c.in_ok-datasets.datasets made.changes.items made.next
-    c.in_ok-datasets.ensures.steps volumes c.in_ok-directory.ensures.tables c.in_ok-directory.ensures.next_is c.first_maps.new.store refusal why)
+    first_maps_refused c.args.store.now c.first_volumes.new.store c.args.next.now.number (config_view c.args.config.now) (stale_after c.args.next.now.spans []) (with_made c.args.items.now c.args.parted.now) c.in_ok-datasets.datasets made.changes.items made.next
+    c.in_ok-datasets.ensures.steps volumes c.in_ok-made.ensures.tables c.in_ok-made.ensures.next_is c.first_maps.new.store refusal why)
     (passed_on _ _ _ c.from_residual-in_err-changes.ensures.1 c.in_err-changes.ensures.refused)
 
 pub plan_root-requires-clause-order : goal.plan_root-requires-clause-order
@@ -96,7 +97,7 @@ returns-clause-value g c = λ stored planned plans unused honest.
     let third : Store = c.first_maps.new.store in
     let last : Store = c.plan_root.new.store in
     let datasets = c.in_ok-datasets.datasets in
-    let made = c.in_ok-directory.field-0 in
+    let made = c.in_ok-made.made in
     let whole : List ObjectChange = c.in_ok-changes.changes.items in
     let root = c.in_ok-root.root in
     let steps = c.in_ok-datasets.ensures.steps in
@@ -104,21 +105,21 @@ returns-clause-value g c = λ stored planned plans unused honest.
     let behind = steps_on second third last [] (steps_read second third [] reads) c.in_ok-root.ensures.steps in
     let later_honest = true_after first second last steps.reads honest in
     let volumes = c.in_ok-datasets.ensures.value stored planned plans (true_before first second last behind.reads honest) in
-    let spells = subst (λ (pool : PlainPool). SpellsGroup volumes.0 c.args.group nothing datasets volumes.3 volumes.4 pool)
-    (pool_first c.args.group (with_made c.args.items.now c.args.parted.now) c.made.result.now c.made.ensures) volumes.5 in
+    let spells = subst (λ (pool : PlainPool). SpellsGroup volumes.0 c.args.next.now.number nothing datasets volumes.3 volumes.4 pool)
+    (pool_first c.args.next.now.number (with_made c.args.items.now c.args.parted.now) c.made.result.now c.made.ensures) volumes.5 in
     let maps = c.in_ok-changes.ensures.value
-    (first_of_others (config_view c.args.config.now) datasets made.changes.items c.in_ok-directory.ensures.tables made.next
-    c.in_ok-directory.ensures.next volumes.0 c.args.group volumes.3 volumes.4 (applied c.args.group no_volumes (with_made c.args.items.now c.args.parted.now)) spells)
+    (first_of_others (config_view c.args.config.now) (stale_after c.args.next.now.spans []) datasets made.changes.items c.in_ok-made.ensures.tables made.next
+    c.in_ok-made.ensures.next volumes.0 c.args.next.now.number volumes.3 volumes.4 (applied c.args.next.now.number no_volumes (with_made c.args.items.now c.args.parted.now)) spells)
     (unused_still first second steps unused) (true_before second third last c.in_ok-root.ensures.steps.reads later_honest) in
     let planned_root = c.in_ok-root.ensures.value stored volumes.0 0 nothing [] (λ number. []) (reads.plans stored volumes.0 volumes.1) (no_objects stored 0 empty_meta refl) (omega arith)
     (true_after second third last reads.reads later_honest) in
-    let given : IsRootGiven volumes.0 planned_root.0 c.args.group root sets.Meta (changed whole nothing) (blocks_of_set empty_meta [] (λ number. [])) planned_root.4 =
-    subst (λ (cs : List ObjectChange). IsRootGiven volumes.0 planned_root.0 c.args.group root sets.Meta (changed cs nothing) (blocks_of_set empty_meta [] (λ number. [])) planned_root.4)
+    let given : IsRootGiven volumes.0 planned_root.0 c.args.next.now.number root sets.Meta (changed whole nothing) (blocks_of_set empty_meta [] (λ number. [])) planned_root.4 =
+    subst (λ (cs : List ObjectChange). IsRootGiven volumes.0 planned_root.0 c.args.next.now.number root sets.Meta (changed cs nothing) (blocks_of_set empty_meta [] (λ number. [])) planned_root.4)
     c.deref.ensures.value (planned_root.3, planned_root.6) in
-    let places = subst (λ (cs : List ObjectChange). HasRootPlaces third last empty_meta c.args.group cs) c.deref.ensures.value c.in_ok-root.ensures.places in
-    let same = subst (λ spaces. AreSameBefore spaces last.spaces) (ap (λ (s : Store). s.spaces) reads.rest) (root_places_same third last empty_meta c.args.group whole places) in
-    let is = first_value planned volumes.0 planned_root.0 c.args.group (config_view c.args.config.now) datasets made.changes.items c.in_ok-directory.ensures.tables made.next
-    c.in_ok-directory.ensures.next whole c.in_ok-changes.ensures.others.0 maps.3 root volumes.3 volumes.4 (applied c.args.group no_volumes (with_made c.args.items.now c.args.parted.now)) second.spaces last.spaces planned_root.4 spells
+    let places = subst (λ (cs : List ObjectChange). HasRootPlaces third last empty_meta c.args.next.now.number cs) c.deref.ensures.value c.in_ok-root.ensures.places in
+    let same = subst (λ spaces. AreSameBefore spaces last.spaces) (ap (λ (s : Store). s.spaces) reads.rest) (root_places_same third last empty_meta c.args.next.now.number whole places) in
+    let is = first_value planned volumes.0 planned_root.0 c.args.next.now.number (config_view c.args.config.now) (stale_after c.args.next.now.spans []) datasets made.changes.items c.in_ok-made.ensures.tables made.next
+    c.in_ok-made.ensures.next whole c.in_ok-changes.ensures.others.0 maps.3 root volumes.3 volumes.4 (applied c.args.next.now.number no_volumes (with_made c.args.items.now c.args.parted.now)) second.spaces last.spaces planned_root.4 spells
     volumes.2 planned_root.2 volumes.6 volumes.7 given planned_root.7 c.in_ok-root.ensures.born (maps.1, maps.2) same in (
       planned_root.0,
       planned_root.1,
@@ -126,8 +127,9 @@ returns-clause-value g c = λ stored planned plans unused honest.
       is.0,
       is.1,
       is.2,
-      c.new-directory.ensures ∙ c.in_ok-directory.ensures.directory ∙ is.3,
-      is.4,
+      is.3,
+      c.new-directory.ensures ∙ c.in_ok-made.ensures.directory ∙ is.4,
+      is.5,
     )
 
 pub returns-in_err-root-clause-known : goal.returns-in_err-root-clause-known
@@ -136,17 +138,17 @@ returns-in_err-root-clause-known g c =
     let second : Store = c.first_volumes.new.store in
     let third : Store = c.first_maps.new.store in
     let last : Store = c.plan_root.new.store in
-    let made = c.in_ok-directory.field-0 in
+    let made = c.in_ok-made.made in
     let steps = c.in_ok-datasets.ensures.steps in
     let reads = c.in_ok-changes.ensures.reads in
     passed_on _ _ _ c.from_residual-in_err-root.ensures.1 (λ stored planned plans unused honest good.
     let behind = steps_on second third last [] (steps_read second third [] reads) c.in_err-root.ensures.steps in
     let later_honest = true_after first second last steps.reads honest in
     let volumes = c.in_ok-datasets.ensures.value stored planned plans (true_before first second last behind.reads honest) in
-    let pool = fold (λ p a. pool_changed c.args.group p a.change) no_volumes c.made.result.now in
+    let pool = fold (λ p a. pool_changed c.args.next.now.number p a.change) no_volumes c.made.result.now in
     let maps = c.in_ok-changes.ensures.value
-    (first_of_others (config_view c.args.config.now) c.in_ok-datasets.datasets made.changes.items c.in_ok-directory.ensures.tables made.next
-    c.in_ok-directory.ensures.next volumes.0 c.args.group volumes.3 volumes.4 pool volumes.5)
+    (first_of_others (config_view c.args.config.now) (stale_after c.args.next.now.spans []) c.in_ok-datasets.datasets made.changes.items c.in_ok-made.ensures.tables made.next
+    c.in_ok-made.ensures.next volumes.0 c.args.next.now.number volumes.3 volumes.4 pool volumes.5)
     (unused_still first second steps unused) (true_before second third last c.in_err-root.ensures.steps.reads later_honest) in
     c.in_err-root.ensures.known stored volumes.0 0 nothing [] (λ number. []) (reads.plans stored volumes.0 volumes.1) (no_objects stored 0 empty_meta refl) (omega arith) (omega arith)
     (true_after second third last reads.reads later_honest)
@@ -154,23 +156,23 @@ returns-in_err-root-clause-known g c =
 
 pub returns-clause-places : goal.returns-clause-places
 returns-clause-places g c =
-    let made = c.in_ok-directory.field-0 in
-    let volumes = subst (λ (actions : List Action). AreFirstVolumes c.args.store.now c.first_volumes.new.store c.args.group actions c.in_ok-datasets.datasets) c.made.ensures
+    let made = c.in_ok-made.made in
+    let volumes = subst (λ (actions : List Action). AreFirstVolumes c.args.store.now c.first_volumes.new.store c.args.next.now.number actions c.in_ok-datasets.datasets) c.made.ensures
     c.in_ok-datasets.ensures.places in
-    first_has c.args.store.now c.first_volumes.new.store c.args.group (config_view c.args.config.now) (with_made c.args.items.now c.args.parted.now) c.in_ok-datasets.datasets made.changes.items made.next
-    c.in_ok-datasets.ensures.steps volumes c.in_ok-directory.ensures.tables c.in_ok-directory.ensures.next_is c.first_maps.new.store c.plan_root.new.store c.in_ok-changes.changes.items
+    first_has c.args.store.now c.first_volumes.new.store c.args.next.now.number (config_view c.args.config.now) (stale_after c.args.next.now.spans []) (with_made c.args.items.now c.args.parted.now) c.in_ok-datasets.datasets made.changes.items made.next
+    c.in_ok-datasets.ensures.steps volumes c.in_ok-made.ensures.tables c.in_ok-made.ensures.next_is c.first_maps.new.store c.plan_root.new.store c.in_ok-changes.changes.items
     c.in_ok-changes.ensures.reads c.in_ok-changes.ensures.others
-    (subst (λ (cs : List ObjectChange). HasRootPlaces c.first_maps.new.store c.plan_root.new.store empty_meta c.args.group cs) c.deref.ensures.value c.in_ok-root.ensures.places)
+    (subst (λ (cs : List ObjectChange). HasRootPlaces c.first_maps.new.store c.plan_root.new.store empty_meta c.args.next.now.number cs) c.deref.ensures.value c.in_ok-root.ensures.places)
 
 pub returns-in_err-root-clause-refused : goal.returns-in_err-root-clause-refused
 returns-in_err-root-clause-refused g c =
-    let made = c.in_ok-directory.field-0 in
-    let volumes = subst (λ (actions : List Action). AreFirstVolumes c.args.store.now c.first_volumes.new.store c.args.group actions c.in_ok-datasets.datasets) c.made.ensures
+    let made = c.in_ok-made.made in
+    let volumes = subst (λ (actions : List Action). AreFirstVolumes c.args.store.now c.first_volumes.new.store c.args.next.now.number actions c.in_ok-datasets.datasets) c.made.ensures
     c.in_ok-datasets.ensures.places in
     IfErr-weaker c.from_residual-in_err-root.result _ _
     (λ refusal why.
-    first_set_refused c.args.store.now c.first_volumes.new.store c.args.group (config_view c.args.config.now) (with_made c.args.items.now c.args.parted.now) c.in_ok-datasets.datasets made.changes.items made.next
-    c.in_ok-datasets.ensures.steps volumes c.in_ok-directory.ensures.tables c.in_ok-directory.ensures.next_is c.first_maps.new.store c.plan_root.new.store c.in_ok-changes.changes.items refusal
+    first_set_refused c.args.store.now c.first_volumes.new.store c.args.next.now.number (config_view c.args.config.now) (stale_after c.args.next.now.spans []) (with_made c.args.items.now c.args.parted.now) c.in_ok-datasets.datasets made.changes.items made.next
+    c.in_ok-datasets.ensures.steps volumes c.in_ok-made.ensures.tables c.in_ok-made.ensures.next_is c.first_maps.new.store c.plan_root.new.store c.in_ok-changes.changes.items refusal
     c.in_ok-changes.ensures.reads c.in_ok-changes.ensures.others
-    (subst (λ (cs : List ObjectChange). IsRootRefused c.first_maps.new.store c.plan_root.new.store empty_meta c.args.group c.args.group cs refusal) c.deref.ensures.value why))
+    (subst (λ (cs : List ObjectChange). IsRootRefused c.first_maps.new.store c.plan_root.new.store empty_meta c.args.next.now.number c.args.next.now.number cs refusal) c.deref.ensures.value why))
     (passed_on _ _ _ c.from_residual-in_err-root.ensures.1 c.in_err-root.ensures.refused)

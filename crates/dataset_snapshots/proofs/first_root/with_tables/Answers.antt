@@ -1,8 +1,9 @@
-use Rattle.std.proofs.Common.{inr, ◌<◌, ◌*◌, ◌^◌, Bool, IsTrue, List, All, AllPairs, refl, sym, subst}
+use Rattle.std.proofs.Common.{inr, ◌<◌, ◌*◌, ◌^◌, Bool, IsTrue, List, [], All, AllPairs, refl, sym, subst}
 use Rattle.std.proofs.lemmas.List.Elements.{All-append, All-weaker}
 use Rattle.objset.specs.declared.changes.ObjectChange.{ObjectChange}
 use Rattle.objset.specs.Changes.{IsGoodChange}
 use Rattle.vdev_label.specs.Plain.{config_view}
+use Rattle.dataset_snapshots.specs.Creating.{stale_after}
 use Rattle.dataset_snapshots.proofs.BelowNext.{some_behind}
 use Rattle.dataset_snapshots.proofs.FirstRoots.{in_front}
 use Rattle.dataset_snapshots.proofs.first_root.with_tables.Goals as goal
@@ -25,7 +26,7 @@ returns-clause-order c =
     let are = c.in_ok-changes.ensures.are in
     let high = All-weaker (λ (change : ObjectChange). (4 < change.number) × (change.number < 32 * 128 ^ 5)) (λ change. 4 < change.number) (λ change both. both.0) c.in_ok-changes.changes.items are.numbers in
     subst (AllPairs (λ (change later : ObjectChange). change.number < later.number)) (sym c.in_ok-changes-2.ensures)
-    (in_front (config_view c.args.config.now) c.args.datasets.directory c.in-Ok.tables c.in-Ok.ensures.are c.in_ok-changes.changes.items high are.order)
+    (in_front (config_view c.args.config.now) (stale_after c.args.group.now.spans []) c.args.datasets.directory c.in-Ok.tables c.in-Ok.ensures.are c.in_ok-changes.changes.items high are.order)
 
 pub returns-clause-good : goal.returns-clause-good
 returns-clause-good c =

@@ -73,41 +73,41 @@ returns-clause-value g c =
     let second = c.in_ok-made.ensures.steps in
     let unchanged : old.spaces ≡ read.spaces = sym (ap (λ (s : Store). s.spaces) first.rest) in
     let both = steps_on old read mid [] (steps_read old read [] first) second in
-    let root = c.in_ok-next.next in
+    let root = c.in_ok-root.root in
     let gone : List Block = c.mapped_changes.new.gone.items in
     λ stored planned pool plans is same maps may honest.
     let so_far = true_before old mid new c.plan_root.ensures.steps.reads honest in
     let early = c.in_ok-opened.ensures.early in
-    let below : c.args.root.now.birth < c.args.group = omega (arith, early) in
-    let le : c.args.root.now.birth ≤ c.args.group = omega (arith, below) in
+    let below : c.args.root.now.birth < c.args.next.now.number = omega (arith, early) in
+    let le : c.args.root.now.birth ≤ c.args.next.now.number = omega (arith, below) in
     let from = c.in_ok-opened.ensures.value stored pool plans.held is same may (true_before old read mid second.reads so_far) in
     let changes = c.in_ok-made.ensures.value stored planned _ c.args.root.now pool _ (first.plans stored planned plans) is c.args.parted.now.destroyed refl below c.in_ok-opened.ensures.opened from
     (subst (λ (spaces : List VdevSpace). AreMapsOf is.objects spaces filled) unchanged maps.maps) (true_after old read mid first.reads so_far) in
     let are = subst (λ (s : ObjectSet). AreObjects stored c.args.root.now.birth s is.objects is.own is.blocks) (sym from.set) is.are in
-    let made = c.in_ok-next.ensures.value stored changes.0 c.args.root.now.birth is.objects is.own is.blocks changes.1 are le
+    let made = c.in_ok-root.ensures.value stored changes.0 c.args.root.now.birth is.objects is.own is.blocks changes.1 are le
     (true_after old mid new both.reads honest) in
     let list : List ObjectChange = c.in_ok-made.made.changes.items in
     let before : List Block = volume_blocks_of is in
     let after : PlainPool = all_destroyed c.args.parted.now.destroyed pool in
-    let set = root_given changes.0 made.0 c.args.group root c.in_ok-opened.opened.set is.set c.deref-2.result.now list is.objects is.own is.blocks made.4 c.deref-2.ensures.value
+    let set = root_given changes.0 made.0 c.args.next.now.number root c.in_ok-opened.opened.set is.set c.deref-2.result.now list is.objects is.own is.blocks made.4 c.deref-2.ensures.value
     c.in_ok-opened.ensures.kind from.set (made.3, made.6) in
-    let of_items = items_given planned changes.0 c.args.group is.objects list after (with_made c.args.items.now c.args.parted.now) c.made.result.now before gone c.in_ok-directory.directory c.made.ensures
+    let of_items = items_given planned changes.0 c.args.next.now.number is.objects list c.args.next.now.spans after (with_made c.args.items.now c.args.parted.now) c.made.result.now before gone c.in_ok-directory.directory c.made.ensures
     (changes.3, changes.4, changes.5 ∙ sym c.in_ok-directory.ensures) in
     let replaced_is = replaced_are c.args.root.now c.in_ok-replaced.replaced.items c.extend_from_slice.new.self.items gone c.deref.result.now made.4 c.plan_root.new.replaced.items
     c.in_ok-replaced.ensures c.in_ok-extend_from_slice.ensures.items c.deref.ensures.value made.5 in
-    let places = subst (λ (cs : List ObjectChange). HasRootPlaces mid new c.in_ok-opened.opened.set c.args.group cs) c.deref-2.ensures.value c.in_ok-next.ensures.places in
-    let same_before = root_places_same mid new c.in_ok-opened.opened.set c.args.group list places in
-    group_value stored planned changes.0 made.0 (c.args.group - 1) c.args.group c.args.root.now root pool (applied c.args.group after (with_made c.args.items.now c.args.parted.now)) is maps.copied list
-    gone made.4 c.plan_root.new.replaced.items c.in_ok-directory.directory mid new changes.1.held made.1 changes.2 made.2 of_items changes.6 set made.7 c.in_ok-next.ensures.born replaced_is changes.7 same_before
+    let places = subst (λ (cs : List ObjectChange). HasRootPlaces mid new c.in_ok-opened.opened.set c.args.next.now.number cs) c.deref-2.ensures.value c.in_ok-root.ensures.places in
+    let same_before = root_places_same mid new c.in_ok-opened.opened.set c.args.next.now.number list places in
+    group_value stored planned changes.0 made.0 (c.args.next.now.number - 1) c.args.next.now.number c.args.root.now root pool (applied c.args.next.now.number after (with_made c.args.items.now c.args.parted.now)) is maps.copied list c.args.next.now.spans
+    gone made.4 c.plan_root.new.replaced.items c.in_ok-directory.directory mid new changes.1.held made.1 changes.2 made.2 of_items changes.6 set made.7 c.in_ok-root.ensures.born replaced_is changes.7 same_before
 
-pub returns-in_err-next-clause-steps : goal.returns-in_err-next-clause-steps
-returns-in_err-next-clause-steps g c = steps_on _ _ _ _ (steps_on _ _ _ _ (steps_read _ _ _ c.in_ok-opened.ensures.reads) c.in_ok-made.ensures.steps) c.plan_root.ensures.steps
+pub returns-in_err-root-clause-steps : goal.returns-in_err-root-clause-steps
+returns-in_err-root-clause-steps g c = steps_on _ _ _ _ (steps_on _ _ _ _ (steps_read _ _ _ c.in_ok-opened.ensures.reads) c.in_ok-made.ensures.steps) c.plan_root.ensures.steps
 
 pub returns-in_err-replaced-clause-steps : goal.returns-in_err-replaced-clause-steps
 returns-in_err-replaced-clause-steps g c = steps_on _ _ _ _ (steps_read _ _ _ c.in_ok-opened.ensures.reads) c.in_ok-made.ensures.steps
 
-pub returns-in_err-next-clause-known : goal.returns-in_err-next-clause-known
-returns-in_err-next-clause-known g c =
+pub returns-in_err-root-clause-known : goal.returns-in_err-root-clause-known
+returns-in_err-root-clause-known g c =
     let old : Store = c.args.store.now in
     let read : Store = c.open_group.new.store in
     let mid : Store = c.mapped_changes.new.store in
@@ -116,23 +116,23 @@ returns-in_err-next-clause-known g c =
     let second = c.in_ok-made.ensures.steps in
     let unchanged : old.spaces ≡ read.spaces = sym (ap (λ (s : Store). s.spaces) first.rest) in
     let both = steps_on old read mid [] (steps_read old read [] first) second in
-    passed_on _ _ _ c.from_residual-in_err-next.ensures.1 (λ stored planned pool plans is same maps stands honest may good.
+    passed_on _ _ _ c.from_residual-in_err-root.ensures.1 (λ stored planned pool plans is same maps stands honest may good.
     let so_far = true_before old mid new c.plan_root.ensures.steps.reads honest in
     let early = c.in_ok-opened.ensures.early in
-    let below : c.args.root.now.birth < c.args.group = omega (arith, early) in
-    let le : c.args.root.now.birth ≤ c.args.group = omega (arith, below) in
+    let below : c.args.root.now.birth < c.args.next.now.number = omega (arith, early) in
+    let le : c.args.root.now.birth ≤ c.args.next.now.number = omega (arith, below) in
     let from = c.in_ok-opened.ensures.value stored pool plans.held is same may (true_before old read mid second.reads so_far) in
     let changes = c.in_ok-made.ensures.value stored planned _ c.args.root.now pool _ (first.plans stored planned plans) is c.args.parted.now.destroyed refl below c.in_ok-opened.ensures.opened from
     (subst (λ (spaces : List VdevSpace). AreMapsOf is.objects spaces filled) unchanged maps.maps) (true_after old read mid first.reads so_far) in
     let are = subst (λ (s : ObjectSet). AreObjects stored c.args.root.now.birth s is.objects is.own is.blocks) (sym from.set) is.are in
-    c.in_err-next.ensures.known stored changes.0 c.args.root.now.birth is.objects is.own is.blocks changes.1 are (omega arith) le
+    c.in_err-root.ensures.known stored changes.0 c.args.root.now.birth is.objects is.own is.blocks changes.1 are (omega arith) le
     (true_after old mid new both.reads honest)
     (subst (All (λ (change : ObjectChange). MayChange change.change (is.objects change.number))) (sym c.deref-2.ensures.value) changes.3.may))
 
 pub returns-in_err-opened-clause-refused : goal.returns-in_err-opened-clause-refused
 returns-in_err-opened-clause-refused g c =
     passed_on _ _ _ c.from_residual.ensures.1
-    (group_unread c.args.store.now c.open_group.new.store c.args.root.now c.args.directory.now c.args.group c.args.parted.now.destroyed (with_made c.args.items.now c.args.parted.now) c.args.parted.now.destroyed _ refl c.in_err-opened.ensures.refused)
+    (group_unread c.args.store.now c.open_group.new.store c.args.root.now c.args.directory.now c.args.next.now.number c.args.next.now.spans c.args.parted.now.destroyed (with_made c.args.items.now c.args.parted.now) c.args.parted.now.destroyed _ refl c.in_err-opened.ensures.refused)
 
 pub returns-in_err-made-clause-refused : goal.returns-in_err-made-clause-refused
 returns-in_err-made-clause-refused g c =
@@ -141,8 +141,8 @@ returns-in_err-made-clause-refused g c =
     let room = c.in_ok-opened.ensures.room in
     IfErr-weaker c.from_residual-in_err-made.result _ _
     (λ refusal why.
-    group_volumes_refused c.args.store.now c.open_group.new.store c.open_group.new.store c.mapped_changes.new.store c.args.root.now c.args.directory.now c.args.group c.args.parted.now.destroyed (with_made c.args.items.now c.args.parted.now) opened c.in_ok-opened.ensures.reads found room refusal
-    (subst (λ (actions : List Action). AreMappedRefused c.open_group.new.store c.mapped_changes.new.store c.args.root.now.birth c.args.group opened actions refusal) c.made.ensures why))
+    group_volumes_refused c.args.store.now c.open_group.new.store c.open_group.new.store c.mapped_changes.new.store c.args.root.now c.args.directory.now c.args.next.now.number c.args.next.now.spans c.args.parted.now.destroyed (with_made c.args.items.now c.args.parted.now) opened c.in_ok-opened.ensures.reads found room refusal
+    (subst (λ (actions : List Action). AreMappedRefused c.open_group.new.store c.mapped_changes.new.store c.args.root.now.birth c.args.next.now.number c.args.next.now.spans opened actions refusal) c.made.ensures why))
     (passed_on _ _ _ c.from_residual-in_err-made.ensures.1 c.in_err-made.ensures.refused)
 
 pub plan_root-requires-clause-order : goal.plan_root-requires-clause-order
@@ -156,30 +156,30 @@ returns-clause-places g c =
     let found = c.in_ok-opened.ensures.found in
     let room = c.in_ok-opened.ensures.room in
     let gone : List Block = c.mapped_changes.new.gone.items in
-    let behind = c.in_ok-next.ensures.behind in
-    let volumes = subst (λ (actions : List Action). HasMappedPlaces c.open_group.new.store c.mapped_changes.new.store c.args.root.now.birth c.args.group opened actions gone list) c.made.ensures
+    let behind = c.in_ok-root.ensures.behind in
+    let volumes = subst (λ (actions : List Action). HasMappedPlaces c.open_group.new.store c.mapped_changes.new.store c.args.root.now.birth c.args.next.now.number c.args.next.now.spans opened actions gone list) c.made.ensures
     c.in_ok-made.ensures.places in
-    group_has c.args.store.now c.open_group.new.store c.mapped_changes.new.store c.plan_root.new.store c.args.root.now c.args.directory.now c.args.group c.args.parted.now.destroyed (with_made c.args.items.now c.args.parted.now) opened c.in_ok-opened.ensures.reads found room gone behind.0 c.plan_root.new.replaced.items list
+    group_has c.args.store.now c.open_group.new.store c.mapped_changes.new.store c.plan_root.new.store c.args.root.now c.args.directory.now c.args.next.now.number c.args.next.now.spans c.args.parted.now.destroyed (with_made c.args.items.now c.args.parted.now) opened c.in_ok-opened.ensures.reads found room gone behind.0 c.plan_root.new.replaced.items list
     c.in_ok-made.ensures.steps volumes
-    (subst (λ (cs : List ObjectChange). HasRootPlaces c.mapped_changes.new.store c.plan_root.new.store opened.set c.args.group cs) c.deref-2.ensures.value c.in_ok-next.ensures.places)
+    (subst (λ (cs : List ObjectChange). HasRootPlaces c.mapped_changes.new.store c.plan_root.new.store opened.set c.args.next.now.number cs) c.deref-2.ensures.value c.in_ok-root.ensures.places)
     (behind.1 ∙ ap (λ (bs : List Block). bs ++ behind.0) (c.in_ok-extend_from_slice.ensures.items ∙ ap (λ (bs : List Block). bs ++ c.deref.result.now) c.in_ok-replaced.ensures
     ∙ ap (λ (bs : List Block). (c.args.root.now ∷ []) ++ bs) c.deref.ensures.value))
 
-pub returns-in_err-next-clause-refused : goal.returns-in_err-next-clause-refused
-returns-in_err-next-clause-refused g c =
+pub returns-in_err-root-clause-refused : goal.returns-in_err-root-clause-refused
+returns-in_err-root-clause-refused g c =
     let opened = c.in_ok-opened.opened in
     let list : List ObjectChange = c.in_ok-made.made.changes.items in
     let found = c.in_ok-opened.ensures.found in
     let room = c.in_ok-opened.ensures.room in
     let gone : List Block = c.mapped_changes.new.gone.items in
-    let volumes = subst (λ (actions : List Action). HasMappedPlaces c.open_group.new.store c.mapped_changes.new.store c.args.root.now.birth c.args.group opened actions gone list) c.made.ensures
+    let volumes = subst (λ (actions : List Action). HasMappedPlaces c.open_group.new.store c.mapped_changes.new.store c.args.root.now.birth c.args.next.now.number c.args.next.now.spans opened actions gone list) c.made.ensures
     c.in_ok-made.ensures.places in
-    IfErr-weaker c.from_residual-in_err-next.result _ _
+    IfErr-weaker c.from_residual-in_err-root.result _ _
     (λ refusal why.
-    group_changes_refused c.args.store.now c.open_group.new.store c.mapped_changes.new.store c.plan_root.new.store c.args.root.now c.args.directory.now c.args.group c.args.parted.now.destroyed (with_made c.args.items.now c.args.parted.now) opened c.in_ok-opened.ensures.reads found room gone list refusal
+    group_changes_refused c.args.store.now c.open_group.new.store c.mapped_changes.new.store c.plan_root.new.store c.args.root.now c.args.directory.now c.args.next.now.number c.args.next.now.spans c.args.parted.now.destroyed (with_made c.args.items.now c.args.parted.now) opened c.in_ok-opened.ensures.reads found room gone list refusal
     c.in_ok-made.ensures.steps volumes
-    (subst (λ (cs : List ObjectChange). IsRootRefused c.mapped_changes.new.store c.plan_root.new.store opened.set c.args.root.now.birth c.args.group cs refusal) c.deref-2.ensures.value why))
-    (passed_on _ _ _ c.from_residual-in_err-next.ensures.1 c.in_err-next.ensures.refused)
+    (subst (λ (cs : List ObjectChange). IsRootRefused c.mapped_changes.new.store c.plan_root.new.store opened.set c.args.root.now.birth c.args.next.now.number cs refusal) c.deref-2.ensures.value why))
+    (passed_on _ _ _ c.from_residual-in_err-root.ensures.1 c.in_err-root.ensures.refused)
 
 pub returns-in_err-extend_from_slice-clause-steps : goal.returns-in_err-extend_from_slice-clause-steps
 returns-in_err-extend_from_slice-clause-steps g c = steps_on _ _ _ _ (steps_read _ _ _ c.in_ok-opened.ensures.reads) c.in_ok-made.ensures.steps

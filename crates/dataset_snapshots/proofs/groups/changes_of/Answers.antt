@@ -47,7 +47,7 @@ returns-in_err-write_all-clause-known g c =
     passed_on _ _ _ c.from_residual-in_err-write_all.ensures.1
     (λ stored planned birth root pool writes plans is destroyed lt opens from honest good.
     let after : PlainPool = all_destroyed destroyed pool in
-    let it = begun stored planned birth c.args.group root pool is destroyed writes c.args.opened (λ block bytes known. plans.kept block bytes known) opens from in
+    let it = begun stored planned birth c.args.group.now.number root pool is destroyed writes c.args.opened (λ block bytes known. plans.kept block bytes known) opens from in
     c.in_err-write_all.ensures.known stored planned root.birth is.objects is.own is.blocks from.datasets is.readings after writes plans it.0 honest (omega (arith, lt)) it.1 it.2)
 
 pub returns-in_err-write_all-clause-refused : goal.returns-in_err-write_all-clause-refused
@@ -61,7 +61,7 @@ returns-in_err-act_all-clause-known g c =
     passed_on _ _ _ c.from_residual-in_err-act_all.ensures.1
     (λ stored planned birth root pool writes plans is destroyed lt opens from honest good.
     let after : PlainPool = all_destroyed destroyed pool in
-    let it = begun stored planned birth c.args.group root pool is destroyed writes c.args.opened (λ block bytes known. plans.kept block bytes known) opens from in
+    let it = begun stored planned birth c.args.group.now.number root pool is destroyed writes c.args.opened (λ block bytes known. plans.kept block bytes known) opens from in
     let placed = c.in_ok-write_all.ensures.value stored planned root.birth is.objects is.own is.blocks from.datasets is.readings after writes plans it.0
     (true_before c.args.store.now c.write_all.new.store c.act_all.new.store c.act_all.ensures.steps.reads honest) (omega (arith, lt)) it.1 it.2 in
     c.in_err-act_all.ensures.known stored placed.0 is.objects is.own is.blocks placed.3 placed.4 (fold written after writes) good placed.1
@@ -73,7 +73,7 @@ returns-in_err-act_all-clause-refused g c =
     let opens = c.requires.opened.1 in
     let mid : GroupDatasets = c.write_all.new.self in
     passed_on _ _ _ c.from_residual-in_err-act_all.ensures.1
-    (actions_refused c.args.store.now c.write_all.new.store c.act_all.new.store c.args.group c.args.opened c.args.actions.now mid c.act_all.new.self c.write_all.ensures.directory
+    (actions_refused c.args.store.now c.write_all.new.store c.act_all.new.store c.args.group.now.number c.args.opened c.args.actions.now mid c.act_all.new.self c.write_all.ensures.directory
     c.write_all.ensures.next c.write_all.ensures.bounds c.in_ok-write_all.ensures.touched c.in_ok-write_all.ensures.places _ c.write_all.ensures.steps c.in_err-act_all.ensures.refused)
 
 pub returns-clause-steps : goal.returns-clause-steps
@@ -84,7 +84,7 @@ returns-clause-value g c =
     let old : GroupDatasets = c.args.opened.datasets in
     let mid : GroupDatasets = c.write_all.new.self in
     let new : GroupDatasets = c.act_all.new.self in
-    let group = c.args.group in
+    let group = c.args.group.now.number in
     let freed : List Block = c.args.opened.freed.items in
     IfOk-weaker c.with_directory.result _ _ (λ all both stored planned birth root pool writes plans is destroyed lt opens from honest.
     let after : PlainPool = all_destroyed destroyed pool in
@@ -98,8 +98,8 @@ returns-clause-value g c =
     let renamed : c.if-renamed.renamed ≡ are_renamed c.args.opened.renamed makes.made = renamed_is g c in
     let acted = made.3 in
     let rows_are : c.args.opened.renamed ≡ false → mid.directory ≡ is.rows = λ none. c.write_all.ensures.directory ∙ from.same none in
-    let left = left_by made.0 group is.objects is.rows new acted.after acted.readings (fold (λ p a. pool_changed group p a.change) (fold written after writes) c.args.actions.now)
-    c.if-renamed.renamed all.changes.items is.directory acted.spells
+    let left = left_by made.0 group is.objects is.rows is.stale new acted.after acted.readings (fold (λ p a. pool_changed group p a.change) (fold written after writes) c.args.actions.now)
+    c.if-renamed.renamed c.args.group.now.spans all.changes.items is.directory is.spans acted.spells
     (idle_rows c.write_all.new.store c.act_all.new.store group mid new c.args.actions.now c.args.opened.renamed c.if-renamed.renamed is.rows rows_are makes renamed) both.0 in
     let second = subst (λ (rows : List DirectoryRow). IsReachExchanged group placed.0 made.0 (reach_by placed.3 rows) (reach_by acted.after new.directory) []) c.write_all.ensures.directory acted.exchanged in
     let last = subst (λ (blocks : List Block). IsReachExchanged group placed.0 made.0 (reach_by placed.3 old.directory) blocks []) (sym left.2) second in
@@ -122,7 +122,7 @@ returns-clause-known g c =
     let old : GroupDatasets = c.args.opened.datasets in
     let mid : GroupDatasets = c.write_all.new.self in
     let new : GroupDatasets = c.act_all.new.self in
-    let group = c.args.group in
+    let group = c.args.group.now.number in
     IfErr-weaker c.with_directory.result _ _ (λ refusal why stored planned birth root pool writes plans is destroyed lt opens from honest good.
     let after : PlainPool = all_destroyed destroyed pool in
     let it = begun stored planned birth group root pool is destroyed writes c.args.opened (λ block bytes known. plans.kept block bytes known) opens from in
@@ -145,9 +145,9 @@ returns-clause-places g c =
     let makes = c.in_ok-act_all.ensures.places in
     IfOk-weaker c.with_directory.result _ _
     (λ all both.
-    volumes_have c.args.store.now c.write_all.new.store c.act_all.new.store c.args.group c.args.opened c.args.actions.now mid new c.write_all.ensures.directory
+    volumes_have c.args.store.now c.write_all.new.store c.act_all.new.store c.args.group.now.number c.args.opened c.args.actions.now mid new c.write_all.ensures.directory
     c.write_all.ensures.next c.write_all.ensures.bounds c.in_ok-write_all.ensures.touched c.in_ok-write_all.ensures.places c.write_all.ensures.one_set c.act_all.ensures.one_set makes
-    all.changes.items all.next c.if-renamed.renamed opens.numbers.behind both.1 c.write_all.ensures.steps.shapes (renamed_is g c) both.0)
+    all.changes.items all.next c.if-renamed.renamed c.args.group.now.spans opens.numbers.behind both.1 c.write_all.ensures.steps.shapes (renamed_is g c) both.0)
     (ok_both c.with_directory.result _ _ c.with_directory.ensures.changes c.with_directory.ensures.next_is)
 
 pub returns-clause-refused : goal.returns-clause-refused
@@ -158,7 +158,7 @@ returns-clause-refused g c =
     let makes = c.in_ok-act_all.ensures.places in
     IfErr-weaker c.with_directory.result _ _
     (λ refusal why.
-    datasets_refused c.args.store.now c.write_all.new.store c.act_all.new.store c.args.group c.args.opened c.args.actions.now mid new c.write_all.ensures.directory
+    datasets_refused c.args.store.now c.write_all.new.store c.act_all.new.store c.args.group.now.number c.args.opened c.args.actions.now mid new c.write_all.ensures.directory
     c.write_all.ensures.next c.write_all.ensures.bounds c.in_ok-write_all.ensures.touched c.in_ok-write_all.ensures.places c.write_all.ensures.one_set c.act_all.ensures.one_set makes refusal opens.numbers.behind
     (steps_on c.args.store.now c.write_all.new.store c.act_all.new.store [] c.write_all.ensures.steps c.act_all.ensures.steps) why)
     c.with_directory.ensures.refused

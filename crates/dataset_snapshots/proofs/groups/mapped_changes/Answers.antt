@@ -76,16 +76,16 @@ returns-in_err-changes-clause-known g c =
     let before = true_before old mid new c.plan_maps.ensures.reads.reads honest in
     let made = c.in_ok-made.ensures.value stored planned birth root pool writes plans is destroyed (omega (arith, born, le)) opens from before in
     let Given : List Block → Type 0 =
-    λ them. IsReachExchanged c.args.group planned made.0 (volume_blocks_of is) (reach_by made.3.datasets made.3.rows) them in
+    λ them. IsReachExchanged c.args.group.now.number planned made.0 (volume_blocks_of is) (reach_by made.3.datasets made.3.rows) them in
     let given : Given c.deref.result.now = subst Given (sym (gone_is ∙ (made.5 ∙ ap (λ (front : List Block). front ++ made.4) c.requires.none))) made.6 in
     let now = maps_on is.objects old.spaces mid.spaces steps.shapes (have_filled old.spaces mid.spaces steps.filled) maps in
     let unmade = unmade_from stored birth root pool is c.args.opened.set next _ from.set volumes.next_is in
     let others = others_are is.objects mid.spaces now changes next c.in_ok-made.ensures.next unmade made.9 made.3.may in
-    let released = sized_given_back mid stored made.0 c.deref.result.now c.args.group made.1 (gone_stored stored birth root pool is c.args.group planned made.0 _ _ given)
-    (gone_once stored birth root pool is c.args.group planned made.0 _ _ given old mid stands) (gone_in_use stored birth root pool is c.args.group planned made.0 _ _ given old mid stands steps) c.are_sized.ensures in
+    let released = sized_given_back mid stored made.0 c.deref.result.now c.args.group.now.number made.1 (gone_stored stored birth root pool is c.args.group.now.number planned made.0 _ _ given)
+    (gone_once stored birth root pool is c.args.group.now.number planned made.0 _ _ given old mid stands) (gone_in_use stored birth root pool is c.args.group.now.number planned made.0 _ _ given old mid stands steps) c.are_sized.ensures in
     let are = subst (λ n. AreObjects stored n c.args.opened.set is.objects is.own is.blocks) born (subst (λ (s : ObjectSet). AreObjects stored root.birth s is.objects is.own is.blocks) (sym from.set) is.are) in
     ⊎_elim (λ loss. loss_in_plan _ loss) (λ space. inl (inr space))
-    (c.in_err-changes.ensures.known stored is.objects is.own is.blocks made.1.held are (true_after old mid new steps.reads honest) now others released.0 c.args.group released.1))
+    (c.in_err-changes.ensures.known stored is.objects is.own is.blocks made.1.held are (true_after old mid new steps.reads honest) now others released.0 c.args.group.now.number released.1))
 
 pub returns-clause-value : goal.returns-clause-value
 returns-clause-value g c = λ stored planned birth root pool writes plans is destroyed born le opens from maps honest.
@@ -100,14 +100,14 @@ returns-clause-value g c = λ stored planned birth root pool writes plans is des
     let before = true_before old mid new c.plan_maps.ensures.reads.reads honest in
     let made = c.in_ok-made.ensures.value stored planned birth root pool writes plans is destroyed (omega (arith, born, le)) opens from before in
     let Given : List Block → Type 0 =
-    λ them. IsReachExchanged c.args.group planned made.0 (volume_blocks_of is) (reach_by made.3.datasets made.3.rows) them in
+    λ them. IsReachExchanged c.args.group.now.number planned made.0 (volume_blocks_of is) (reach_by made.3.datasets made.3.rows) them in
     let now = maps_on is.objects old.spaces mid.spaces steps.shapes (have_filled old.spaces mid.spaces steps.filled) maps in
     let unmade = unmade_from stored birth root pool is c.args.opened.set next _ from.set volumes.next_is in
     let others = others_are is.objects mid.spaces now changes next c.in_ok-made.ensures.next unmade made.9 made.3.may in
     let are = subst (λ n. AreObjects stored n c.args.opened.set is.objects is.own is.blocks) born (subst (λ (s : ObjectSet). AreObjects stored root.birth s is.objects is.own is.blocks) (sym from.set) is.are) in
     let planned_maps = c.in_ok-changes.ensures.value stored is.objects is.own is.blocks made.1.held are (true_after old mid new steps.reads honest) now others in
     let replaced = c.changes_of.new.replaced.items in
-    let spells = spells_with_maps is.objects mid.spaces now changes next c.in_ok-made.ensures.next unmade made.9 all planned_maps.2 planned_maps.3 planned_maps.0 made.0 c.args.group _ made.3 in
+    let spells = spells_with_maps is.objects mid.spaces now changes next c.in_ok-made.ensures.next unmade made.9 all planned_maps.2 planned_maps.3 planned_maps.0 made.0 c.args.group.now.number c.args.group.now.spans _ made.3 in
     let given : Given replaced = subst Given (sym (made.5 ∙ ap (λ (front : List Block). front ++ made.4) c.requires.none)) made.6 in
     let same = spaces_stay mid new [] c.plan_maps.ensures.reads in (
       made.0,

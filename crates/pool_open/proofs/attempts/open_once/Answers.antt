@@ -73,6 +73,7 @@ returns-in_ok-core-in-Ok-claim-clause-attempted g c =
       root = c.in_ok-core-in-Ok-claim.ensures.root;
       outs = c.in_ok-core-in-Ok-claim.ensures.out;
       vdevs = c.in_ok-core-in-Ok-claim.ensures.shapes;
+      spans = c.in_ok-core-in-Ok-claim.ensures.spans;
       represents = c.in_ok-core-in-Ok-claim.ensures.represents;
     } in
     let made = subst (λ (u : Uberblock). M later u) c.in-Ok-claim.ensures.answer

@@ -3,6 +3,7 @@ use Rattle.block_store.specs.Places.{shapes_of}
 use Rattle.block_store.specs.Store.{is_out}
 use Rattle.block_store.specs.declared.shape.VdevShape.{VdevShape}
 use Rattle.pool_core.specs.Represents.{Represents}
+use Rattle.pool_core.specs.Spans.{HasSpansOpened}
 use Rattle.pool_core.specs.StateOf.{state_of}
 use Rattle.pool_model.specs.View.{opened_as}
 use Rattle.pool_open.specs.Held.{IsStoreOver}
@@ -52,3 +53,8 @@ returns-in-Err-opened-clause-refused g c =
       | inl memory ↦ inl (c.of_core.ensures.memory memory)
       | inr it ↦ inr (c.of_core.ensures.pointer it.0, record { store = c.in-Ok.store; over = over; empty = c.in-Ok.ensures.empty; misplaced = it.1 })
     ]
+
+pub returns-in-Ok-opened-clause-spans : goal.returns-in-Ok-opened-clause-spans
+returns-in-Ok-opened-clause-spans g c =
+    subst (λ (o : List Bool). HasSpansOpened o c.args.claimed.now.group (state_of c.in-Ok-opened.core).commit.kept.last) c.in-Ok.ensures.out
+    c.in-Ok-opened.ensures.spans

@@ -15,6 +15,7 @@ returns-clause-backs g c =
       committed = c.new-3.ensures.committed;
       root = ap (λ (kept : KeptGroup). kept.root) c.new-3.ensures.last;
       directory = ap (λ (kept : KeptGroup). kept.directory.value) c.new-3.ensures.last ∙ c.in_ok-no_directory.ensures;
+      table = ap (λ (kept : KeptGroup). kept.spans_under.value) c.new-3.ensures.last ∙ c.in_ok-no_spans.ensures;
       names = subst (λ (kept : KeptGroup). Knows kept.names.value no_volumes) (sym c.new-3.ensures.last) c.in_ok-no_names.ensures;
       before = c.new-3.ensures.before;
       earliest = c.new-3.ensures.earliest;

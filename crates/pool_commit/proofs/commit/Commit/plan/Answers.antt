@@ -1,4 +1,4 @@
-use Rattle.std.proofs.Common.{ℕ, suc, ◌≡◌, ◌≤◌, ⊎_elim, inl, inr, ◌-◌, ◌++◌, List, [], length, Option, Some, None, refl, sym, ap, ◌∙◌, subst, arith}
+use Rattle.std.proofs.Common.{ℕ, suc, ◌≡◌, ◌≤◌, ⊎_elim, inl, inr, ◌-◌, ◌++◌, Bool, List, [], length, Option, Some, None, refl, sym, ap, ◌∙◌, subst, arith}
 use Rattle.block_pointer.specs.declared.block.Block.{Block}
 use Rattle.model_disk.specs.Joint.{Disks}
 use Rattle.raidz_io.specs.Reads.{AreUntouched, IsHonestSince}
@@ -12,9 +12,10 @@ use Rattle.pool_commit.specs.declared.kept.Planned.{Planned}
 use Rattle.pool_commit.specs.Backs.{BeginsWithMaps, SpellsGroup}
 use Rattle.pool_commit.proofs.PlanMaps.{begins_with_maps}
 use Rattle.pool_commit.specs.Reading.{IsFaultIn}
-use Rattle.pool_commit.specs.Room.{IsNextRefused, IsPlanRefused}
+use Rattle.pool_commit.specs.Room.{IsGroupRefusedBehind, IsPlanRefused}
 use Rattle.vdev_label.specs.Plain.{config_view}
 use Rattle.pool_commit.specs.Space.{GivesBack}
+use Rattle.pool_commit.specs.Spans.{HasSpansAfter}
 use Rattle.pool_commit.specs.State.{State}
 use Rattle.pool_commit.specs.StateOf.{state_of}
 use Rattle.pool_commit.proofs.Backing.{last_spelled}
@@ -184,7 +185,7 @@ refused g c = record {
       c.in_ok-begin_plan.ensures.settled c.begin_plan.ensures.free;
   group = c.saturating_add-group.result;
   is_next = λ few. let same = c.committed.ensures in omega arith;
-  why = subst (λ (kept : KeptGroup). IsNextRefused c.begin_plan.new.self c.group_after.new.store kept.root kept.directory.value (config_view kept.config.value) c.saturating_add-group.result c.args.items.now c.in-Err.refusal)
+  why = subst (λ (kept : KeptGroup). IsGroupRefusedBehind c.begin_plan.new.self c.group_after.new.store kept c.saturating_add-group.result c.args.items.now c.in-Err.refusal)
       c.last-last.ensures c.in-Err.ensures.refused;
 }
 
@@ -307,6 +308,10 @@ returns-else-is_err-clause-from g c =
     from_made s c.give_back.new.store (record { after = c.in-Ok.next.after; uberblock = c.uberblock-uberblock.result; behind = c.in_ok-behind.behind })
     (given_back s c.group_after.new.store c.give_back.new.store _ c.saturating_add-group.result none made c.give_back.ensures.gives)
     (c.in_ok-behind.ensures.are.flushes ∙ in_use_still s c.begin_plan.new.self c.begin_plan.ensures.out c.begin_plan.ensures.shapes)
+    (subst (λ (group : ℕ). HasSpansAfter c.args.self.now.kept.last c.args.self.now.store.out group c.in-Ok.next.after)
+    (sym (ap (λ (u : Uberblock). u.group) c.uberblock-uberblock.ensures.is))
+    (subst (λ (out : List Bool). HasSpansAfter c.args.self.now.kept.last out c.saturating_add-group.result c.in-Ok.next.after) c.begin_plan.ensures.out
+    (subst (λ (kept : KeptGroup). HasSpansAfter kept c.begin_plan.new.self.out c.saturating_add-group.result c.in-Ok.next.after) c.last-last.ensures c.in-Ok.ensures.spans)))
 
 pub returns-in-Err-clause-from : goal.returns-in-Err-clause-from
 returns-in-Err-clause-from g c =

@@ -1,0 +1,10 @@
+//! Of which transaction groups each disk of a pool lacks blocks: how the pool's table of stale spans goes on.
+#![tactic(auto)]
+
+mod away;
+mod disks;
+mod opened;
+
+pub use away::spans_after;
+pub use disks::disk_guids;
+pub use opened::spans_opened;

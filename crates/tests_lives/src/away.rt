@@ -1,0 +1,84 @@
+//! Disks that are away and come back: which groups they lack.
+use meta_objset::StaleSpans;
+use stale_disks::{disk_guids, spans_after, spans_opened};
+use std::alloc::{AllocError, Global};
+use std::test::Fail;
+use vdev_label::{Config, Vdev};
+
+/// Whether a group is planned or opened, its number, which of three disks are out, and the spans then.
+type Case = (bool, u64, [bool; 3], &'static str);
+
+const LIFE: [Case; 9] = [
+    (true, 5, [false, false, false], ""),
+    (true, 6, [false, false, true], "13 from 6 "),
+    (true, 7, [false, true, true], "12 from 7 13 from 6 "),
+    (false, 7, [false, true, false], "12 from 7 13 6 to 7 "),
+    (true, 8, [false, true, false], "12 from 7 13 6 to 7 "),
+    (true, 9, [false, true, true], "12 from 7 13 from 6 "),
+    (false, 9, [true, false, false], "12 7 to 9 13 6 to 9 "),
+    (
+        true,
+        10,
+        [true, false, false],
+        "11 from 10 12 7 to 9 13 6 to 9 ",
+    ),
+    (false, 9, [false, false, false], "12 7 to 9 13 6 to 9 "),
+];
+
+fn three_disks(alloc: Global) -> Result<Config, AllocError> {
+    let children = vec![in alloc; 11, 12]?;
+    let others = vec![in alloc; 13]?;
+    let vdevs = vec![in alloc; vdev(children), vdev(others)]?;
+    Ok(Config { vdevs })
+}
+
+fn vdev(children: Vec<u64>) -> Vdev {
+    Vdev {
+        guid: 10,
+        parity: 1,
+        child_sectors: 7168,
+        slab_shift: 12,
+        meta_slabs: 1,
+        children,
+    }
+}
+
+/// The spans, each with its end where it has one.
+fn told(alloc: Global, spans: &StaleSpans) -> Result<String, AllocError> {
+    let mut text = String::new(alloc);
+    for span in spans.rows() {
+        let (disk, from, to) = (span.disk, span.from, span.to);
+        let row = match to {
+            u64::MAX => format!(in alloc; "{disk} from {from} ")?,
+            _ => format!(in alloc; "{disk} {from} to {to} ")?,
+        };
+        text.push_str(row.as_str())?;
+    }
+    Ok(text)
+}
+
+/// The steps behind which the spans are others than they should.
+fn wrong_steps(alloc: Global) -> Result<String, AllocError> {
+    let guids = disk_guids(alloc, &three_disks(alloc)?)?;
+    let mut spans = StaleSpans::new(alloc);
+    let mut wrong = String::new(alloc);
+    for (is_planned, group, out, wanted) in &LIFE {
+        spans = if *is_planned {
+            spans_after(alloc, &spans, &guids, out, *group)?
+        } else {
+            spans_opened(alloc, &spans, &guids, out, *group)?
+        };
+        let came = told(alloc, &spans)?;
+        if came.as_str() != *wanted {
+            wrong.push_str(format!(in alloc; "{group}: {came}\n")?.as_str())?;
+        }
+    }
+    Ok(wrong)
+}
+
+#[test]
+fn spans_go_on(rt: HostRuntime) -> Result<(), Fail> {
+    let wrong = wrong_steps(rt.alloc())?;
+    assert!(rt; wrong.is_empty(), "{wrong}");
+    Ok(())
+}
