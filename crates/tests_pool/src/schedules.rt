@@ -242,7 +242,7 @@ device -> replan 1
 device -> refused 13 NotNow
 under 4 v 511 2 -> 00x2
 plan -> planned 5
-times 10 device -> moved Blocks
+times 11 device -> moved Blocks
 device -> moved BlocksFlush
 times 2 device -> moved Slots
 device -> committed 5
@@ -539,7 +539,7 @@ const DROPPED: &str = "out 1 -> out
 device -> refused 13 NotNow
 plan -> planned 5
 commit -> refused 13 NotNow
-times 10 device -> moved Blocks
+times 11 device -> moved Blocks
 device -> moved BlocksFlush
 times 2 device -> moved Slots
 device -> committed 5
