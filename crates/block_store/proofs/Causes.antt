@@ -1,6 +1,10 @@
 -- Causes of refusals, and what was done before.
 use Rattle.std.proofs.Common.{ℕ, ◌≡◌, ◌⊎◌, inl, inr, List, ◌++◌, refl, sym, subst}
+use Rattle.block_pointer.specs.Property.{FitsProperty}
 use Rattle.block_pointer.specs.declared.block.Block.{Block}
+use Rattle.block_pointer.specs.declared.property.Property.{Property}
+use Rattle.block_store.specs.Blocks.{count_of}
+use Rattle.block_store.specs.declared.block.CopyCount.{CopyCount}
 use Rattle.block_store.specs.declared.refusal.Refusal.{Refusal}
 use Rattle.block_store.specs.declared.refusal.Refusal.TheVariants.{NoMemory, DiskFault, NoSpace, BadPointer, BadDigest, BadConfig}
 use Rattle.block_store.specs.Causes.{IsCaused}
@@ -17,7 +21,12 @@ pub caused_behind : (old mid new : Store) (missing : List ℕ) (refusal : Refusa
 caused_behind old mid new missing NoMemory steps cause = tt
 caused_behind old mid new missing DiskFault steps lost = lost_later old mid new missing steps lost
 caused_behind old mid new missing NoSpace steps short =
-    record { sectors = short.sectors; copies = short.copies; none = no_room_on old mid new missing short.sectors short.copies steps short.none }
+    record {
+      property = short.property;
+      fits = short.fits;
+      copies = short.copies;
+      none = no_room_on old mid new missing short.property.sectors (count_of short.copies) steps short.none;
+    }
 caused_behind old mid new missing BadPointer steps cause = tt
 caused_behind old mid new missing BadDigest steps cause = tt
 caused_behind old mid new missing BadConfig steps cause = tt
@@ -40,8 +49,9 @@ read_is_caused old new missing block Bad BadDigest (inr (inr fault)) = tt
 read_is_caused old new missing block Bad BadConfig (inr (inr fault)) = tt
 
 -- of a block that is planned
-pub plan_is_caused : (old new : Store) (missing : List ℕ) (sectors copies : ℕ) (refusal : Refusal)
-    → (refusal ≡ NoMemory) ⊎ ((refusal ≡ NoSpace) × RanOut old.spaces sectors copies new.spaces) → IsCaused old new missing refusal
-plan_is_caused old new missing sectors copies refusal (inl memory) = subst (λ (cause : Refusal). IsCaused old new missing cause) (sym memory) tt
-plan_is_caused old new missing sectors copies refusal (inr (space, out)) =
-    subst (λ (cause : Refusal). IsCaused old new missing cause) (sym space) (record { sectors = sectors; copies = copies; none = no_room_now old new missing sectors copies out })
+pub plan_is_caused : (old new : Store) (missing : List ℕ) (property : Property) (copies : CopyCount) (refusal : Refusal) → FitsProperty property
+    → (refusal ≡ NoMemory) ⊎ ((refusal ≡ NoSpace) × RanOut old.spaces property.sectors (count_of copies) new.spaces) → IsCaused old new missing refusal
+plan_is_caused old new missing property copies refusal fits (inl memory) = subst (λ (cause : Refusal). IsCaused old new missing cause) (sym memory) tt
+plan_is_caused old new missing property copies refusal fits (inr (space, out)) =
+    subst (λ (cause : Refusal). IsCaused old new missing cause) (sym space)
+    (record { property = property; fits = fits; copies = copies; none = no_room_now old new missing property.sectors (count_of copies) out })

@@ -12,7 +12,7 @@ use Rattle.block_store.specs.Spaces.{VdevSpace}
 use Rattle.block_store.specs.Losses.{IsBlockLost, LossesAreNotTolerable}
 use Rattle.block_store.specs.Reading.{IsFailedCopy, HaveFailed, IsLastFault}
 use Rattle.block_store.specs.Steps.{OnlyReadsBlocks, OnlyReadsAndPlans, LossIsTolerable}
-use Rattle.block_store.specs.Store.{Store, outs}
+use Rattle.block_store.specs.Store.{Store, outs, missed}
 use Rattle.block_store.proofs.ReadingLost.{absent_earlier, few_lost}
 use Rattle.block_store.proofs.ReadingSteps.{reads_on}
 use Rattle.block_store.proofs.Steps.{steps_none, steps_read, steps_on, few_after}
@@ -56,16 +56,16 @@ more_are_lost spaces absent block i old new failed = elim failed.cause [ inl (is
 not_tolerable_now : FewAreNotMore → (old new : Store) (missing : List ℕ) (block : Block) → IsLastFault old new (outs old ++ missing) block DiskFault
     → ¬ LossIsTolerable old new missing
 not_tolerable_now law old new missing block fault tolerable =
-    let absent : List ℕ = outs old ++ missing in
+    let absent : List ℕ = (outs old ++ missing) ++ missed old block.birth in
     let n : ℕ = length (dvas block.copies) - 1 in
     let extent : Extent = fault.last.extent in
     let at = fault.last.is_copy.extent_is in
     let before : OnlyReads old.disks fault.mid = failed_reads old.spaces absent block n old.disks fault.mid fault.earlier in
     let few = few_lost at.space.shape.vdev extent (absent_since old.disks new.disks absent) (absent_since fault.mid new.disks absent) at.vdev
-    (λ disk held. absent_earlier old.disks fault.mid new.disks absent disk before held) (tolerable fault.last.is_copy.place.vdev at.space at.found) in
+    (λ disk held. absent_earlier old.disks fault.mid new.disks absent disk before held) (tolerable block.birth fault.last.is_copy.place.vdev at.space at.found) in
     law extent (absent_since fault.mid new.disks absent) few (more_are_lost old.spaces absent block n fault.mid new.disks fault.last)
 
 pub not_tolerable : FewAreNotMore → LossesAreNotTolerable
 not_tolerable law old new missing loss tolerable =
     not_tolerable_now law loss.mid new missing loss.block loss.fault
-    (few_after old loss.mid new missing loss.before.reads loss.before.out loss.before.shapes tolerable)
+    (few_after old loss.mid new missing loss.before.reads loss.before.out loss.before.stale loss.before.shapes tolerable)

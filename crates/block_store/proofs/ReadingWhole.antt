@@ -1,6 +1,6 @@
 -- What a read of a block gives.
 use Rattle.std.proofs.Common.{ℕ, ◌≡◌, ◌⊎◌, inl, inr, ◌-◌, Some, Ok, Err, Result, IfOk, IfErr, OnOk, List, Vec, Global, [], ◌++◌, length, append-nil, sym, ap, subst, arith}
-use Rattle.std.proofs.lemmas.List.Elements.{Contains-append_left}
+use Rattle.std.proofs.lemmas.List.Elements.{Contains-append_left, Contains-append_right}
 use Rattle.model_disk.specs.Joint.{content, failed_since}
 use Rattle.model_disk.specs.Laws.{PartsAreHonest}
 use Rattle.block_pointer.specs.declared.block.Block.{Block}
@@ -16,7 +16,7 @@ use Rattle.block_store.specs.declared.refusal.Refusal.TheVariants.{NoMemory, Bad
 use Rattle.block_store.specs.Blocks.{Contents}
 use Rattle.block_store.specs.Losses.{IsForLoss}
 use Rattle.block_store.specs.Reading.{Asks, IsReadable, IsLastFault, IsFirstRead, IsFailedCopy, HaveFailed, IsReadUpTo}
-use Rattle.block_store.specs.Store.{Store, outs, lost, Holds}
+use Rattle.block_store.specs.Store.{Store, outs, missed, lost, Holds}
 use Rattle.block_store.proofs.Lost.{lose_same, lost_is_out}
 use Rattle.block_store.proofs.Kept.{IsKept}
 use Rattle.block_store.proofs.ReadingLost.{honest_later, stands_later}
@@ -32,10 +32,10 @@ pub record Laws : Type 0 where
 -- the copies of a block were read, and nothing but the disks is another
 pub record IsBlockRead (old new : Store) (missing : List ℕ) (block : Block) (result : Result (Vec ℕ Global) Refusal) : Type 0 where
   pub rest : new ≡ record old { disks = new.disks }
-  pub read : IsReadUpTo old.spaces (outs old ++ missing) block (length (dvas block.copies)) old.disks new.disks result
+  pub read : IsReadUpTo old.spaces ((outs old ++ missing) ++ missed old block.birth) block (length (dvas block.copies)) old.disks new.disks result
 
 pub block_read : (old new : Store) (missing : List ℕ) (block : Block) (result : Result (Vec ℕ Global) Refusal) (absent : List ℕ) (places : List Dva)
-    → absent ≡ outs old ++ missing → places ≡ dvas block.copies → new ≡ record old { disks = new.disks }
+    → absent ≡ (outs old ++ missing) ++ missed old block.birth → places ≡ dvas block.copies → new ≡ record old { disks = new.disks }
     → IsReadUpTo old.spaces absent block (length places) old.disks new.disks result → IsBlockRead old new missing block result
 block_read old new missing block result absent places absent_is places_are rest read = record {
   rest = rest;
@@ -49,9 +49,9 @@ pub reads : (old new : Store) (missing : List ℕ) (block : Block) (result : Res
 reads old new missing block result is = reads_on old.disks is.read.mid new.disks is.read.before is.read.read.reads
 
 pub untouched : (old new : Store) (missing : List ℕ) (block : Block) (result : Result (Vec ℕ Global) Refusal) → IsBlockRead old new missing block result
-    → AreUntouched (outs old ++ missing) old.disks new.disks
+    → AreUntouched ((outs old ++ missing) ++ missed old block.birth) old.disks new.disks
 untouched old new missing block result is =
-    untouched_on (outs old ++ missing) old.disks is.read.mid new.disks is.read.untouched is.read.read.untouched
+    untouched_on ((outs old ++ missing) ++ missed old block.birth) old.disks is.read.mid new.disks is.read.untouched is.read.read.untouched
 
 pub is_kept : Laws → (old new : Store) (missing : List ℕ) (block : Block) (result : Result (Vec ℕ Global) Refusal) → IsBlockRead old new missing block result
     → IsKept old new
@@ -70,13 +70,16 @@ is_kept laws old new missing block result is = record {
 -- a block that is stored stands where the last copy was read
 pub stands_there : Laws → (old new : Store) (missing : List ℕ) (block : Block) (result : Result (Vec ℕ Global) Refusal) (stored : Contents) (bytes : List ℕ)
     → (is : IsBlockRead old new missing block result) → Holds old stored → stored block ≡ Some bytes
-    → ExtentStands (content is.read.mid) (absent_since is.read.mid new.disks (outs old ++ missing)) is.read.read.extent bytes
+    → ExtentStands (content is.read.mid) (absent_since is.read.mid new.disks ((outs old ++ missing) ++ missed old block.birth)) is.read.read.extent bytes
 stands_there laws old new missing block result stored bytes is holds known =
-    stands_later laws.reads_keep laws.kept laws.more_absent old.disks is.read.mid (lost old block.birth) (absent_since is.read.mid new.disks (outs old ++ missing)) is.read.read.extent
+    stands_later laws.reads_keep laws.kept laws.more_absent old.disks is.read.mid (lost old block.birth) (absent_since is.read.mid new.disks ((outs old ++ missing) ++ missed old block.birth)) is.read.read.extent
     bytes is.read.before
     (λ disk held.
-    Contains-append_left (outs old ++ missing) (failed_since (length is.read.mid.calls) new.disks.calls) disk
-    (Contains-append_left (outs old) missing disk (lost_is_out old block.birth disk held)))
+    Contains-append_left ((outs old ++ missing) ++ missed old block.birth) (failed_since (length is.read.mid.calls) new.disks.calls) disk
+    (elim (lost_is_out old block.birth disk held) [
+      | inl out ↦ Contains-append_left (outs old ++ missing) (missed old block.birth) disk (Contains-append_left (outs old) missing disk out)
+      | inr stale ↦ Contains-append_right (outs old ++ missing) (missed old block.birth) disk stale
+    ]))
     (holds.stand block bytes is.read.i is.read.read.extent known is.read.read.is_copy)
 
 pub bytes_right : Laws → (old new : Store) (missing : List ℕ) (block : Block) (result : Result (Vec ℕ Global) Refusal) → IsBlockRead old new missing block result
@@ -100,11 +103,11 @@ last_fault old new missing block asked (Err refusal) is =
     fault_of : (refusal ≡ DiskFault) ⊎ (refusal ≡ BadDigest) → IsLastFault old new (outs old ++ missing) block refusal
     fault_of fault =
         let last : is.read.i ≡ length (dvas block.copies) - 1 = omega (arith, is.read.last fault) in
-        let failed = failed_by old.spaces (outs old ++ missing) block is.read.i is.read.mid new.disks refusal fault is.read.read in
+        let failed = failed_by old.spaces ((outs old ++ missing) ++ missed old block.birth) block is.read.i is.read.mid new.disks refusal fault is.read.read in
         record {
           mid = is.read.mid;
-          earlier = subst (λ n. HaveFailed old.spaces (outs old ++ missing) block n old.disks is.read.mid) last is.read.earlier;
-          last = subst (λ n. IsFailedCopy old.spaces (outs old ++ missing) block n is.read.mid new.disks refusal) last failed;
+          earlier = subst (λ n. HaveFailed old.spaces ((outs old ++ missing) ++ missed old block.birth) block n old.disks is.read.mid) last is.read.earlier;
+          last = subst (λ n. IsFailedCopy old.spaces ((outs old ++ missing) ++ missed old block.birth) block n is.read.mid new.disks refusal) last failed;
         }
 
 -- the copies before the one that was read failed
@@ -125,7 +128,7 @@ pub is_known : Laws → (old new : Store) (missing : List ℕ) (block : Block) (
     → IsForLoss refusal)
 is_known laws old new missing block asked (Ok read) is = tt
 is_known laws old new missing block asked (Err refusal) is = λ stored bytes holds known asks honest.
-    let absent : List ℕ = absent_since is.read.mid new.disks (outs old ++ missing) in
+    let absent : List ℕ = absent_since is.read.mid new.disks ((outs old ++ missing) ++ missed old block.birth) in
     let extent : Extent = is.read.read.extent in
     elim is.read.read.refused [
       | inl none ↦ inl none

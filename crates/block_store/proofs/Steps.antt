@@ -27,7 +27,7 @@ use Rattle.block_store.specs.Places.{filled as filled_marks}
 use Rattle.block_store.specs.Plans.{Plans, KeepsPlans}
 use Rattle.block_store.specs.Reading.{FewAreAbsent, AreTolerable, IsReadable, IsReadAs}
 use Rattle.block_store.specs.Steps.{OnlyReadsBlocks, Placed, HavePlaced, OnlyReadsAndPlans, AnswersAreTrue, LossIsTolerable, HasNoRoomFor}
-use Rattle.block_store.specs.Store.{Store, Spans, Keeps, in_group, reaching, outs, outs_from, is_out}
+use Rattle.block_store.specs.Store.{Store, missed, stale_from, Spans, Keeps, in_group, reaching, outs, outs_from, is_out}
 use Rattle.block_store.proofs.ReadingLost.{failed_earlier}
 use Rattle.block_store.proofs.ReadingSteps.{reads_on as disk_reads_on, rest_on}
 
@@ -95,6 +95,14 @@ not_reaching spans birth le = cases (nat_lt birth spans.group) refl
     cases true is = absurd (not_below_is birth spans.group is le)
     cases false is = refl
 
+-- which groups disks missed before is the same in any case
+stale_reaching : (spans : Spans) (birth : ℕ) → (reaching spans birth).stale ≡ spans.stale
+stale_reaching spans birth = cases (nat_lt birth spans.group)
+  where
+    cases : (test : Bool) → (if test then in_group spans birth else spans).stale ≡ spans.stale
+    cases true = refl
+    cases false = refl
+
 spans_once : (old new : Store) (sectors copies birth : ℕ) (places : List Dva) → new.spans ≡ reaching old.spans birth
     → All (λ (block : Placed). old.spans.group ≤ block.birth) (record { sectors = sectors; copies = copies; birth = birth; places = places } ∷ []) → new.spans ≡ old.spans
 spans_once old new sectors copies birth places spans all =
@@ -109,6 +117,7 @@ steps_none store missing = record {
   placed = [];
   were_placed = refl;
   spans = λ all. refl;
+  stale = refl;
   reads = OnlyReads-none store.disks;
   untouched = λ disk held. refl;
   keeps = λ stored held. held;
@@ -127,6 +136,7 @@ steps_read old new missing reads = record {
   placed = [];
   were_placed = ap (λ (s : Store). s.spaces) reads.rest;
   spans = λ all. ap (λ (s : Store). s.spans) reads.rest;
+  stale = ap (λ (s : Store). s.spans.stale) reads.rest;
   reads = reads.reads;
   untouched = reads.untouched;
   keeps = reads.keeps;
@@ -155,6 +165,7 @@ steps_plan old new missing sectors birth copies (Ok block) bytes disks out spans
   placed = record { sectors = sectors; copies = copies; birth = birth; places = dvas block.copies } ∷ [];
   were_placed = placed_once old.spaces sectors copies birth (dvas block.copies) new.spaces places;
   spans = spans_once old new sectors copies birth (dvas block.copies) spans;
+  stale = ap (λ (s : Spans). s.stale) spans ∙ stale_reaching old.spans birth;
   reads = no_reads old.disks new.disks disks;
   untouched = λ disk held. ap (λ (d : Disks). calls_on disk d.calls) disks;
   keeps = keeps;
@@ -171,6 +182,7 @@ steps_plan old new missing sectors birth copies (Err refusal) bytes disks out sp
   placed = record { sectors = sectors; copies = copies; birth = birth; places = some.0 } ∷ [];
   were_placed = placed_once old.spaces sectors copies birth some.0 new.spaces some.2;
   spans = spans_once old new sectors copies birth some.0 spans;
+  stale = ap (λ (s : Spans). s.stale) spans ∙ stale_reaching old.spans birth;
   reads = no_reads old.disks new.disks disks;
   untouched = λ disk held. ap (λ (d : Disks). calls_on disk d.calls) disks;
   keeps = keeps;
@@ -192,6 +204,7 @@ steps_on old mid new missing first rest = record {
       let P : Placed → Type 0 = λ block. old.spans.group ≤ block.birth in
       let before : mid.spans ≡ old.spans = first.spans (all_front P first.placed rest.placed all) in
       rest.spans (subst (λ (s : Spans). All (λ (block : Placed). s.group ≤ block.birth) rest.placed) (sym before) (all_back P first.placed rest.placed all)) ∙ before;
+  stale = rest.stale ∙ first.stale;
   reads = disk_reads_on old.disks mid.disks new.disks first.reads rest.reads;
   untouched = λ disk held.
       rest.untouched disk (subst (λ disks. Contains (disks ++ missing) disk) (sym (same_outs old mid first.out)) held)
@@ -260,23 +273,28 @@ tolerable_shapes spaces others absent same few v space found =
     subst (λ (shape : VdevShape). FewAreAbsent shape.vdev absent) there.2 (few v there.0 there.1)
 
 pub few_before : (old mid new : Store) (missing : List ℕ) → OnlyReads mid.disks new.disks → LossIsTolerable old new missing → LossIsTolerable old mid missing
-few_before old mid new missing rest few =
+few_before old mid new missing rest few birth =
+    let absent : List ℕ = (outs old ++ missing) ++ missed old birth in
     let failed : List ℕ = failed_since (length old.disks.calls) new.disks.calls in
     let fewer : List ℕ = failed_since (length old.disks.calls) mid.disks.calls in
-    fewer_absent old.spaces ((outs old ++ missing) ++ failed) ((outs old ++ missing) ++ fewer)
-    (absent_more (outs old ++ missing) (outs old ++ missing) failed fewer refl (λ disk held.
+    fewer_absent old.spaces (absent ++ failed) (absent ++ fewer)
+    (absent_more absent absent failed fewer refl (λ disk held.
     subst (λ calls. Contains (failed_since (length old.disks.calls) calls) disk) (sym rest.calls)
-    (failed_since-append (length old.disks.calls) rest.newer mid.disks.calls disk held))) few
+    (failed_since-append (length old.disks.calls) rest.newer mid.disks.calls disk held))) (few birth)
 
-pub few_after : (old mid new : Store) (missing : List ℕ) → OnlyReads old.disks mid.disks → mid.out ≡ old.out → shapes_of mid.spaces ≡ shapes_of old.spaces
-    → LossIsTolerable old new missing → LossIsTolerable mid new missing
-few_after old mid new missing first out shapes few =
+pub few_after : (old mid new : Store) (missing : List ℕ) → OnlyReads old.disks mid.disks → mid.out ≡ old.out → mid.spans.stale ≡ old.spans.stale
+    → shapes_of mid.spaces ≡ shapes_of old.spaces → LossIsTolerable old new missing → LossIsTolerable mid new missing
+few_after old mid new missing first out stale shapes few birth =
+    let absent : List ℕ = (outs old ++ missing) ++ missed old birth in
+    let later : List ℕ = (outs mid ++ missing) ++ missed mid birth in
+    let same : later ≡ absent =
+    ap (λ disks. (disks ++ missing) ++ missed mid birth) (same_outs old mid out) ∙ ap (λ them. (outs old ++ missing) ++ stale_from 0 them birth) stale in
     let failed : List ℕ = failed_since (length old.disks.calls) new.disks.calls in
     let fewer : List ℕ = failed_since (length mid.disks.calls) new.disks.calls in
-    tolerable_shapes old.spaces mid.spaces ((outs mid ++ missing) ++ fewer) shapes
-    (fewer_absent old.spaces ((outs old ++ missing) ++ failed) ((outs mid ++ missing) ++ fewer)
-    (absent_more (outs old ++ missing) (outs mid ++ missing) failed fewer (ap (λ disks. disks ++ missing) (same_outs old mid out))
-    (λ disk held. failed_earlier (length old.disks.calls) (length mid.disks.calls) new.disks.calls disk (length-OnlyReads old.disks mid.disks first) held)) few)
+    tolerable_shapes old.spaces mid.spaces (later ++ fewer) shapes
+    (fewer_absent old.spaces (absent ++ failed) (later ++ fewer)
+    (absent_more absent later failed fewer same
+    (λ disk held. failed_earlier (length old.disks.calls) (length mid.disks.calls) new.disks.calls disk (length-OnlyReads old.disks mid.disks first) held)) (few birth))
 
 -- ---- there is no room
 

@@ -19,6 +19,6 @@ pub record IsBlockLost (old new : Store) (missing : List ℕ) : Type 0 where
   pub before : OnlyReadsAndPlans old mid missing
   pub fault : IsLastFault mid new (outs mid ++ missing) block DiskFault
 
--- where a block is lost, some vdev lacks more disks than it has parities
+-- where a block is lost, for some birth a vdev lacks more disks than it has parities
 abbrev pub LossesAreNotTolerable : Type 0
 LossesAreNotTolerable = (old new : Store) (missing : List ℕ) → IsBlockLost old new missing → ¬ LossIsTolerable old new missing

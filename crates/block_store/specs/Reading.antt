@@ -1,5 +1,5 @@
 -- Reads of blocks.
-use Rattle.std.specs.Prelude.{ℕ, zero, suc, ◌≡◌, ◌⊎◌, ◌+◌, ◌-◌, ◌*◌, ◌<◌, ◌≤◌, Some, Result, Ok, Err, IfOk, IfErr, List, Vec, length, slice_get, Contains}
+use Rattle.std.specs.Prelude.{ℕ, zero, suc, ◌≡◌, ◌⊎◌, ◌++◌, ◌+◌, ◌-◌, ◌*◌, ◌<◌, ◌≤◌, Some, Result, Ok, Err, IfOk, IfErr, List, Vec, length, slice_get, Contains}
 use Rattle.std.specs.declared.alloc.Global.{Global}
 use Rattle.sha2.specs.Sha256.{sha256}
 use Rattle.model_disk.specs.Joint.{Disks, content}
@@ -15,7 +15,7 @@ use Rattle.block_store.specs.declared.refusal.Refusal.{Refusal}
 use Rattle.block_store.specs.declared.refusal.Refusal.TheVariants.{NoMemory, DiskFault, BadDigest}
 use Rattle.block_store.specs.Spaces.{VdevSpace}
 use Rattle.block_store.specs.Places.{ArePlacesIn, IsCopy}
-use Rattle.block_store.specs.Store.{Store}
+use Rattle.block_store.specs.Store.{Store, missed}
 
 -- the pointer is one that its parent may have
 pub record Asks (asked : Asked) (block : Block) : Type 0 where
@@ -59,18 +59,19 @@ HaveFailed spaces absent block zero old new = new ≡ old
 HaveFailed spaces absent block (suc n) old new =
     (mid : Disks) × HaveFailed spaces absent block n old mid × (refusal : Refusal) × IsFailedCopy spaces absent block n mid new refusal
 
--- each copy before the last one failed, and this is why the last one could not be read
+-- Each copy before the last one failed, and this is why the last one could not be read, with these disks missing beside those that missed
+-- the group in which the block was born.
 pub record IsLastFault (old new : Store) (missing : List ℕ) (block : Block) (refusal : Refusal) : Type 0 where
   pub mid : Disks
-  pub earlier : HaveFailed old.spaces missing block (length (dvas block.copies) - 1) old.disks mid
-  pub last : IsFailedCopy old.spaces missing block (length (dvas block.copies) - 1) mid new.disks refusal
+  pub earlier : HaveFailed old.spaces (missing ++ missed old block.birth) block (length (dvas block.copies) - 1) old.disks mid
+  pub last : IsFailedCopy old.spaces (missing ++ missed old block.birth) block (length (dvas block.copies) - 1) mid new.disks refusal
 
--- a copy was read, once each before it had failed
+-- a copy was read, once each before it had failed, with the same disks missing
 pub record IsFirstRead (old new : Store) (missing : List ℕ) (block : Block) : Type 0 where
   pub i : ℕ
   pub below : i < length (dvas block.copies)
   pub mid : Disks
-  pub earlier : HaveFailed old.spaces missing block i old.disks mid
+  pub earlier : HaveFailed old.spaces (missing ++ missed old block.birth) block i old.disks mid
   pub reads : OnlyReads mid new.disks
 
 -- another copy may still be read

@@ -9,7 +9,7 @@ use Rattle.block_store.specs.Places.{shapes_of, AreChosen, RanOut}
 use Rattle.block_store.specs.Places.{filled as filled_marks}
 use Rattle.block_store.specs.Plans.{Plans, KeepsPlans}
 use Rattle.block_store.specs.Reading.{AreTolerable}
-use Rattle.block_store.specs.Store.{Store, Keeps, KeepsStored, outs, is_out}
+use Rattle.block_store.specs.Store.{Store, Keeps, KeepsStored, outs, missed, is_out}
 
 -- nothing was done but reads, none of them on a disk that is out or missing
 pub record OnlyReadsBlocks (old new : Store) (missing : List ℕ) : Type 0 where
@@ -35,7 +35,7 @@ HavePlaced spaces (block ∷ rest) after =
 
 -- Nothing was done but such reads, and new blocks were planned. What stored blocks fill is the same. More writes are due, none of
 -- them to a disk that is out. Each plan goes on, with what it had and perhaps more; so it does where a call was refused. What disks
--- that are out may lack is the same, where no block was born before the plan's group.
+-- that are out may lack is the same, where no block was born before the plan's group, and which groups disks missed before in any case.
 pub record OnlyReadsAndPlans (old new : Store) (missing : List ℕ) : Type 0 where
   pub out : new.out ≡ old.out
   pub shapes : shapes_of new.spaces ≡ shapes_of old.spaces
@@ -43,6 +43,7 @@ pub record OnlyReadsAndPlans (old new : Store) (missing : List ℕ) : Type 0 whe
   pub placed : List Placed
   pub were_placed : HavePlaced old.spaces placed new.spaces
   pub spans : All (λ block. old.spans.group ≤ block.birth) placed → new.spans ≡ old.spans
+  pub stale : new.spans.stale ≡ old.spans.stale
   pub reads : OnlyReads old.disks new.disks
   pub untouched : AreUntouched (outs old ++ missing) old.disks new.disks
   pub keeps : Keeps old new
@@ -56,9 +57,11 @@ pub record OnlyReadsAndPlans (old new : Store) (missing : List ℕ) : Type 0 whe
 abbrev pub AnswersAreTrue : Store → Store → Type 0
 AnswersAreTrue old new = IsHonestSince old.disks new.disks
 
--- no vdev lacks more disks than it has parities: those that are out, that are missing, and that failed since
+-- For no block a vdev lacks more disks than it has parities: those that are out, that are missing, that missed the group of its birth, and that
+-- failed since.
 abbrev pub LossIsTolerable : Store → Store → List ℕ → Type 0
-LossIsTolerable old new missing = AreTolerable old.spaces (absent_since old.disks new.disks (outs old ++ missing))
+LossIsTolerable old new missing =
+    (birth : ℕ) → AreTolerable old.spaces (absent_since old.disks new.disks ((outs old ++ missing) ++ missed old birth))
 
 -- there is no room: behind such reads and plans no free place was left for a copy of a block of so many sectors
 pub record HasNoRoomFor (old new : Store) (missing : List ℕ) (sectors copies : ℕ) : Type 0 where

@@ -1,5 +1,5 @@
 -- A store of blocks, and what it holds.
-use Rattle.std.specs.Prelude.{ℕ, ◌≡◌, ◌⊎◌, nat_le, nat_lt, Some, Bool, if◌then◌else◌, List, filter, slice_get, slice_index, Contains}
+use Rattle.std.specs.Prelude.{ℕ, ◌≡◌, ◌⊎◌, ◌++◌, nat_le, nat_lt, Some, Bool, if◌then◌else◌, List, filter, slice_get, slice_index, Contains}
 use Rattle.model_disk.specs.Joint.{Disks, content}
 use Rattle.block_pointer.specs.declared.block.Block.{Block}
 use Rattle.block_pointer.specs.declared.dva.Dva.{Dva}
@@ -7,7 +7,7 @@ use Rattle.block_pointer.specs.Copies.{dvas}
 use Rattle.raidz_io.specs.declared.vdev.Extent.{Extent}
 use Rattle.raidz_io.specs.Writes.{ColumnWrite}
 use Rattle.raidz_io.specs.Stands.{ExtentStands, IsColumnWrite}
-pub use Rattle.disk_set.specs.Outs.{Spans, is_out, IsOutToo, outs_from, in_group, spans_without}
+pub use Rattle.disk_set.specs.Outs.{Spans, is_out, is_stale, IsOutToo, outs_from, stale_from, in_group, spans_without}
 use Rattle.block_store.specs.Spaces.{VdevSpace}
 use Rattle.block_store.specs.Blocks.{Contents, IsWrittenAs}
 use Rattle.block_store.specs.Places.{Marks, filled, IsLaidOut, IsTaken, IsCopy, ArePlacesIn, ArePlacesApart}
@@ -24,9 +24,13 @@ pub record Store : Type 0 where
 abbrev pub outs : Store → List ℕ
 outs store = outs_from 0 store.out
 
--- the disks that are lost for a block that was born in that group: they are out since then, or since an earlier group
+-- the disks that missed the group in which a block was born
+abbrev pub missed : Store → ℕ → List ℕ
+missed store birth = stale_from 0 store.spans.stale birth
+
+-- the disks that are lost for a block that was born in that group: they are out since then, or since an earlier group, or missed it
 abbrev pub lost : Store → ℕ → List ℕ
-lost store birth = filter (λ disk. nat_le (slice_index store.spans.since disk) birth) (outs store)
+lost store birth = filter (λ disk. nat_le (slice_index store.spans.since disk) birth) (outs store) ++ missed store birth
 
 -- a block of the plan was born then: in the plan's group, or else the plan's group is an earlier one
 abbrev pub reaching : Spans → ℕ → Spans

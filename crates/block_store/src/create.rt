@@ -159,6 +159,7 @@ impl<D: Disk + Drop> BlockStore<D> {
             → calls_on which store.disks.calls ≡ log_of (map D.calls disks.items) which) }
         ensures out { IfOk result (λ store. (disk : ℕ) → is_out store.out disk ≡ false) }
         ensures group { IfOk result (λ store. store.spans.group ≡ 0) }
+        ensures stale { IfOk result (λ store. store.spans.stale ≡ []) }
         ensures due { IfOk result (λ store. store.due ≡ []) }
         ensures stray { IfOk result (λ store. store.stray ≡ false) }
 

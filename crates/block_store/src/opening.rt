@@ -23,7 +23,7 @@ use crate::shape::VdevShape;
 use crate::space::VdevMetaslabs;
 use crate::store::BlockStore;
 use block_pointer::{Block, Dva};
-use disk_set::DiskSet;
+use disk_set::{DiskSet, GroupSpan};
 use model_disk::{Disk, DiskArray};
 use std::alloc::{AllocError, Global};
 
@@ -106,7 +106,7 @@ impl<D: Disk + Drop> BlockStore<D> {
     ghost use Rattle.block_store.specs.Plans.{Plans};
 
     /// A store over disks that were used before, with the vdevs of the pool that is on them. No block is taken in, and no plan
-    /// begun. The disks that are marked are out from the start, and may lack every block; what stands for a disk that is away
+    /// begun. The disks that are marked are out from the start, and may lack every block, and none of the others missed a group; what stands for a disk that is away
     /// says a size all the same, and is never called. `BadConfig` where the vdevs don't take all disks in order, a disk is too
     /// small for its vdev or too large, a vdev has too many metaslabs or none outside its meta region, or there isn't one
     /// mark for each disk. After an error the disks come back as they were.
@@ -123,6 +123,7 @@ impl<D: Disk + Drop> BlockStore<D> {
         ensures since { IfOk result (λ store.
             store.spans.since ≡ replicate (length disks.starts) 0) }
         ensures group { IfOk result (λ store. store.spans.group ≡ 0) }
+        ensures stale { IfOk result (λ store. store.spans.stale ≡ []) }
         ensures due { IfOk result (λ store. store.due ≡ []) }
         ensures stray { IfOk result (λ store. store.stray ≡ false) }
 
@@ -156,6 +157,20 @@ impl<D: Disk + Drop> BlockStore<D> {
             }),
             Err(failed) => Err((Refusal::NoMemory, failed.value)),
         }
+    }
+
+    /// Of each disk, from the first on, the transaction groups that it missed, if any: of blocks that were born in them none of its columns
+    /// is read from then on. Disks behind the last one missed none. It takes the place of what was said before.
+    pub fn mark_stale(&mut self, stale: Vec<Option<GroupSpan>>)
+        ensures marked { self.new ≡ record self.old {
+          spans = record self.old.spans { stale = stale.items };
+        } }
+
+        // Where nothing is stored nothing is lost.
+        ensures plans { Plans self.old nothing_stored nothing_stored
+            → Plans self.new nothing_stored nothing_stored }
+    {
+        self.set.mark_stale(stale);
     }
 
     /// The disks, in the order of their numbers, with the record of all calls.

@@ -8,7 +8,7 @@ ghost use Rattle.block_store.specs.Causes.{IsCaused};
 ghost use Rattle.block_store.specs.Losses.{IsForLoss};
 ghost use Rattle.block_store.specs.Plans.{KeepsPlans};
 ghost use Rattle.block_store.specs.Reading.{Asks, IsReadable, IsLastFault, IsFirstRead, IsFault};
-ghost use Rattle.block_store.specs.Store.{Holds, Keeps, KeepsStored, outs};
+ghost use Rattle.block_store.specs.Store.{Holds, Keeps, KeepsStored, missed, outs};
 
 use crate::block::Asked;
 use crate::refusal::Refusal;
@@ -18,10 +18,11 @@ use block_pointer::{Block, Copies, Dva};
 use model_disk::Disk;
 use model_disk::laws::parts_are_honest;
 use raidz_io::{reads_keep_contents, stands_while_kept, stands_with_more_absent};
-use std::alloc::Global;
+use std::alloc::{AllocError, Global};
 
 impl<D: Disk + Drop> BlockStore<D> {
-    /// The bytes of a block, with the disks that are named taken as missing. The copies are tried in order, each with
+    /// The bytes of a block, with the disks that are named taken as missing, and so are those that missed the group in which it was
+    /// born. The copies are tried in order, each with
     /// its parity; where none can be read the last one's refusal is the answer: `DiskFault` where more of its columns
     /// are lost than its vdev has parities, on disks that are absent or fail in this read, and else `BadDigest`. A
     /// pointer that is not what its parent asks, or whose copies are in no places of their region, is `BadPointer`, and
@@ -36,6 +37,8 @@ impl<D: Disk + Drop> BlockStore<D> {
         ensures rest { self.new ≡ record self.old { disks = self.new.disks } }
         ensures reads { OnlyReads self.old.disks self.new.disks }
         ensures untouched { AreUntouched (outs self.old ++ missing.now)
+            self.old.disks self.new.disks }
+        ensures stale { AreUntouched (missed self.old block.now.birth)
             self.old.disks self.new.disks }
         ensures keeps { Keeps self.old self.new }
         ensures stores { KeepsStored self.old self.new }
@@ -71,7 +74,7 @@ impl<D: Disk + Drop> BlockStore<D> {
         if !self.is_readable(block, asked) {
             return Err(Refusal::BadPointer);
         }
-        let absent = self.set.absent(alloc, missing)?;
+        let absent = self.unread(alloc, missing, block.birth)?;
         let places = places_of(block.copies);
         self.read_places(alloc, places.as_slice(), block, absent.as_slice())
     }
@@ -107,6 +110,17 @@ fn is_fault(read: &Result<Vec<u8>, Refusal>) -> bool
 impl<D: Disk + Drop> BlockStore<D> {
     ghost use Rattle.block_store.specs.Places.{IsPlaceIn, IsPlaceFor, ArePlacesIn};
     ghost use Rattle.block_store.specs.Reading.{IsCopyRead, IsReadUpTo};
+
+    /// The disks of which nothing is read for a block that was born in that group: those that are out, those that are named, and those that
+    /// missed the group.
+    fn unread(&self, alloc: Global, missing: &[usize], birth: u64) -> Result<Vec<usize>, AllocError>
+        ensures { IfOk result (λ absent. absent.items
+            ≡ (outs self.now ++ missing.now) ++ missed self.now birth) }
+    {
+        let mut absent = self.set.absent(alloc, missing)?;
+        self.set.add_stale(birth, &mut absent)?;
+        Ok(absent)
+    }
 
     /// Whether the pointer is what its parent asks, and its copies are in places of their region.
     fn is_readable(&self, block: &Block, asked: Asked) -> bool

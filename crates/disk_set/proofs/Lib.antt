@@ -1,3 +1,4 @@
 pub mod Calls
+pub mod Missed
 pub mod Outs
 pub mod Spans

@@ -8,7 +8,9 @@ mod making;
 mod reading;
 mod rows;
 mod set;
+mod stale;
 
 pub use behind::{Behind, SlotWrite};
 pub use device::FailedDisk;
 pub use set::DiskSet;
+pub use stale::GroupSpan;

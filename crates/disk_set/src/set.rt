@@ -6,6 +6,7 @@ ghost use Rattle.raidz_io.specs.Writes.{ColumnWrite as DueWrite};
 ghost use Rattle.disk_set.specs.Outs.{is_out};
 ghost use Rattle.disk_set.specs.Set.{ArePoolDisks};
 
+use crate::stale::GroupSpan;
 use model_disk::{Disk, DiskArray};
 use raidz_io::ColumnWrite;
 use std::alloc::{AllocError, AllocFailed, Global};
@@ -15,7 +16,7 @@ use std::marker::Model;
 /// The disks of a pool, by their numbers from 0 on, with the writes of a plan that are due on them, in the plan's order.
 ///
 /// A disk that fails a write or a flush is out from then on. It is out since the group of the plan: of blocks that were born
-/// before it still has every column.
+/// before it still has every column, but for those of groups that it missed before.
 #[derive(Drop)]
 pub struct DiskSet<D: Disk + Drop> {
     pub(crate) disks: DiskArray<D>,
@@ -24,6 +25,8 @@ pub struct DiskSet<D: Disk + Drop> {
     pub(crate) since: Vec<u64>,
     /// No block of the plan was born before that group.
     pub(crate) group: u64,
+    /// Of each disk, the groups that it missed before; of those behind the last one there are none.
+    pub(crate) stale: Vec<Option<GroupSpan>>,
     pub(crate) due: VecDeque<ColumnWrite>,
 }
 
@@ -35,14 +38,14 @@ impl<D: Disk + Drop> Model for DiskSet<D> {
     ghost view = { λ s. record {
       disks = s.disks;
       out = s.out.items;
-      spans = record { since = s.since.items; group = s.group };
+      spans = record { since = s.since.items; group = s.group; stale = s.stale.items };
       due = s.due.items;
     } };
 
     ghost invariant = { λ s. ArePoolDisks (record {
       disks = s.disks;
       out = s.out.items;
-      spans = record { since = s.since.items; group = s.group };
+      spans = record { since = s.since.items; group = s.group; stale = s.stale.items };
       due = s.due.items;
     }) };
 }
@@ -61,6 +64,7 @@ impl<D: Disk + Drop> DiskSet<D> {
         ensures since { IfOk result (λ set.
             set.spans.since ≡ replicate (length disks.starts) 0) }
         ensures group { IfOk result (λ set. set.spans.group ≡ 0) }
+        ensures stale { IfOk result (λ set. set.spans.stale ≡ []) }
         ensures due { IfOk result (λ set. set.due ≡ []) }
         ensures back { IfErr result (λ failed. failed.value ≡ disks) }
     {
@@ -72,6 +76,7 @@ impl<D: Disk + Drop> DiskSet<D> {
             out,
             since,
             group: 0,
+            stale: Vec::new(alloc),
             due: VecDeque::new(alloc),
         })
     }

@@ -14,7 +14,7 @@ use Rattle.block_store.specs.Places.{shapes_of}
 use Rattle.block_store.specs.Places.{filled as filled_marks}
 use Rattle.block_store.specs.Spaces.{VdevSpace}
 use Rattle.block_store.specs.Steps.{OnlyReadsBlocks}
-use Rattle.block_store.specs.Store.{Store, is_out}
+use Rattle.block_store.specs.Store.{Store, is_out, is_stale}
 use Rattle.pool_commit.specs.declared.kept.KeptGroup.{KeptGroup}
 use Rattle.dataset_snapshots.specs.Pools.{SpellsPool}
 use Rattle.pool_model.specs.Pools.{PlainPool}
@@ -128,6 +128,7 @@ backs_after s store missing v reads backs =
       vdevs = backs.vdevs ∙ sym (ap (λ (t : Store). vdevs_of t.spaces) reads.rest);
       slots = backs.slots;
       out = λ disk. backs.out disk ∙ sym (ap (λ (t : Store). is_out t.out disk) reads.rest);
+      stale = λ disk birth. backs.stale disk birth ∙ sym (ap (λ (t : Store). is_stale t.spans.stale disk birth) reads.rest);
       committed = backs.committed;
       stamped = backs.stamped;
       blocks = record {

@@ -33,6 +33,7 @@ use Rattle.pool_commit.specs.Making.{writes_left, behind_left, flushes_left, slo
 use Rattle.pool_commit.specs.Progress.{LeftOut, with_plan}
 use Rattle.pool_commit.specs.Slots.{ShowsIn}
 use Rattle.pool_commit.specs.State.{State, group_at}
+use Rattle.pool_commit.proofs.Made.{stale_still}
 use Rattle.pool_commit.proofs.Disks.{take_next}
 use Rattle.pool_commit.proofs.Phasing.{none_to_flush}
 use Rattle.pool_commit.proofs.Progressing.{all_filtered, all_through, carried, fewer, filtered_behind, in_use_is, kept_others, kept_slots, no_length, not_that, outs_are, vdevs_by_shapes}
@@ -152,12 +153,13 @@ late_calls counts slot_counts store behind none flushed =
 -- the view without the disk, and without a plan
 dropped_backs : (s : State) (mid : Store) (v : View) (disk : ℕ) (new : State) (planned : Contents) (backs : Backs s v) → mid.spaces ≡ s.store.spaces
     → IsOutToo s.store.out disk mid.out → shapes_of new.store.spaces ≡ shapes_of mid.spaces → HaveMarks mid.spaces filled_marks new.store.spaces filled_marks
-    → new.store.out ≡ mid.out → Plans new.store backs.blocks.stored planned → new.kept ≡ s.kept → new.planned ≡ None → new.stamp ≡ s.stamp
+    → new.store.out ≡ mid.out → new.store.spans.stale ≡ s.store.spans.stale → Plans new.store backs.blocks.stored planned → new.kept ≡ s.kept → new.planned ≡ None → new.stamp ≡ s.stamp
     → Backs new (dropped v disk)
-dropped_backs s mid v disk new planned backs spaces too shapes marks out plans kept none stamp = record {
+dropped_backs s mid v disk new planned backs spaces too shapes marks out stale plans kept none stamp = record {
   vdevs = backs.vdevs ∙ ap (λ (them : List VdevSpace). vdevs_of them) (sym spaces) ∙ sym (vdevs_by_shapes mid.spaces new.store.spaces shapes);
   slots = backs.slots;
   out = λ other. outs_are s mid v disk backs.out too other ∙ ap (λ (outs : List Bool). is_out outs other) (sym out);
+  stale = stale_still s.store new.store v stale backs.stale;
   committed = ap (λ (k : Kept). k.committed) kept ∙ backs.committed;
   stamped = subst (λ (x : Stamp). AreStamped x new.kept) (sym stamp) (subst (λ (k : Kept). AreStamped s.stamp k) (sym kept) backs.stamped);
   blocks = record {
@@ -250,7 +252,7 @@ leaves_backs s mid plan v disk new backs unplanned same disks due too (inl (earl
     as_gone new v disk
     (ap is_late_sync backs.blocks.plan.sync
     ∙ early_calls backs.blocks.plan.counts backs.blocks.plan.slot_counts s.store.due plan.behind (⊎_elim (λ some. inl (subst (λ (d : List ColumnWrite). 0 < length d) due some)) inr early))
-    (dropped_backs (with_plan s plan) mid v disk new backs.blocks.stored backs same.spaces too drop.shapes drop.filled_by drop.out
+    (dropped_backs (with_plan s plan) mid v disk new backs.blocks.stored backs same.spaces too drop.shapes drop.filled_by drop.out (drop.stale ∙ same.stale)
     (drop.plans backs.blocks.stored backs.blocks.planned (same.plans backs.blocks.stored backs.blocks.planned backs.blocks.plans))
     kept (none ∙ unplanned) stamp)
 leaves_backs s mid plan v disk new backs unplanned same disks due too (inr (none, flushed, behind, left, is)) =
@@ -262,7 +264,7 @@ pub unplanned_backs : (s : State) (mid : Store) (v : View) (disk : ℕ) → Back
 unplanned_backs s mid v disk backs none same too =
     as_gone (record s { store = mid }) v disk
     (unplanned_late v.sync (subst (λ (o : Option Planned). IsPlanOf s backs.blocks.planned o v) none backs.blocks.plan))
-    (dropped_backs s mid v disk (record s { store = mid }) backs.blocks.planned backs same.spaces too refl (same_spaces mid.spaces mid.spaces filled_marks refl) refl
+    (dropped_backs s mid v disk (record s { store = mid }) backs.blocks.planned backs same.spaces too refl (same_spaces mid.spaces mid.spaces filled_marks refl) refl same.stale
     (same.plans backs.blocks.stored backs.blocks.planned backs.blocks.plans) refl none refl)
 
 -- ---- what is left of a plan

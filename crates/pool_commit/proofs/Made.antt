@@ -1,6 +1,6 @@
 -- Device calls that are made one after another.
-use Rattle.std.proofs.Common.{◌≡◌, ⊎_elim, inl, inr, ℕ, suc, ◌+◌, ◌<◌, ◌≤◌, Bool, true, false, List, [], ◌∷◌, ◌++◌, length, refl, sym, ap, ◌∙◌, subst, arith, append_assoc}
-use Rattle.std.specs.Prelude.{IfErr, nat_le, min, if◌then◌else◌, map}
+use Rattle.std.proofs.Common.{◌≡◌, ⊎_elim, inl, inr, ℕ, suc, ◌+◌, ◌<◌, ◌≤◌, Bool, true, false, List, [], ◌∷◌, ◌++◌, length, Option, refl, sym, ap, ◌∙◌, subst, arith, append_assoc}
+use Rattle.std.specs.Prelude.{IfErr, OnOk, nat_le, min, if◌then◌else◌, map, slice_set}
 use Rattle.std.specs.List.{AllByRecursion}
 use Rattle.std.proofs.lemmas.Bool.Decides.{nat_tests}
 use Rattle.std.proofs.lemmas.List.{append-nil, length-append}
@@ -10,10 +10,11 @@ use Rattle.raidz_io.proofs.Calls.{Contains-cases}
 use Rattle.raidz_io.specs.Writes.{ColumnWrite}
 use Rattle.model_disk.specs.Joint.{Disks, JointCall, on}
 use Rattle.block_store.specs.Plans.{KeepsPlans}
-use Rattle.block_store.specs.Store.{Store, IsOutToo}
+use Rattle.disk_set.specs.declared.stale.GroupSpan.{GroupSpan}
+use Rattle.block_store.specs.Store.{Store, Spans, GoesOut, IsOutToo, is_out, is_stale, spans_without}
 use Rattle.pool_model.specs.declared.step.Phase.{Phase}
 use Rattle.pool_model.specs.declared.step.Phase.TheVariants.{Slots}
-use Rattle.pool_model.specs.View.{DueCall}
+use Rattle.pool_model.specs.View.{DueCall, View}
 use Rattle.pool_model.specs.Flow.{counted_on}
 use Rattle.pool_model.specs.Machine.{due_write}
 use Rattle.pool_commit.specs.Calls.{disk_call, plan_call, fault_call, unread_call, told_since, made_between, faults_between, unread_between, GrewTo, IsWrite, IsFlushed, which_call, called_between}
@@ -65,6 +66,7 @@ pub record MadeOne (mid new : Store) (next : DueCall) (call : Call) : Type 0 whe
   pub starts : new.disks.starts ≡ mid.disks.starts
   pub calls : new.disks.calls ≡ on next.disk call ∷ mid.disks.calls
   pub spaces : new.spaces ≡ mid.spaces
+  pub stale : new.spans.stale ≡ mid.spans.stale
   pub plans : KeepsPlans mid new
   pub is_due : plan_call next.disk call ≡ disk_call next ∷ []
   pub fault : fault_call next.disk call ≡ (if is_failed call then disk_call next ∷ [] else [])
@@ -74,6 +76,7 @@ same_more : (old mid new : Store) (next : DueCall) (call : Call) → IsSameStore
 same_more old mid new next call same one = record {
   spaces = one.spaces ∙ same.spaces;
   grew = GrewTo-more old.disks mid.disks new.disks (on next.disk call) same.grew one.starts one.calls;
+  stale = one.stale ∙ same.stale;
   plans = λ stored planned held. one.plans stored planned (same.plans stored planned held);
 }
 
@@ -103,7 +106,7 @@ called_so old mid new next call made same one before =
 
 pub none_made : (store : Store) (left : List DueCall) (phase : Phase) → MadeCalls store store left left phase 0
 none_made store left phase = record {
-  same = record { spaces = refl; grew = GrewTo-none store.disks; plans = λ stored planned held. held };
+  same = record { spaces = refl; grew = GrewTo-none store.disks; stale = refl; plans = λ stored planned held. held };
   out = refl;
   made = [];
   seen = sym (made_by_none store.disks);
@@ -165,21 +168,45 @@ pub one_failed_before : (old mid new : Store) (left rest : List DueCall) (phase 
 unfolding one_failed
 one_failed_before old mid new left rest phase n next call so few one in_it failed out = (one_failed old mid new left rest phase n next call so few one in_it failed out, refl)
 
+-- ---- which groups disks missed
+
+without_stale : (out : List Bool) (spans : Spans) (disk : ℕ) → (spans_without out spans disk).stale ≡ spans.stale
+without_stale out spans disk = cases (is_out out disk)
+  where
+    cases : (was : Bool) → (if was then spans else record spans { since = slice_set spans.since disk spans.group }).stale ≡ spans.stale
+    cases true = refl
+    cases false = refl
+
+-- a disk goes out
+pub gone_stale : (old : Store) (disk : ℕ) (new : Store) → GoesOut old disk new → new.spans.stale ≡ old.spans.stale
+gone_stale old disk new gone = ap (λ (s : Spans). s.stale) gone ∙ without_stale old.out old.spans disk
+
+-- a call was made, and where it failed its disk is out
+pub call_stale : {T E : Type 0} (result : Result T E) (of : E → ℕ) (old new : Store) → OnOk result (new.spans ≡ old.spans) → IfErr result (λ failed. GoesOut old (of failed) new)
+    → new.spans.stale ≡ old.spans.stale
+call_stale (Ok x) of old new same gone = ap (λ (s : Spans). s.stale) same
+call_stale (Err failed) of old new same gone = gone_stale old (of failed) new gone
+
+-- where the same disks missed the same groups the view is right of them
+pub stale_still : (old new : Store) (v : View) → new.spans.stale ≡ old.spans.stale → ((disk birth : ℕ) → v.stale disk birth ≡ is_stale old.spans.stale disk birth)
+    → (disk birth : ℕ) → v.stale disk birth ≡ is_stale new.spans.stale disk birth
+stale_still old new v same is disk birth = is disk birth ∙ ap (λ (them : List (Option GroupSpan)). is_stale them disk birth) (sym same)
+
 -- ---- a write and a flush
 
 pub write_made : {T E : Type 0} (result : Result T E) (mid new : Store) (write : ColumnWrite) (number : ℕ) → is_ok result ≡ true
-    → new.disks.starts ≡ mid.disks.starts → new.spaces ≡ mid.spaces → KeepsPlans mid new
+    → new.disks.starts ≡ mid.disks.starts → new.spaces ≡ mid.spaces → new.spans.stale ≡ mid.spans.stale → KeepsPlans mid new
     → new.disks.calls ≡ on write.disk (write_call result write.offset write.bytes) ∷ mid.disks.calls
     → MadeOne mid new (due_write write.disk number) (write_call result write.offset write.bytes) × (is_failed (write_call result write.offset write.bytes) ≡ false)
-write_made (Ok x) mid new write number ok starts spaces plans calls = (record { starts = starts; calls = calls; spaces = spaces; plans = plans; is_due = refl; fault = refl; no_read = refl }, refl)
-write_made (Err x) mid new write number ok starts spaces plans calls = absurd (cc)
+write_made (Ok x) mid new write number ok starts spaces stale plans calls = (record { starts = starts; calls = calls; spaces = spaces; stale = stale; plans = plans; is_due = refl; fault = refl; no_read = refl }, refl)
+write_made (Err x) mid new write number ok starts spaces stale plans calls = absurd (cc)
 
 pub write_lost : {T E : Type 0} (result : Result T E) (mid new : Store) (write : ColumnWrite) (number : ℕ) → is_ok result ≡ false
-    → new.disks.starts ≡ mid.disks.starts → new.spaces ≡ mid.spaces → KeepsPlans mid new
+    → new.disks.starts ≡ mid.disks.starts → new.spaces ≡ mid.spaces → new.spans.stale ≡ mid.spans.stale → KeepsPlans mid new
     → new.disks.calls ≡ on write.disk (write_call result write.offset write.bytes) ∷ mid.disks.calls
     → MadeOne mid new (due_write write.disk number) (write_call result write.offset write.bytes) × (is_failed (write_call result write.offset write.bytes) ≡ true)
-write_lost (Err x) mid new write number ok starts spaces plans calls = (record { starts = starts; calls = calls; spaces = spaces; plans = plans; is_due = refl; fault = refl; no_read = refl }, refl)
-write_lost (Ok x) mid new write number ok starts spaces plans calls = absurd (cc)
+write_lost (Err x) mid new write number ok starts spaces stale plans calls = (record { starts = starts; calls = calls; spaces = spaces; stale = stale; plans = plans; is_due = refl; fault = refl; no_read = refl }, refl)
+write_lost (Ok x) mid new write number ok starts spaces stale plans calls = absurd (cc)
 
 -- a flush of either phase
 abbrev pub flush_due : Phase → ℕ → DueCall
@@ -192,20 +219,20 @@ as_flush : (phase : Phase) (disk : ℕ) → IsFlushPhase phase → plan_call dis
 as_flush phase disk flushes = ap (λ (b : Bool). with_flush disk b ∷ []) (sym (flushes disk 0))
 
 pub flush_made : {T E : Type 0} (result : Result T E) (mid new : Store) (phase : Phase) (disk : ℕ) → IsFlushPhase phase → is_ok result ≡ true
-    → new.disks.starts ≡ mid.disks.starts → new.spaces ≡ mid.spaces → KeepsPlans mid new
+    → new.disks.starts ≡ mid.disks.starts → new.spaces ≡ mid.spaces → new.spans.stale ≡ mid.spans.stale → KeepsPlans mid new
     → new.disks.calls ≡ on disk (flush_call result) ∷ mid.disks.calls
     → MadeOne mid new (flush_due phase disk) (flush_call result) × (is_failed (flush_call result) ≡ false)
-flush_made (Ok x) mid new phase disk flushes ok starts spaces plans calls =
-    (record { starts = starts; calls = calls; spaces = spaces; plans = plans; is_due = as_flush phase disk flushes; fault = refl; no_read = refl }, refl)
-flush_made (Err x) mid new phase disk flushes ok starts spaces plans calls = absurd (cc)
+flush_made (Ok x) mid new phase disk flushes ok starts spaces stale plans calls =
+    (record { starts = starts; calls = calls; spaces = spaces; stale = stale; plans = plans; is_due = as_flush phase disk flushes; fault = refl; no_read = refl }, refl)
+flush_made (Err x) mid new phase disk flushes ok starts spaces stale plans calls = absurd (cc)
 
 pub flush_lost : {T E : Type 0} (result : Result T E) (mid new : Store) (phase : Phase) (disk : ℕ) → IsFlushPhase phase → is_ok result ≡ false
-    → new.disks.starts ≡ mid.disks.starts → new.spaces ≡ mid.spaces → KeepsPlans mid new
+    → new.disks.starts ≡ mid.disks.starts → new.spaces ≡ mid.spaces → new.spans.stale ≡ mid.spans.stale → KeepsPlans mid new
     → new.disks.calls ≡ on disk (flush_call result) ∷ mid.disks.calls
     → MadeOne mid new (flush_due phase disk) (flush_call result) × (is_failed (flush_call result) ≡ true)
-flush_lost (Err x) mid new phase disk flushes ok starts spaces plans calls =
-    (record { starts = starts; calls = calls; spaces = spaces; plans = plans; is_due = as_flush phase disk flushes; fault = as_flush phase disk flushes; no_read = refl }, refl)
-flush_lost (Ok x) mid new phase disk flushes ok starts spaces plans calls = absurd (cc)
+flush_lost (Err x) mid new phase disk flushes ok starts spaces stale plans calls =
+    (record { starts = starts; calls = calls; spaces = spaces; stale = stale; plans = plans; is_due = as_flush phase disk flushes; fault = as_flush phase disk flushes; no_read = refl }, refl)
+flush_lost (Ok x) mid new phase disk flushes ok starts spaces stale plans calls = absurd (cc)
 
 -- ---- how many
 

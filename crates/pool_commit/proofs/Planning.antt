@@ -49,6 +49,7 @@ use Rattle.pool_commit.specs.Slots.{slots_of_disk, all_slots}
 use Rattle.pool_commit.specs.Config.{shown, vdevs_of}
 use Rattle.pool_commit.specs.Room.{IsBegun}
 use Rattle.pool_commit.specs.Space.{is_held_for, AreHeld, AreInUse, AreInBlocks, WereReleasedBy, GivesBack}
+use Rattle.pool_commit.proofs.Made.{stale_still}
 use Rattle.pool_commit.proofs.Accounting.{settled_in_blocks, settled_released_by, planned_in_blocks, planned_released_by, in_blocks_by, released_by_marks}
 use Rattle.pool_commit.specs.State.{State, group_at}
 use Rattle.pool_commit.proofs.Backing.{last_spelled}
@@ -221,6 +222,7 @@ pub record Begins (old new : Store) (group : ℕ) : Type 0 where
       → CopiesLieOn (Passes later) new.spaces filled_marks block
   pub plans : (stored : Contents) → Stores old stored → AreSpared group old.spaces stored → Plans new stored stored
   pub some : AreSettledInSome group old.spaces new.spaces
+  pub stale : new.spans.stale ≡ old.spans.stale
 
 -- what the kept groups lead to is held still
 begun_held : (s : State) (store : Store) (group : ℕ) (v : View) → Begins s.store store group → group ≤ suc s.kept.committed → (backs : Backs s v)
@@ -248,6 +250,7 @@ backs_begun s store group v out shapes begins next sync none backs =
       vdevs = backs.vdevs ∙ sym (same_vdevs s.store.spaces store.spaces shapes);
       slots = backs.slots;
       out = λ disk. backs.out disk ∙ sym (ap (λ (list : List Bool). is_out list disk) out);
+      stale = stale_still s.store store v begins.stale backs.stale;
       committed = backs.committed;
       stamped = backs.stamped;
       blocks = record {
@@ -286,6 +289,7 @@ backs_still s new v no_plan kept backs =
       vdevs = backs.vdevs ∙ sym (same_vdevs s.store.spaces new.spaces kept.shapes);
       slots = backs.slots;
       out = λ disk. backs.out disk ∙ sym (ap (λ (list : List Bool). is_out list disk) kept.out);
+      stale = stale_still s.store new v kept.stale backs.stale;
       committed = backs.committed;
       stamped = backs.stamped;
       blocks = record {
@@ -463,6 +467,7 @@ plan_is_backed s made new group last plan gone items v backs none next is_last a
         vdevs = backs.vdevs ∙ sym (same_vdevs s.store.spaces new.spaces shapes);
         slots = backs.slots;
         out = λ disk. backs.out disk ∙ sym (ap (λ (list : List Bool). is_out list disk) (gives.out ∙ kept.out));
+        stale = stale_still s.store new v (gives.stale ∙ kept.stale) backs.stale;
         committed = backs.committed;
         stamped = backs.stamped;
         blocks = record {
@@ -491,14 +496,15 @@ plan_is_backed s made new group last plan gone items v backs none next is_last a
 
 -- where blocks could not be given back the plan is dropped
 pub backs_dropped : (s : State) (made mid new : Store) (gone : List Block) (group : ℕ) (v : View) → s.planned ≡ None → OnlyReadsAndPlans s.store made []
-    → GivesBack made mid gone group → new.out ≡ mid.out → shapes_of new.spaces ≡ shapes_of mid.spaces → HaveMarks mid.spaces filled_marks new.spaces filled_marks
-    → ((stored : Contents) → Stores mid stored → Plans new stored stored) → Backs s v → Backs (record s { store = new }) v
-backs_dropped s made mid new gone group v no_plan kept gives out shapes filled plans backs =
+    → GivesBack made mid gone group → new.out ≡ mid.out → new.spans.stale ≡ mid.spans.stale → shapes_of new.spaces ≡ shapes_of mid.spaces
+    → HaveMarks mid.spaces filled_marks new.spaces filled_marks → ((stored : Contents) → Stores mid stored → Plans new stored stored) → Backs s v → Backs (record s { store = new }) v
+backs_dropped s made mid new gone group v no_plan kept gives out stale shapes filled plans backs =
     let there = kept.plans backs.blocks.stored backs.blocks.planned backs.blocks.plans in
     record {
       vdevs = backs.vdevs ∙ sym (same_vdevs s.store.spaces new.spaces (shapes ∙ gives.shapes ∙ kept.shapes));
       slots = backs.slots;
       out = λ disk. backs.out disk ∙ sym (ap (λ (list : List Bool). is_out list disk) (out ∙ gives.out ∙ kept.out));
+      stale = stale_still s.store new v (stale ∙ gives.stale ∙ kept.stale) backs.stale;
       committed = backs.committed;
       stamped = backs.stamped;
       blocks = record {
@@ -525,6 +531,6 @@ untouched_since old begun new disks out untouched disk held =
     untouched disk (Contains-append_left (outs begun) [] disk (subst (λ (flags : List Bool). Contains (outs_from 0 flags) disk) (sym out) held))
     ∙ ap (λ (d : Disks). calls_on disk d.calls) disks
 
-pub is_begun : (old begun : Store) (group : ℕ) → begun.disks ≡ old.disks → begun.out ≡ old.out → shapes_of begun.spaces ≡ shapes_of old.spaces
+pub is_begun : (old begun : Store) (group : ℕ) → begun.disks ≡ old.disks → begun.out ≡ old.out → begun.spans.stale ≡ old.spans.stale → shapes_of begun.spaces ≡ shapes_of old.spaces
     → AreSettledIn group old.spaces begun.spaces → HaveMarks begun.spaces filled_marks begun.spaces planned_marks → IsBegun group old begun
-is_begun old begun group disks out shapes settled free = record { disks = disks; out = out; shapes = shapes; settled = settled; free = free }
+is_begun old begun group disks out stale shapes settled free = record { disks = disks; out = out; stale = stale; shapes = shapes; settled = settled; free = free }

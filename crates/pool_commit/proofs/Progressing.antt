@@ -44,7 +44,7 @@ use Rattle.block_store.specs.Blocks.{Contents}
 use Rattle.pool_commit.proofs.Keeping.{first_low, groups_next, kept_next, last_at, last_kept}
 use Rattle.pool_commit.proofs.SlotWrites.{cases_in, there_first, there_later}
 use Rattle.pool_commit.proofs.Reaching.{among, forgets, kept_blocks, no_plan, reached_next, reached_over, same_spaces, spells_next}
-use Rattle.pool_commit.proofs.Made.{slots_count, writes_count}
+use Rattle.pool_commit.proofs.Made.{stale_still, slots_count, writes_count}
 
 -- only the shapes of the vdevs matter
 pub vdevs_by_shapes : (spaces others : List VdevSpace) → shapes_of others ≡ shapes_of spaces → vdevs_of others ≡ vdevs_of spaces
@@ -193,6 +193,7 @@ carried old mid plan later v out counts slot_counts backs same after uberblock o
       vdevs = backs.vdevs ∙ ap (λ (spaces : List VdevSpace). vdevs_of spaces) (sym same.spaces);
       slots = backs.slots;
       out = outs;
+      stale = stale_still old.store mid v same.stale backs.stale;
       committed = backs.committed;
       stamped = backs.stamped;
       blocks = record {
@@ -239,6 +240,7 @@ finishes s plan v new backs low stores shifted none same_stamp =
       vdevs = backs.vdevs ∙ sym (vdevs_by_shapes s.store.spaces new.store.spaces stores.shapes);
       slots = backs.slots;
       out = λ disk. backs.out disk ∙ ap (λ (out : List Bool). is_out out disk) (sym stores.out);
+      stale = stale_still s.store new.store v stores.stale backs.stale;
       committed = next_group;
       stamped = subst (λ (stamp : Stamp). AreStamped stamp new.kept) (sym same_stamp)
           (groups_next s.kept new.kept v.committed (λ k. IsStampOf (config_view k.config.value) s.stamp.claim s.stamp) backs.committed next_group shifted.before shifted.earliest
@@ -440,6 +442,7 @@ drops old mid plan v phase disk new backs failed from early drop kept none same_
         vdevs = backs.vdevs ∙ ap (λ (spaces : List VdevSpace). vdevs_of spaces) (sym failed.same.spaces) ∙ sym (vdevs_by_shapes mid.spaces new.store.spaces drop.shapes);
         slots = backs.slots;
         out = λ other. outs_are old mid v disk backs.out failed.out other ∙ ap (λ (out : List Bool). is_out out other) (sym drop.out);
+        stale = stale_still old.store new.store v (drop.stale ∙ failed.same.stale) backs.stale;
         committed = ap (λ (k : Kept). k.committed) kept ∙ backs.committed;
         stamped = subst (λ (stamp : Stamp). AreStamped stamp new.kept) (sym same_stamp) (subst (λ (k : Kept). AreStamped old.stamp k) (sym kept) backs.stamped);
         blocks = record {

@@ -13,7 +13,8 @@ use Rattle.block_store.specs.Places.{AreEmpty, ArePlacesIn, shapes_of, filled}
 use Rattle.block_store.specs.Places.{planned as planned_marks}
 use Rattle.block_store.specs.Plans.{Plans, KeepsPlans}
 use Rattle.block_store.specs.Spaces.{VdevSpace}
-use Rattle.block_store.specs.Store.{Store, Holds, Keeps, is_out}
+use Rattle.disk_set.specs.declared.stale.GroupSpan.{GroupSpan}
+use Rattle.block_store.specs.Store.{Store, Holds, Keeps, is_out, is_stale}
 use Rattle.block_store.specs.Uses.{CopiesLieOn, IsInUse, Passes}
 use Rattle.dataset_snapshots.specs.declared.contents.RootContents.{RootContents}
 use Rattle.dataset_snapshots.specs.Contents.{AreContentsOf}
@@ -51,6 +52,7 @@ use Rattle.pool_commit.specs.declared.stamp.Stamp.{Stamp}
 use Rattle.pool_commit.specs.Backs.{AreStamped, Backs, HasMaps, IsPlanOf, KeptHasMaps, KeptLeadsTo, LeadsTo, SpellsGroup, SpellsKept, SpellsRoot, kept_pool}
 use Rattle.pool_commit.specs.Config.{shown, vdevs_of}
 use Rattle.pool_commit.specs.Directories.{SpellsBy}
+use Rattle.pool_commit.specs.Spans.{HasNoSpan, HaveNoSpans}
 use Rattle.pool_commit.specs.Reopened.{IsConfiguredUnder, IsEmptyGroup, IsGroupOf, IsOfGroup}
 use Rattle.pool_commit.specs.Slots.{IsStampOf}
 use Rattle.pool_commit.specs.Space.{is_held_for, AreInBlocks, WereReleasedBy}
@@ -67,28 +69,28 @@ pub record IsOnly (kept : Kept) (group : ℕ) : Type 0 where
   pub before : kept.before ≡ None
   pub earliest : kept.earliest ≡ None
 
-module _ (kept : Kept) (vdevs : List Vdev) (out : ℕ → Bool) (group : ℕ) (pool : PlainPool) (only : IsOnly kept group) where
+module _ (kept : Kept) (vdevs : List Vdev) (out : ℕ → Bool) (stale : ℕ → ℕ → Bool) (group : ℕ) (pool : PlainPool) (only : IsOnly kept group) where
   there : (other : ℕ) → other ≡ group → group_at kept other ≡ Some kept.last
   there other at = grind (arith, nat_tests, only.committed, at)
 
-  pool_there : (other : ℕ) → other ≡ group → kept_pool (opened_as vdevs out group pool) other ≡ Some pool
+  pool_there : (other : ℕ) → other ≡ group → kept_pool (opened_as vdevs out stale group pool) other ≡ Some pool
   pool_there other at = grind (arith, nat_tests, at)
 
   gone : (other : ℕ) → other ≢ group → group_at kept other ≡ None
   gone other at = grind (arith, nat_tests, only.committed, only.before, only.earliest, at)
 
-  pool_gone : (other : ℕ) → other ≢ group → kept_pool (opened_as vdevs out group pool) other ≡ None
+  pool_gone : (other : ℕ) → other ≢ group → kept_pool (opened_as vdevs out stale group pool) other ≡ None
   pool_gone other at = grind (arith, nat_tests, at)
 
   pub kept_opened : (stored : Contents) → SpellsGroup stored group kept.last pool → (other : ℕ)
-      → SpellsKept stored other (group_at kept other) (kept_pool (opened_as vdevs out group pool) other)
+      → SpellsKept stored other (group_at kept other) (kept_pool (opened_as vdevs out stale group pool) other)
   kept_opened stored spells other = elim (cases_eq other group) [
     | inl at ↦
-        subst (λ (o : Option KeptGroup). SpellsKept stored other o (kept_pool (opened_as vdevs out group pool) other)) (sym (there other at))
+        subst (λ (o : Option KeptGroup). SpellsKept stored other o (kept_pool (opened_as vdevs out stale group pool) other)) (sym (there other at))
         (subst (λ (o : Option PlainPool). SpellsKept stored other (Some kept.last) o) (sym (pool_there other at))
         (subst (λ g. SpellsGroup stored g kept.last pool) (sym at) spells))
     | inr another ↦
-        subst (λ (o : Option KeptGroup). SpellsKept stored other o (kept_pool (opened_as vdevs out group pool) other)) (sym (gone other another))
+        subst (λ (o : Option KeptGroup). SpellsKept stored other o (kept_pool (opened_as vdevs out stale group pool) other)) (sym (gone other another))
         (subst (λ (o : Option PlainPool). SpellsKept stored other None o) (sym (pool_gone other another)) tt)
   ]
 
@@ -119,27 +121,27 @@ module _ (kept : Kept) (vdevs : List Vdev) (out : ℕ → Bool) (group : ℕ) (p
   reach_here blocks = reach_there blocks group refl
 
   pub leads_opened : (stored : Contents) (blocks : List Block) → LeadsTo stored group kept.last.root pool blocks → (other : ℕ)
-      → KeptLeadsTo stored other (group_at kept other) (kept_pool (opened_as vdevs out group pool) other) (only_reach blocks other)
+      → KeptLeadsTo stored other (group_at kept other) (kept_pool (opened_as vdevs out stale group pool) other) (only_reach blocks other)
   leads_opened stored blocks leads other = elim (cases_eq other group) [
     | inl at ↦
-        subst (λ (o : Option KeptGroup). KeptLeadsTo stored other o (kept_pool (opened_as vdevs out group pool) other) (only_reach blocks other)) (sym (there other at))
+        subst (λ (o : Option KeptGroup). KeptLeadsTo stored other o (kept_pool (opened_as vdevs out stale group pool) other) (only_reach blocks other)) (sym (there other at))
         (subst (λ (o : Option PlainPool). KeptLeadsTo stored other (Some kept.last) o (only_reach blocks other)) (sym (pool_there other at))
         (subst (λ (list : List Block). LeadsTo stored other kept.last.root pool list) (sym (reach_there blocks other at))
         (subst (λ g. LeadsTo stored g kept.last.root pool blocks) (sym at) leads)))
     | inr another ↦
-        subst (λ (o : Option KeptGroup). KeptLeadsTo stored other o (kept_pool (opened_as vdevs out group pool) other) (only_reach blocks other)) (sym (gone other another))
+        subst (λ (o : Option KeptGroup). KeptLeadsTo stored other o (kept_pool (opened_as vdevs out stale group pool) other) (only_reach blocks other)) (sym (gone other another))
         (subst (λ (o : Option PlainPool). KeptLeadsTo stored other None o (only_reach blocks other)) (sym (pool_gone other another)) (reach_gone blocks other another))
   ]
 
   pub mapped_opened : (spaces : List VdevSpace) (stored : Contents) → HasMaps spaces stored group kept.last.root pool → (other : ℕ)
-      → KeptHasMaps spaces stored other (group_at kept other) (kept_pool (opened_as vdevs out group pool) other)
+      → KeptHasMaps spaces stored other (group_at kept other) (kept_pool (opened_as vdevs out stale group pool) other)
   mapped_opened spaces stored has other = elim (cases_eq other group) [
     | inl at ↦
-        subst (λ (o : Option KeptGroup). KeptHasMaps spaces stored other o (kept_pool (opened_as vdevs out group pool) other)) (sym (there other at))
+        subst (λ (o : Option KeptGroup). KeptHasMaps spaces stored other o (kept_pool (opened_as vdevs out stale group pool) other)) (sym (there other at))
         (subst (λ (o : Option PlainPool). KeptHasMaps spaces stored other (Some kept.last) o) (sym (pool_there other at))
         (subst (λ g. HasMaps spaces stored g kept.last.root pool) (sym at) has))
     | inr another ↦
-        subst (λ (o : Option KeptGroup). KeptHasMaps spaces stored other o (kept_pool (opened_as vdevs out group pool) other)) (sym (gone other another)) tt
+        subst (λ (o : Option KeptGroup). KeptHasMaps spaces stored other o (kept_pool (opened_as vdevs out stale group pool) other)) (sym (gone other another)) tt
   ]
 
 -- the stamp of the group's configuration is that of this one
@@ -198,6 +200,7 @@ pub record AreTaken (old mid new : Store) (maps : List FreeMetaslab) (blocks : L
   pub released : NothingIsReleased filled old.spaces mid.spaces
   pub loaded : AreApart maps → AreLoadedAs old.spaces maps mid.spaces
   pub out : new.out ≡ mid.out
+  pub stale : new.spans.stale ≡ mid.spans.stale
   pub shapes : shapes_of new.spaces ≡ shapes_of mid.spaces
   pub fills : Fills mid.spaces filled blocks new.spaces
   pub fills_planned : Fills mid.spaces planned_marks blocks new.spaces
@@ -205,14 +208,14 @@ pub record AreTaken (old mid new : Store) (maps : List FreeMetaslab) (blocks : L
   pub plans : KeepsPlans mid new
 
 -- a state of which one group is kept, and what it leads to, backs the pool that the group spells
-backs_only : (s : State) (spaces : List VdevSpace) (flags : List Bool) (group : ℕ) (last : KeptGroup) (pool : PlainPool) (mine : Contents) (blocks : List Block)
-    → IsOfGroup s.store s.stamp group last s → shapes_of s.store.spaces ≡ shapes_of spaces → s.store.out ≡ flags → Plans s.store mine mine
+backs_only : (s : State) (spaces : List VdevSpace) (flags : List Bool) (missed : List (Option GroupSpan)) (group : ℕ) (last : KeptGroup) (pool : PlainPool) (mine : Contents) (blocks : List Block)
+    → IsOfGroup s.store s.stamp group last s → shapes_of s.store.spaces ≡ shapes_of spaces → s.store.out ≡ flags → s.store.spans.stale ≡ missed → Plans s.store mine mine
     → IsFound mine group last pool blocks → AreDistinct blocks
     → ((block : Block) (bytes : List ℕ) → mine block ≡ Some bytes → Contains blocks block)
     → ((block : Block) → Contains blocks block → CopiesLieOn IsInUse s.store.spaces filled block)
     → AreInBlocks s.store.spaces filled blocks → WereReleasedBy s.store.spaces filled s.kept.committed → HasMaps s.store.spaces mine group last.root pool
-    → IsStampOf (config_view last.config.value) s.stamp.claim s.stamp → Backs s (opened_as (vdevs_of spaces) (is_out flags) group pool)
-backs_only s spaces flags group last pool mine blocks is shapes out plans found once known in_use accounted released mapped stamped =
+    → IsStampOf (config_view last.config.value) s.stamp.claim s.stamp → Backs s (opened_as (vdevs_of spaces) (is_out flags) (is_stale missed) group pool)
+backs_only s spaces flags missed group last pool mine blocks is shapes out stale plans found once known in_use accounted released mapped stamped =
     let vdevs = vdevs_of spaces in
     let only : IsOnly s.kept group = record { committed = is.committed; before = is.before; earliest = is.earliest } in
     let spells : SpellsGroup mine group s.kept.last pool = subst (λ k. SpellsGroup mine group k pool) (sym is.last_is) found.spells in
@@ -221,37 +224,38 @@ backs_only s spaces flags group last pool mine blocks is shapes out plans found 
       vdevs = ap (λ them. map (λ (shape : VdevShape). shown shape.vdev) them) (sym shapes);
       slots = refl;
       out = λ disk. ap (λ them. is_out them disk) (sym out);
+      stale = λ disk birth. ap (λ (them : List (Option GroupSpan)). is_stale them disk birth) (sym stale);
       committed = only.committed;
-      stamped = stamped_only s.kept vdevs (is_out flags) group pool only s.stamp
+      stamped = stamped_only s.kept vdevs (is_out flags) (is_stale missed) group pool only s.stamp
           (subst (λ (k : KeptGroup). IsStampOf (config_view k.config.value) s.stamp.claim s.stamp) (sym is.last_is) stamped);
       blocks = record {
         stored = mine;
         planned = mine;
         plans = plans;
-        kept = kept_opened s.kept vdevs (is_out flags) group pool only mine spells;
-        plan = subst (λ (p : Option Planned). IsPlanOf s mine p (opened_as vdevs (is_out flags) group pool)) (sym is.unplanned) refl;
+        kept = kept_opened s.kept vdevs (is_out flags) (is_stale missed) group pool only mine spells;
+        plan = subst (λ (p : Option Planned). IsPlanOf s mine p (opened_as vdevs (is_out flags) (is_stale missed) group pool)) (sym is.unplanned) refl;
         reached = record {
-          reach = only_reach s.kept vdevs (is_out flags) group pool only blocks;
-          leads = leads_opened s.kept vdevs (is_out flags) group pool only mine blocks leads;
-          once = reach_cases s.kept vdevs (is_out flags) group pool only AreDistinct blocks once none_distinct;
+          reach = only_reach s.kept vdevs (is_out flags) (is_stale missed) group pool only blocks;
+          leads = leads_opened s.kept vdevs (is_out flags) (is_stale missed) group pool only mine blocks leads;
+          once = reach_cases s.kept vdevs (is_out flags) (is_stale missed) group pool only AreDistinct blocks once none_distinct;
           only = λ block bytes there. (
             group,
             subst (λ (list : List Block). Contains list block)
-                (sym (reach_here s.kept vdevs (is_out flags) group pool only blocks)) (known block bytes there),
+                (sym (reach_here s.kept vdevs (is_out flags) (is_stale missed) group pool only blocks)) (known block bytes there),
           );
-          held = λ other. reach_cases s.kept vdevs (is_out flags) group pool only
+          held = λ other. reach_cases s.kept vdevs (is_out flags) (is_stale missed) group pool only
               (λ list. (block : Block) → Contains list block → CopiesLieOn (Passes (is_held_for other s.kept.committed)) s.store.spaces filled block) blocks
               (λ block held. weaker IsInUse (Passes (is_held_for other s.kept.committed)) s.store.spaces filled block (held_in_use other s.kept.committed) (in_use block held))
               (λ block held. absurd (nothing_in block held))
               other;
           accounted = subst (AreInBlocks s.store.spaces filled)
-              (sym (ap (only_reach s.kept vdevs (is_out flags) group pool only blocks) only.committed ∙ reach_here s.kept vdevs (is_out flags) group pool only blocks)) accounted;
+              (sym (ap (only_reach s.kept vdevs (is_out flags) (is_stale missed) group pool only blocks) only.committed ∙ reach_here s.kept vdevs (is_out flags) (is_stale missed) group pool only blocks)) accounted;
           released = released;
-          mapped = mapped_opened s.kept vdevs (is_out flags) group pool only s.store.spaces mine
+          mapped = mapped_opened s.kept vdevs (is_out flags) (is_stale missed) group pool only s.store.spaces mine
               (subst (λ (k : KeptGroup). HasMaps s.store.spaces mine group k.root pool) (sym is.last_is) mapped);
         };
-        plan_reached = no_plan s.store.spaces (only_reach s.kept vdevs (is_out flags) group pool only blocks) mine mine s.planned
-            (opened_as vdevs (is_out flags) group pool) is.unplanned;
+        plan_reached = no_plan s.store.spaces (only_reach s.kept vdevs (is_out flags) (is_stale missed) group pool only blocks) mine mine s.planned
+            (opened_as vdevs (is_out flags) (is_stale missed) group pool) is.unplanned;
       };
     }
 
@@ -294,7 +298,7 @@ pub backs_opened : FoundInUseAreStored → (old mid new : Store) (stamp : Stamp)
     → IsOfGroup new stamp group last s → Plans old nothing_stored nothing_stored → AreEmpty old.spaces → (stored : Contents) (pool : PlainPool)
     → Holds old stored → AreContentsOf stored old.spaces group root pool contents → HasMaps old.spaces stored group (Some root) pool
     → IsConfiguredUnder stamp stored group root pool → IsStampOf (config_view config) stamp.claim stamp
-    → Backs s (opened_as (vdevs_of old.spaces) (is_out old.out) group pool)
+    → Backs s (opened_as (vdevs_of old.spaces) (is_out old.out) (is_stale old.spans.stale) group pool)
 backs_opened in_use_stored old mid new stamp group root contents last s taken config is_group table_known is plans empty stored pool holds are has configured stamped =
     let reach = reach_of are.is in
     let mine = among reach stored in
@@ -310,9 +314,10 @@ backs_opened in_use_stored old mid new stamp group root contents last s taken co
     let plans_new : Plans new mine mine =
     in_use_stored new reach mine (taken.plans nothing_stored nothing_stored (taken.loads.plans nothing_stored nothing_stored plans))
     (found_among new reach stored all.holds) place (λ block held. (all.filled_just.in_use block held, all.planned_just.in_use block held)) its.apart in
-    backs_only s old.spaces old.out group last pool mine reach (over new stamp group last s is)
+    backs_only s old.spaces old.out old.spans.stale group last pool mine reach (over new stamp group last s is)
     (ap (λ (store : Store). shapes_of store.spaces) at ∙ taken.shapes ∙ taken.loads.shapes)
     (ap (λ (store : Store). store.out) at ∙ taken.out ∙ ap (λ (store : Store). store.out) taken.loads.rest)
+    (ap (λ (store : Store). store.spans.stale) at ∙ taken.stale ∙ ap (λ (store : Store). store.spans.stale) taken.loads.rest)
     (subst (λ store. Plans store mine mine) (sym at) plans_new)
     (found_by old.spaces stored group root pool contents last config is_group table_known are table) its.once
     (λ block bytes known. (among_are reach stored block bytes known).0)
@@ -343,11 +348,11 @@ found_empty stored group last config is = record {
 
 pub backs_empty : (store : Store) (stamp : Stamp) (group : ℕ) (last : KeptGroup) (s : State) (config : Config) → IsEmptyGroup config last → IsOfGroup store stamp group last s
     → Plans store nothing_stored nothing_stored → AreEmpty store.spaces → IsStampOf (config_view config) stamp.claim stamp
-    → Backs s (opened_as (vdevs_of store.spaces) (is_out store.out) group no_volumes)
+    → Backs s (opened_as (vdevs_of store.spaces) (is_out store.out) (is_stale store.spans.stale) group no_volumes)
 backs_empty store stamp group last s config empty_group is plans empty stamped =
     let at : s.store ≡ store = is.store_is in
-    backs_only s store.spaces store.out group last no_volumes nothing_stored [] (over store stamp group last s is)
-    (ap (λ (st : Store). shapes_of st.spaces) at) (ap (λ (st : Store). st.out) at) (subst (λ st. Plans st nothing_stored nothing_stored) (sym at) plans)
+    backs_only s store.spaces store.out store.spans.stale group last no_volumes nothing_stored [] (over store stamp group last s is)
+    (ap (λ (st : Store). shapes_of st.spaces) at) (ap (λ (st : Store). st.out) at) (ap (λ (st : Store). st.spans.stale) at) (subst (λ st. Plans st nothing_stored nothing_stored) (sym at) plans)
     (found_empty nothing_stored group last config empty_group) none_distinct
     (λ block bytes known. absurd (let clash : None ≡ Some bytes = known in cc))
     (λ block held. absurd (nothing_in block held))
@@ -355,3 +360,14 @@ backs_empty store stamp group last s config empty_group is plans empty stamped =
     (subst (λ (st : Store). WereReleasedBy st.spaces filled s.kept.committed) (sym at) (none_released store.spaces s.kept.committed empty))
     (subst (λ (o : Option Block). HasMaps s.store.spaces nothing_stored group o no_volumes) (sym empty_group.root_is) tt)
     (stamped_by s stamp last config empty_group.config_is is.stamp_is stamped)
+
+-- ---- stale spans
+
+-- of one group alone no span is kept where it has none
+pub no_spans : (store : Store) (stamp : Stamp) (group : ℕ) (last : KeptGroup) (s : State) → IsOfGroup store stamp group last s → HasNoSpan last → HaveNoSpans s
+no_spans store stamp group last s is none = record {
+  last = subst (λ (k : KeptGroup). HasNoSpan k) (sym is.last_is) none;
+  before = λ it at. absurd (let no : None ≡ Some it = sym is.before ∙ at in cc);
+  earliest = λ it at. absurd (let no : None ≡ Some it = sym is.earliest ∙ at in cc);
+  planned = λ plan at. absurd (let no : None ≡ Some plan = sym is.unplanned ∙ at in cc);
+}

@@ -36,20 +36,20 @@ abbrev pub due_slot : SlotWrite → ℕ → DueCall
 due_slot write number = record { disk = write.disk; phase = Slots; number = number }
 
 pub slot_made : {T E : Type 0} (result : Result T E) (mid new : Store) (write : SlotWrite) (number at : ℕ) (bytes : List ℕ) → is_ok result ≡ true
-    → new.disks.starts ≡ mid.disks.starts → new.spaces ≡ mid.spaces → KeepsPlans mid new
+    → new.disks.starts ≡ mid.disks.starts → new.spaces ≡ mid.spaces → new.spans.stale ≡ mid.spans.stale → KeepsPlans mid new
     → new.disks.calls ≡ on write.disk (write_call result at bytes) ∷ mid.disks.calls
     → MadeOne mid new (due_slot write number) (write_call result at bytes) × (is_failed (write_call result at bytes) ≡ false)
-slot_made (Ok x) mid new write number at bytes ok starts spaces plans calls =
-    (record { starts = starts; calls = calls; spaces = spaces; plans = plans; is_due = refl; fault = refl; no_read = refl }, refl)
-slot_made (Err x) mid new write number at bytes ok starts spaces plans calls = absurd (cc)
+slot_made (Ok x) mid new write number at bytes ok starts spaces stale plans calls =
+    (record { starts = starts; calls = calls; spaces = spaces; stale = stale; plans = plans; is_due = refl; fault = refl; no_read = refl }, refl)
+slot_made (Err x) mid new write number at bytes ok starts spaces stale plans calls = absurd (cc)
 
 pub slot_lost : {T E : Type 0} (result : Result T E) (mid new : Store) (write : SlotWrite) (number at : ℕ) (bytes : List ℕ) → is_ok result ≡ false
-    → new.disks.starts ≡ mid.disks.starts → new.spaces ≡ mid.spaces → KeepsPlans mid new
+    → new.disks.starts ≡ mid.disks.starts → new.spaces ≡ mid.spaces → new.spans.stale ≡ mid.spans.stale → KeepsPlans mid new
     → new.disks.calls ≡ on write.disk (write_call result at bytes) ∷ mid.disks.calls
     → MadeOne mid new (due_slot write number) (write_call result at bytes) × (is_failed (write_call result at bytes) ≡ true)
-slot_lost (Err x) mid new write number at bytes ok starts spaces plans calls =
-    (record { starts = starts; calls = calls; spaces = spaces; plans = plans; is_due = refl; fault = refl; no_read = refl }, refl)
-slot_lost (Ok x) mid new write number at bytes ok starts spaces plans calls = absurd (cc)
+slot_lost (Err x) mid new write number at bytes ok starts spaces stale plans calls =
+    (record { starts = starts; calls = calls; spaces = spaces; stale = stale; plans = plans; is_due = refl; fault = refl; no_read = refl }, refl)
+slot_lost (Ok x) mid new write number at bytes ok starts spaces stale plans calls = absurd (cc)
 
 -- ---- flushes change no byte
 

@@ -13,7 +13,8 @@ use Rattle.block_pointer.specs.declared.block.Block.{Block}
 use Rattle.block_store.specs.Blocks.{Contents, nothing_stored}
 use Rattle.block_store.specs.Plans.{Plans}
 use Rattle.block_store.specs.Spaces.{VdevSpace}
-use Rattle.block_store.specs.Store.{Store, is_out}
+use Rattle.disk_set.specs.declared.stale.GroupSpan.{GroupSpan}
+use Rattle.block_store.specs.Store.{Store, is_out, is_stale}
 use Rattle.pool_commit.specs.declared.kept.KeptGroup.{KeptGroup}
 use Rattle.pool_model.specs.Pools.{PlainPool, no_volumes}
 use Rattle.pool_model.specs.View.{Vdev, started}
@@ -137,13 +138,14 @@ stamped_first kept is stamp stamped group it at = elim (cases_eq group 3) [
     gone other = grind (arith, nat_tests, is.committed, is.before, is.earliest, other)
 
 pub starts : (store : Store) (kept : Kept) (stamp : Stamp) (configs : List VdevConfig) → AreShapes store.disks.starts 0 configs (shapes_of store.spaces)
-    → ((disk : ℕ) → is_out store.out disk ≡ false) → Plans store nothing_stored nothing_stored → AreEmpty store.spaces → IsFirst kept
+    → ((disk : ℕ) → is_out store.out disk ≡ false) → store.spans.stale ≡ [] → Plans store nothing_stored nothing_stored → AreEmpty store.spaces → IsFirst kept
     → IsStampOf (config_view kept.last.config.value) stamp.claim stamp
     → Backs (record { store = store; kept = kept; planned = None; stamp = stamp }) (started_on_disks (vdevs_from 0 configs))
-starts store kept stamp configs shapes out plans empty first stamped = record {
+starts store kept stamp configs shapes out stale plans empty first stamped = record {
   vdevs = vdevs_made store.disks.starts 0 configs (shapes_of store.spaces) shapes;
   slots = refl;
   out = λ disk. sym (out disk);
+  stale = λ disk birth. sym (ap (λ (them : List (Option GroupSpan)). is_stale them disk birth) stale);
   committed = first.committed;
   stamped = stamped_first kept first stamp stamped;
   blocks = record {

@@ -1,5 +1,5 @@
 -- Disks that are lost, and disks that are absent.
-use Rattle.std.proofs.Common.{ℕ, zero, suc, ◌≡◌, ⊎_elim, ◌+◌, ◌≤◌, ◌<◌, ◌==◌, ◌&&◌, ◌||◌, nat_le, if◌then◌else◌, Bool, true, false, List, [], ◌∷◌, ◌++◌, length, Some, Contains, refl, sym, ap, ◌∙◌, subst, arith}
+use Rattle.std.proofs.Common.{ℕ, zero, suc, ◌≡◌, ⊎_elim, ◌+◌, ◌≤◌, ◌<◌, ◌==◌, ◌&&◌, ◌||◌, nat_le, if◌then◌else◌, Bool, true, false, List, [], ◌∷◌, ◌++◌, length, Option, Some, Contains, refl, sym, ap, ◌∙◌, subst, arith}
 use Rattle.std.specs.Prelude.{slice_get}
 use Rattle.std.specs.List.{list_any}
 use Rattle.std.specs.Option.{option_map}
@@ -15,7 +15,9 @@ use Rattle.raidz_io.proofs.Calls.{Contains-front, Contains-cases, Contains-none}
 use Rattle.block_store.specs.declared.shape.VdevShape.{VdevShape}
 use Rattle.block_store.specs.Spaces.{VdevSpace}
 use Rattle.block_store.specs.Places.{shapes_of}
-use Rattle.block_store.specs.Store.{Store, outs, is_out}
+use Rattle.disk_set.specs.Outs.{is_in}
+use Rattle.disk_set.specs.declared.stale.GroupSpan.{GroupSpan}
+use Rattle.block_store.specs.Store.{Store, outs, missed, is_out, is_stale, stale_from}
 use Rattle.block_store.proofs.Outs.{in_is_out}
 use Rattle.pool_model.specs.View.{View, lost_in}
 use Rattle.pool_commit.specs.Calls.{unread_call, told_since, unread_between}
@@ -108,18 +110,46 @@ failed_is_unread n (made ∷ newer) calls disk le are held =
     read_is_in (nat_le n (length (newer ++ calls))) made.call made.which disk (failed_since n (newer ++ calls)) (told_since unread_call n (newer ++ calls)) are.0
     (failed_is_unread n newer calls disk le are.1) held
 
-pub absent_is_lost : (old : Store) (v : View) (missing : List ℕ) (new : Disks) → OnlyReads old.disks new → ((disk : ℕ) → v.out disk ≡ is_out old.out disk)
-    → (disk : ℕ) → Contains ((outs old ++ missing) ++ failed_since (length old.disks.calls) new.calls) disk
-    → is_lost v missing (unread_between old.disks new) disk ≡ true
-absent_is_lost old v missing new reads out disk held =
+-- a disk that missed a group is stale for it
+from_stale : (stale : List (Option GroupSpan)) (birth first disk : ℕ) → Contains (stale_from first stale birth) disk
+    → (k : ℕ) × (disk ≡ first + k) × (is_stale stale k birth ≡ true)
+from_stale [] birth first disk held = absurd (Contains-none disk held)
+from_stale (span ∷ stale) birth first disk held = cases (is_in span birth) refl (λ behind. from_stale stale birth (suc first) disk behind) held
+  where
+    next : (k : ℕ) × (disk ≡ suc first + k) × (is_stale stale k birth ≡ true) → (k : ℕ) × (disk ≡ first + k) × (is_stale (span ∷ stale) k birth ≡ true)
+    next there = (suc there.0, omega (arith, there.1), there.2)
+
+    cases : (is : Bool) → is_in span birth ≡ is
+        → (Contains (stale_from (suc first) stale birth) disk → (k : ℕ) × (disk ≡ suc first + k) × (is_stale stale k birth ≡ true))
+        → Contains (if is then first ∷ stale_from (suc first) stale birth else stale_from (suc first) stale birth) disk
+        → (k : ℕ) × (disk ≡ first + k) × (is_stale (span ∷ stale) k birth ≡ true)
+    cases true is later among = ⊎_elim (λ same. (0, omega (arith, same), is)) (λ behind. next (later behind)) (Contains-cases first (stale_from (suc first) stale birth) disk among)
+    cases false is later among = next (later among)
+
+missed_is_stale : (store : Store) (birth disk : ℕ) → Contains (missed store birth) disk → is_stale store.spans.stale disk birth ≡ true
+missed_is_stale store birth disk held =
+    let there = from_stale store.spans.stale birth 0 disk held in
+    let same : disk ≡ there.0 = omega (arith, there.1) in
+    subst (λ k. is_stale store.spans.stale k birth ≡ true) (sym same) there.2
+
+pub absent_is_lost : (old : Store) (v : View) (missing : List ℕ) (birth : ℕ) (new : Disks) → OnlyReads old.disks new → ((disk : ℕ) → v.out disk ≡ is_out old.out disk)
+    → ((disk birth : ℕ) → v.stale disk birth ≡ is_stale old.spans.stale disk birth)
+    → (disk : ℕ) → Contains (((outs old ++ missing) ++ missed old birth) ++ failed_since (length old.disks.calls) new.calls) disk
+    → is_lost v missing (unread_between old.disks new) birth disk ≡ true
+absent_is_lost old v missing birth new reads out stale disk held =
     let unread : List ℕ = unread_between old.disks new in
     let named : Bool = list_any (λ d. d == disk) missing in
     let failed : Bool = list_any (λ d. d == disk) unread in
+    let lacks : Bool = v.stale disk birth in
     ⊎_elim
-    (λ before. ⊎_elim (λ is. or_left (v.out disk) (named || failed) (out disk ∙ in_is_out old disk is))
-    (λ is. or_right (v.out disk) (named || failed) (or_left named failed (any_of missing disk is))) (Contains-append_cases (outs old) missing disk before))
-    (λ since. or_right (v.out disk) (named || failed) (or_right named failed (any_of unread disk
+    (λ before. ⊎_elim
+    (λ called. ⊎_elim (λ is. or_left (v.out disk) (lacks || (named || failed)) (out disk ∙ in_is_out old disk is))
+    (λ is. or_right (v.out disk) (lacks || (named || failed)) (or_right lacks (named || failed) (or_left named failed (any_of missing disk is))))
+    (Contains-append_cases (outs old) missing disk called))
+    (λ missed_it. or_right (v.out disk) (lacks || (named || failed)) (or_left lacks (named || failed) (stale disk birth ∙ missed_is_stale old birth disk missed_it)))
+    (Contains-append_cases (outs old ++ missing) (missed old birth) disk before))
+    (λ since. or_right (v.out disk) (lacks || (named || failed)) (or_right lacks (named || failed) (or_right named failed (any_of unread disk
     (subst (λ (calls : List JointCall). Contains (told_since unread_call (length old.disks.calls) calls) disk) (sym reads.calls)
     (failed_is_unread (length old.disks.calls) reads.newer old.disks.calls disk (omega arith) reads.are_reads
-    (subst (λ (calls : List JointCall). Contains (failed_since (length old.disks.calls) calls) disk) reads.calls since))))))
-    (Contains-append_cases (outs old ++ missing) (failed_since (length old.disks.calls) new.calls) disk held)
+    (subst (λ (calls : List JointCall). Contains (failed_since (length old.disks.calls) calls) disk) reads.calls since)))))))
+    (Contains-append_cases ((outs old ++ missing) ++ missed old birth) (failed_since (length old.disks.calls) new.calls) disk held)

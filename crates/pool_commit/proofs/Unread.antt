@@ -18,14 +18,14 @@ use Rattle.block_store.specs.Losses.{IsBlockLost, IsForLoss}
 use Rattle.block_store.specs.Places.{shapes_of}
 use Rattle.block_store.specs.Reading.{HaveFailed}
 use Rattle.block_store.specs.Steps.{AnswersAreTrue}
-use Rattle.block_store.specs.Store.{Store, outs, outs_from, is_out}
+use Rattle.block_store.specs.Store.{Store, outs, outs_from, missed, stale_from, is_out, is_stale}
 use Rattle.block_store.proofs.ReadingLost.{absent_earlier}
 use Rattle.block_store.proofs.ReadingSteps.{reads_on}
 use Rattle.meta_objset.specs.declared.directory.DirectoryRow.{DirectoryRow}
 use Rattle.meta_objset.specs.declared.stale_spans.StaleSpan.{StaleSpan}
 use Rattle.pool_model.specs.Pools.{Entry, PlainPool, volume_at}
 use Rattle.pool_model.specs.Refusals.{read_refusal}
-use Rattle.pool_model.specs.View.{View, Vdev, lost_in}
+use Rattle.pool_model.specs.View.{View, Loss, Vdev, lost_in}
 use Rattle.dataset_snapshots.proofs.Losses.{losses_by_rows, losses_of_destroys, losses_of_first_groups, losses_of_groups}
 use Rattle.dataset_snapshots.proofs.ReadRefusals.{reads_need_no_room}
 use Rattle.dataset_snapshots.specs.Creating.{stale_after}
@@ -59,21 +59,33 @@ in_list xs i x found = (i, slice_get_within xs i x found, get_or_from_slice_get 
 pub record IsSince (v : View) (start new : Store) : Type 0 where
   pub vdevs : v.vdevs ≡ vdevs_of start.spaces
   pub out : (disk : ℕ) → v.out disk ≡ is_out start.out disk
+  pub stale : (disk birth : ℕ) → v.stale disk birth ≡ is_stale start.spans.stale disk birth
   pub reads : OnlyReads start.disks new.disks
 
 module _ (v : View) (start new : Store) (missing : List ℕ) (from : IsSince v start new) (loss : IsBlockLost start new missing) where
+  abbrev birth : ℕ
+  birth = loss.block.birth
+
   abbrev lost : ℕ → Bool
-  lost = is_lost v missing (unread_between start.disks new.disks)
+  lost = is_lost v missing (unread_between start.disks new.disks) birth
+
+  -- the disks that are left out, as the block was read
+  abbrev absent : List ℕ
+  absent = (outs loss.mid ++ missing) ++ missed loss.mid birth
+
+  -- they are those that were so at first
+  absent_is : absent ≡ (outs start ++ missing) ++ missed start birth
+  absent_is = λ i. (outs_from 0 (loss.before.out i) ++ missing) ++ stale_from 0 (loss.before.stale i) birth
 
   -- a disk that is absent for a copy is lost
-  copy_absent : (disks : Disks) (disk : ℕ) → OnlyReads loss.mid.disks disks → Contains (absent_since disks new.disks (outs loss.mid ++ missing)) disk → lost disk ≡ true
+  copy_absent : (disks : Disks) (disk : ℕ) → OnlyReads loss.mid.disks disks → Contains (absent_since disks new.disks absent) disk → lost disk ≡ true
   copy_absent disks disk earlier held =
-      absent_is_lost start v missing new.disks from.reads from.out disk
-      (absent_earlier start.disks disks new.disks (outs start ++ missing) disk (reads_on start.disks loss.mid.disks disks loss.before.reads earlier)
-      (subst (λ (out : List Bool). Contains (absent_since disks new.disks (outs_from 0 out ++ missing)) disk) loss.before.out held))
+      absent_is_lost start v missing birth new.disks from.reads from.out from.stale disk
+      (absent_earlier start.disks disks new.disks ((outs start ++ missing) ++ missed start birth) disk (reads_on start.disks loss.mid.disks disks loss.before.reads earlier)
+      (subst (λ (them : List ℕ). Contains (absent_since disks new.disks them) disk) absent_is held))
 
   -- more disks of the copy's vdev are lost than it has parities
-  many_lost : (disks : Disks) (extent : Extent) → OnlyReads loss.mid.disks disks → MoreAreLost extent (absent_since disks new.disks (outs loss.mid ++ missing))
+  many_lost : (disks : Disks) (extent : Extent) → OnlyReads loss.mid.disks disks → MoreAreLost extent (absent_since disks new.disks absent)
       → extent.vdev.geometry.parity < lost_in lost extent.vdev.first extent.vdev.geometry.children
   many_lost disks extent earlier more =
       let first : ℕ = extent.vdev.first in
@@ -92,8 +104,12 @@ module _ (v : View) (start new : Store) (missing : List ℕ) (from : IsSince v s
   copies_before : ℕ
   copies_before = length (dvas loss.block.copies) - 1
 
-  lost_with : MoreAreLost loss.fault.last.extent (absent_since loss.fault.mid new.disks (outs loss.mid ++ missing))
-      → (vdev : Vdev) × LosesOn v missing start new vdev × (Contains v.vdevs vdev × (vdev.parity < lost_in lost vdev.first vdev.children))
+  -- the block is lost on this vdev
+  abbrev IsLostThere : Loss → Type 0
+  IsLostThere it = LosesOn v missing start new it
+      × (Contains v.vdevs it.vdev × (it.vdev.parity < lost_in (is_lost v missing (unread_between start.disks new.disks) it.birth) it.vdev.first it.vdev.children))
+
+  lost_with : MoreAreLost loss.fault.last.extent (absent_since loss.fault.mid new.disks absent) → (it : Loss) × IsLostThere it
   lost_with more =
       let copy = loss.fault.last.is_copy in
       let at = copy.extent_is in
@@ -102,18 +118,20 @@ module _ (v : View) (start new : Store) (missing : List ℕ) (from : IsSince v s
       ap (λ (vdevs : List Vdev). slice_get vdevs copy.place.vdev) (from.vdevs ∙ sym (same_vdevs start.spaces loss.mid.spaces loss.before.shapes))
       ∙ vdev_at loss.mid.spaces copy.place.vdev at.space at.found in
       let earlier : OnlyReads loss.mid.disks loss.fault.mid =
-      reads_of_failed loss.mid.spaces (outs loss.mid ++ missing) loss.block (length (dvas loss.block.copies) - 1) loss.mid.disks loss.fault.mid loss.fault.earlier in (
-        vdev,
-        record { lost = loss; last = record { place = copy.place; is_last = copy.is_copy; is_there = there } },
+      reads_of_failed loss.mid.spaces absent loss.block (length (dvas loss.block.copies) - 1) loss.mid.disks loss.fault.mid loss.fault.earlier in (
+        record { vdev = vdev; birth = birth },
         (
-          in_list v.vdevs copy.place.vdev vdev there,
-          subst (λ (on : VdevOnDisks). on.geometry.parity < lost_in lost on.first on.geometry.children) at.vdev
-              (many_lost loss.fault.mid loss.fault.last.extent earlier more),
+          record { lost = loss; last = record { place = copy.place; is_last = copy.is_copy; is_there = there }; birth = refl },
+          (
+            in_list v.vdevs copy.place.vdev vdev there,
+            subst (λ (on : VdevOnDisks). on.geometry.parity < lost_in lost on.first on.geometry.children) at.vdev
+                (many_lost loss.fault.mid loss.fault.last.extent earlier more),
+          ),
         ),
       )
 
   -- the last copy's vdev misses too many
-  pub fault_lost : (vdev : Vdev) × LosesOn v missing start new vdev × (Contains v.vdevs vdev × (vdev.parity < lost_in lost vdev.first vdev.children))
+  pub fault_lost : (it : Loss) × IsLostThere it
   fault_lost = ⊎_elim (λ more. lost_with more.1) (λ digest. absurd (let e : store.DiskFault ≡ store.BadDigest = digest.0 in cc)) loss.fault.last.cause
 
 -- a fault of a whole pool, told of its states
@@ -123,10 +141,10 @@ lost_in_states v missing old new start refusal disks from loses (inl is) =
     let there = fault_lost v start new.store missing from (loses is) in
     subst (λ (r : Refusal). IsLost v missing old new start r) (sym is) (
       there.0,
-      there.1,
+      there.1.0,
       (
-        there.2.0,
-        subst (λ (d : Disks). there.0.parity < lost_in (is_lost v missing (unread_between d new.store.disks)) there.0.first there.0.children) disks there.2.1,
+        there.1.1.0,
+        subst (λ (d : Disks). there.0.vdev.parity < lost_in (is_lost v missing (unread_between d new.store.disks) there.0.birth) there.0.vdev.first there.0.vdev.children) disks there.1.1.1,
       ),
     )
 lost_in_states v missing old new start refusal disks from loses (inr (inl is, untrue)) =
@@ -173,7 +191,7 @@ pub lost_under : (v : View) (old : State) (new : Store) (group : ℕ) (kept : Ke
     → IsLostUnder v old (record old { store = new }) group name offset len missing refusal
 lost_under v old new group kept name offset len missing refusal backs is_kept reads is fault = record {
   unread = record { under = kept; kept = is_kept; unread = is };
-  lost = lost_in_states v missing old (record old { store = new }) old.store refusal refl (record { vdevs = backs.vdevs; out = backs.out; reads = reads })
+  lost = lost_in_states v missing old (record old { store = new }) old.store refusal refl (record { vdevs = backs.vdevs; out = backs.out; stale = backs.stale; reads = reads })
       (λ lost. losses_by_rows.ranges old.store new missing group is.root kept.directory.value name offset len is.cause is.unread (only_lost is.cause (sym is.answered ∙ lost))) fault;
 }
 
@@ -193,7 +211,7 @@ pub lost_for_plan : (v : View) (old new : State) (items : Entry) (refusal : Refu
     → IsFaultIn is.refused.begun new.store refusal → IsLostForPlan v old new items refusal
 lost_for_plan v old new items refusal is backs reads fault = record {
   unread = is;
-  lost = lost_in_states v [] old new is.refused.begun refusal is.refused.is_begun.disks (record { vdevs = backs.vdevs; out = backs.out; reads = reads })
+  lost = lost_in_states v [] old new is.refused.begun refusal is.refused.is_begun.disks (record { vdevs = backs.vdevs; out = backs.out; stale = backs.stale; reads = reads })
       (λ lost. behind_lost is.refused.begun new.store old.kept.last is.refused.group items is.cause is.refused.why
       (only_lost is.cause (sym is.answered ∙ lost))) fault;
 }

@@ -7,7 +7,7 @@ use Rattle.block_store.specs.Places.{filled}
 use Rattle.block_store.specs.Places.{planned as planned_marks}
 use Rattle.block_store.specs.Plans.{Plans}
 use Rattle.block_store.specs.Spaces.{VdevSpace}
-use Rattle.block_store.specs.Store.{Store, is_out}
+use Rattle.block_store.specs.Store.{Store, is_out, is_stale}
 use Rattle.block_pointer.specs.declared.block.Block.{Block}
 use Rattle.dataset_snapshots.specs.Mapped.{HasItsMaps, HasMapsBehind, HasMapsBy, StandsOnce}
 use Rattle.dataset_snapshots.specs.Pools.{SpellsPool}
@@ -185,6 +185,7 @@ pub record Backs (s : State) (v : View) : Type 0 where
   -- its commits end in uberblock slots
   pub slots : v.slots ≡ true
   pub out : (disk : ℕ) → v.out disk ≡ is_out s.store.out disk
+  pub stale : (disk birth : ℕ) → v.stale disk birth ≡ is_stale s.store.spans.stale disk birth
   pub committed : s.kept.committed ≡ v.committed
   pub stamped : AreStamped s.stamp s.kept
   pub blocks : HasBlocks s v

@@ -44,6 +44,7 @@ behind_left counts behind =
 pub record IsSameStore (old new : Store) : Type 0 where
   pub spaces : new.spaces ≡ old.spaces
   pub grew : GrewTo old.disks new.disks
+  pub stale : new.spans.stale ≡ old.spans.stale
   pub plans : KeepsPlans old new
 
 -- n calls of this phase were made, of those that were left, and none failed

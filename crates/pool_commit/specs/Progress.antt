@@ -34,7 +34,7 @@ pub record AreMade (old new : Disks) (v : View) (made : List DueCall) : Type 0 w
 
 -- the writes and flushes that were made, and the one that failed, as they are given to a step
 abbrev pub given_calls : List DueCall → Option DueCall → Given
-given_calls made fault = record { made = made; fault = fault; unread = []; lost_on = None; trusted = true; full = false }
+given_calls made fault = record { made = made; fault = fault; unread = []; lost = None; trusted = true; full = false }
 
 abbrev pub fault_list : Option DueCall → List DueCall
 fault_list None = []
@@ -99,6 +99,7 @@ with_plan s plan = record s { planned = Some plan }
 pub record EndsPlan (old new : Store) (marks : Marks) (of_blocks : Contents → Contents → Contents) : Type 0 where
   pub disks : new.disks ≡ old.disks
   pub out : new.out ≡ old.out
+  pub stale : new.spans.stale ≡ old.spans.stale
   pub shapes : shapes_of new.spaces ≡ shapes_of old.spaces
   pub filled_by : HaveMarks old.spaces marks new.spaces filled
   pub plans : (stored planned : Contents) → Plans old stored planned → Plans new (of_blocks stored planned) (of_blocks stored planned)

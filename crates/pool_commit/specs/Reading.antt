@@ -12,7 +12,7 @@ use Rattle.block_store.specs.Steps.{AnswersAreTrue}
 use Rattle.dataset_snapshots.specs.Ranges.{IsRangeRefusedIn}
 use Rattle.dnode_tree.specs.ReadRefusals.{IsForRead}
 use Rattle.pool_model.specs.Pools.{Entry}
-use Rattle.pool_model.specs.View.{View, Vdev, is_away, lost_in}
+use Rattle.pool_model.specs.View.{View, Loss, Vdev, is_away, lost_in}
 use Rattle.pool_model.specs.declared.refusal.Refusal.TheVariants as causes
 use Rattle.pool_model.specs.declared.refusal.Refusal.{Refusal as Cause}
 use Rattle.pool_model.specs.declared.step.Step.TheVariants.{ReadUnder}
@@ -37,9 +37,10 @@ pub record OnlyReadsPool (old new : State) (missing : List ℕ) : Type 0 where
   pub untouched : AreUntouched (outs old.store ++ missing) old.store.disks new.store.disks
   pub backs : (v : View) → Backs old v → Backs new v
 
--- the disks that are missing for a read: away, named, or failing in it
-abbrev pub is_lost : View → List ℕ → List ℕ → ℕ → Bool
-is_lost v missing unread disk = is_away v disk || (list_any (λ d. d == disk) missing || list_any (λ d. d == disk) unread)
+-- the disks that are missing for a read of a block that was born then: away, stale for it, named, or failing in the read
+abbrev pub is_lost : View → List ℕ → List ℕ → ℕ → ℕ → Bool
+is_lost v missing unread birth disk =
+    is_away v disk || (v.stale disk birth || (list_any (λ d. d == disk) missing || list_any (λ d. d == disk) unread))
 
 -- a block could not be read
 abbrev pub IsReadFault : Refusal → Type 0
@@ -50,10 +51,11 @@ abbrev pub IsFaultIn : Store → Store → Refusal → Type 0
 IsFaultIn old new refusal =
     (refusal ≡ DiskFault) ⊎ (((refusal ≡ BadPointer) ⊎ (refusal ≡ BadDigest)) × ¬ AnswersAreTrue old new)
 
--- the vdev misses more disks than it has parities
-abbrev pub IsLostOn : View → List ℕ → State → State → Vdev → Type 0
-IsLostOn v missing old new vdev =
-    Contains v.vdevs vdev × (vdev.parity < lost_in (is_lost v missing (unread_between old.store.disks new.store.disks)) vdev.first vdev.children)
+-- the vdev misses, for a block of that birth, more disks than it has parities
+abbrev pub IsLostOn : View → List ℕ → State → State → Loss → Type 0
+IsLostOn v missing old new loss =
+    Contains v.vdevs loss.vdev
+    × (loss.vdev.parity < lost_in (is_lost v missing (unread_between old.store.disks new.store.disks) loss.birth) loss.vdev.first loss.vdev.children)
 
 -- the vdev of the block's last copy
 pub record IsLastVdev (v : View) (block : Block) (vdev : Vdev) : Type 0 where
@@ -61,16 +63,17 @@ pub record IsLastVdev (v : View) (block : Block) (vdev : Vdev) : Type 0 where
   pub is_last : slice_get (dvas block.copies) (length (dvas block.copies) - 1) ≡ Some place
   pub is_there : slice_get v.vdevs place.vdev ≡ Some vdev
 
--- a block was read last since then, and can't be: this is the vdev of its last copy
-pub record LosesOn (v : View) (missing : List ℕ) (since new : Store) (vdev : Vdev) : Type 0 where
+-- a block was read last since then, and can't be: this is the vdev of its last copy, and the group that it was born in
+pub record LosesOn (v : View) (missing : List ℕ) (since new : Store) (loss : Loss) : Type 0 where
   pub lost : IsBlockLost since new missing
-  pub last : IsLastVdev v lost.block vdev
+  pub last : IsLastVdev v lost.block loss.vdev
+  pub birth : lost.block.birth ≡ loss.birth
 
 -- Why a pool that is whole could not be read since then: of a block that was read last, the vdev of its last copy misses too many
--- disks; or what was read is no block of the pool, or has another digest, and then not all that the disks answered is true.
+-- disks for it; or what was read is no block of the pool, or has another digest, and then not all that the disks answered is true.
 abbrev pub IsLost : View → List ℕ → State → State → Store → Refusal → Type 0
 IsLost v missing old new since DiskFault =
-    (vdev : Vdev) × LosesOn v missing since new.store vdev × IsLostOn v missing old new vdev
+    (loss : Loss) × LosesOn v missing since new.store loss × IsLostOn v missing old new loss
 IsLost v missing old new since BadPointer = ¬ PoolAnswersTruly old new
 IsLost v missing old new since BadDigest = ¬ PoolAnswersTruly old new
 IsLost v missing old new since refusal = ⊥

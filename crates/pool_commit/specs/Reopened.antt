@@ -46,10 +46,11 @@ abbrev pub IsConfiguredUnder : Stamp → Contents → ℕ → Block → PlainPoo
 IsConfiguredUnder stamp stored group root pool =
     (is : SpellsPool stored group root pool) × (its : List PlainVdev) × HasConfig (is.objects 2) its × IsStampOf its stamp.claim stamp
 
--- a group with no root, no rows, no spans and no volumes, and this configuration
+-- a group with no root, no rows, no spans, neither in a table nor known, and no volumes, and this configuration
 pub record IsEmptyGroup (config : Config) (kept : KeptGroup) : Type 0 where
   pub root_is : kept.root ≡ None
   pub table : kept.spans_under.value ≡ []
+  pub known : kept.spans.value ≡ []
   pub names : Knows kept.names.value no_volumes
   pub directory : kept.directory.value ≡ []
   pub config_is : kept.config.value ≡ config

@@ -22,6 +22,7 @@ use Rattle.pool_commit.specs.declared.kept.KeptGroup.{KeptGroup}
 pub record IsBegun (group : ℕ) (old begun : Store) : Type 0 where
   pub disks : begun.disks ≡ old.disks
   pub out : begun.out ≡ old.out
+  pub stale : begun.spans.stale ≡ old.spans.stale
   pub shapes : shapes_of begun.spaces ≡ shapes_of old.spaces
   pub settled : AreSettledIn group old.spaces begun.spaces
   pub free : HaveMarks begun.spaces filled begun.spaces planned

@@ -48,6 +48,7 @@ pub record IsFor (is : State → Type 0) (spaces : List VdevSpace) (marks : Mark
 pub record GivesBack (old new : Store) (blocks : List Block) (group : ℕ) : Type 0 where
   pub disks : new.disks ≡ old.disks
   pub out : new.out ≡ old.out
+  pub stale : new.spans.stale ≡ old.spans.stale
   pub due : new.due ≡ old.due
   pub shapes : shapes_of new.spaces ≡ shapes_of old.spaces
   pub filled_stays : HaveMarks old.spaces filled new.spaces filled

@@ -115,6 +115,7 @@ fn write_slot<D: Disk + Drop>(
     ensures out { OnOk result (store.new.out ≡ store.old.out) }
     ensures failed { IfErr result (λ failed. failed.disk ≡ write.disk) }
     ensures out_too { IfErr result (λ failed. IsOutToo store.old.out write.disk store.new.out) }
+    ensures stale { store.new.spans.stale ≡ store.old.spans.stale }
     ensures plans { KeepsPlans store.old store.new }
 {
     let size = store.disk_size(write.disk);

@@ -24,4 +24,5 @@ pub use device::Progress;
 pub use kept::{Kept, KeptGroup, Planned};
 pub use laws::{labels_of_opened_lie, no_room_is_lost};
 pub use refusal::Refusal;
+pub use reopening::KnownDisks;
 pub use stamp::Stamp;

@@ -1,9 +1,9 @@
 //! The committed half of a core as a pool is opened, or is made on disks.
-ghost use Rattle.std.specs.Prelude.{◌≡◌, ◌⊎◌, Some, IfOk, IfErr};
+ghost use Rattle.std.specs.Prelude.{◌≡◌, ◌⊎◌, Some, [], IfOk, IfErr};
 ghost use Rattle.block_store.specs.Blocks.{Contents, nothing_stored};
 ghost use Rattle.block_store.specs.Places.{AreEmpty, shapes_of};
 ghost use Rattle.block_store.specs.Plans.{Plans};
-ghost use Rattle.block_store.specs.Store.{Holds, is_out};
+ghost use Rattle.block_store.specs.Store.{Holds, is_out, is_stale};
 ghost use Rattle.dataset_snapshots.specs.Contents.{AreContentsOf};
 ghost use Rattle.pool_model.specs.Pools.{PlainPool, no_volumes};
 ghost use Rattle.pool_model.specs.View.{opened_as};
@@ -12,12 +12,11 @@ ghost use Rattle.pool_commit.specs.Config.{vdevs_of};
 ghost use Rattle.pool_commit.specs.Reopened.{AreMisplaced, IsConfiguredUnder, IsEmptyGroup, IsGroupOf, IsOfGroup};
 ghost use Rattle.pool_commit.specs.Configs.{FitsTable};
 ghost use Rattle.pool_commit.specs.Slots.{IsStampOf, LabelsLieAside};
-ghost use Rattle.pool_commit.specs.Spans.{HasSpansOpened};
+ghost use Rattle.pool_commit.specs.Spans.{HaveNoSpans};
 ghost use Rattle.vdev_label.specs.Plain.{config_view};
 
 use crate::commit::{Commit, no_directory, no_names, no_spans};
 use crate::kept::{Kept, KeptGroup};
-use crate::last::marks_of;
 use crate::refusal::Refusal;
 use crate::stamp::Stamp;
 use crate::suspension::lacks_disks;
@@ -26,42 +25,44 @@ use block_store::{BlockStore, found_in_use_are_stored};
 use dataset_snapshots::{KeptDirectory, RootContents, load_maps};
 use meta_objset::StaleSpans;
 use model_disk::{Disk, DiskArray};
-use stale_disks::{disk_guids, spans_opened};
 use std::alloc::{AllocError, Global};
 use std::sync::Arc;
 use vdev_label::Config;
 use volume_rules::NameIndex;
 
-/// What is kept of a group's tables: the directory, the spans of its table, and the configuration.
+/// What an open knows of a pool's disks: the configuration that they are of, and the stale spans as the group is opened.
+#[derive(Drop)]
+pub struct KnownDisks {
+    pub config: Arc<Config, Global>,
+    pub spans: StaleSpans,
+}
+
+/// What is kept of a group's tables: the directory, and the spans of its table.
 #[derive(Drop)]
 struct Tables {
     directory: KeptDirectory,
     spans: StaleSpans,
-    config: Arc<Config, Global>,
 }
 
-/// The group with this root, of whose pool these are the tables and the names, as it is opened with these disks out.
+/// The group with this root, of whose pool these are the tables and the names, as its disks are known.
 fn group_of(
     alloc: Global,
     root: Block,
-    group: u64,
     tables: Tables,
     names: NameIndex,
-    out: &[bool],
+    known: KnownDisks,
 ) -> Result<KeptGroup, AllocError>
-    ensures is { IfOk result (IsGroupOf root tables.directory names tables.config.value) }
+    ensures is { IfOk result (IsGroupOf root tables.directory names known.config.value) }
     ensures table { IfOk result (λ kept. kept.spans_under.value ≡ tables.spans) }
-    ensures spans { IfOk result (HasSpansOpened out.now group) }
+    ensures spans { IfOk result (λ kept. kept.spans.value ≡ known.spans) }
 {
-    let guids = disk_guids(alloc, tables.config.as_ref())?;
-    let spans = spans_opened(alloc, &tables.spans, &guids, out, group)?;
     Ok(KeptGroup {
         root: Some(root),
         names: Arc::new(alloc, names)?,
         directory: Arc::new(alloc, tables.directory)?,
         spans_under: Arc::new(alloc, tables.spans)?,
-        spans: Arc::new(alloc, spans)?,
-        config: tables.config,
+        spans: Arc::new(alloc, known.spans)?,
+        config: known.config,
     })
 }
 
@@ -121,7 +122,9 @@ impl<D: Disk + Drop> Commit<D> {
         ensures config { IfOk result (λ commit.
             (state_of commit).kept.last.config.value ≡ config.value) }
         ensures backs { IfOk result (λ commit. Backs (state_of commit)
-            (opened_as (vdevs_of store.spaces) (is_out store.out) group no_volumes)) }
+            (opened_as (vdevs_of store.spaces) (is_out store.out)
+            (is_stale store.spans.stale) group no_volumes)) }
+        ensures spans { IfOk result (λ commit. HaveNoSpans (state_of commit)) }
         ensures back { IfErr result (λ disks. disks ≡ store.disks) }
     {
         match empty_group(alloc, config) {
@@ -130,7 +133,7 @@ impl<D: Disk + Drop> Commit<D> {
         }
     }
 
-    /// A pool of this configuration that was committed before as that group, over a store that was opened and stores no block yet. The root
+    /// A pool that was committed before as that group, with these disks, over a store that was opened and stores no block yet. The root
     /// is that of the group, and the contents are what was read of it. No disk is called. The uberblocks of later groups get this stamp. No group
     /// before it is kept. What the space maps leave free is loaded, and the blocks of the meta object set are taken in; of those of
     /// the volumes nothing is asked. `BadPointer` where a map is of no metaslab of the pool, a block lies in no place of it, or two
@@ -142,7 +145,7 @@ impl<D: Disk + Drop> Commit<D> {
         group: u64,
         root: Block,
         contents: RootContents,
-        config: Arc<Config, Global>,
+        known: KnownDisks,
     ) -> Result<Self, (Refusal, DiskArray<D>)>
         requires plans { Plans store nothing_stored nothing_stored }
         requires empty { AreEmpty store.spaces }
@@ -152,16 +155,20 @@ impl<D: Disk + Drop> Commit<D> {
         ensures stamp { IfOk result (λ commit. (state_of commit).stamp ≡ stamp) }
         ensures root { IfOk result (λ commit. (state_of commit).kept.last.root ≡ Some root) }
         ensures config { IfOk result (λ commit.
-            (state_of commit).kept.last.config.value ≡ config.value) }
+            (state_of commit).kept.last.config.value ≡ known.config.value) }
         ensures out { IfOk result (λ commit. (state_of commit).store.out ≡ store.out) }
         ensures shapes { IfOk result (λ commit.
             shapes_of (state_of commit).store.spaces ≡ shapes_of store.spaces) }
 
-        // The table of stale spans is what was read, and what is known are its spans.
+        // The table of stale spans is what was read. Of the disks that is known, and blocks are read as the store was told before.
         ensures table { IfOk result (λ commit.
             (state_of commit).kept.last.spans_under.value ≡ contents.spans) }
         ensures spans { IfOk result (λ commit.
-            HasSpansOpened store.out group (state_of commit).kept.last) }
+            (state_of commit).kept.last.spans.value ≡ known.spans) }
+        ensures stale { IfOk result (λ commit.
+            (state_of commit).store.spans.stale ≡ store.spans.stale) }
+        ensures untouched { IfOk result (λ commit. contents.spans ≡ [] → known.spans ≡ []
+            → HaveNoSpans (state_of commit)) }
 
         // Where the store's disks have the blocks, the root spells a pool, has its space maps and a configuration, and the stamp names that
         // and this one, that pool is committed as the group.
@@ -169,9 +176,10 @@ impl<D: Disk + Drop> Commit<D> {
             → Holds store stored → AreContentsOf stored store.spaces group root pool contents
             → HasMaps store.spaces stored group (Some root) pool
             → IsConfiguredUnder stamp stored group root pool
-            → IsStampOf (config_view config.value) stamp.claim stamp
+            → IsStampOf (config_view known.config.value) stamp.claim stamp
             → Backs (state_of commit)
-            (opened_as (vdevs_of store.spaces) (is_out store.out) group pool)) }
+            (opened_as (vdevs_of store.spaces) (is_out store.out)
+            (is_stale store.spans.stale) group pool)) }
         ensures refused { IfErr result (λ failed. (failed.0 ≡ Refusal.NoMemory)
             ⊎ ((failed.0 ≡ Refusal.BadPointer) × AreMisplaced store.spaces contents)) }
         ensures back { IfErr result (λ failed. failed.1 ≡ store.disks) }
@@ -192,15 +200,8 @@ impl<D: Disk + Drop> Commit<D> {
             Ok(()) => {}
             Err(refusal) => return Err((Refusal::from(refusal), store.into_array())),
         }
-        let tables = Tables {
-            directory,
-            spans,
-            config,
-        };
-        let Ok(marks) = marks_of(&store, alloc) else {
-            return Err((Refusal::NoMemory, store.into_array()));
-        };
-        match group_of(alloc, root, group, tables, names, &marks) {
+        let tables = Tables { directory, spans };
+        match group_of(alloc, root, tables, names, known) {
             Ok(last) => Ok(Commit::of_group(store, stamp, group, last)),
             Err(_) => Err((Refusal::NoMemory, store.into_array())),
         }

@@ -66,6 +66,7 @@ backs_kept s v w k backs = record {
   vdevs = k.vdevs ∙ backs.vdevs;
   slots = k.slots ∙ backs.slots;
   out = λ disk. ap (λ (o : ℕ → Bool). o disk) k.out ∙ backs.out disk;
+  stale = λ disk birth. ap (λ (lacks : ℕ → ℕ → Bool). lacks disk birth) k.stale ∙ backs.stale disk birth;
   committed = backs.committed ∙ sym k.committed;
   stamped = backs.stamped;
   blocks = record {

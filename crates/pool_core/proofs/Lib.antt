@@ -5,9 +5,11 @@ pub mod ReadSteps
 pub mod Running
 pub mod Moving
 pub mod Sharing
+pub mod Untouched
 pub use Rattle.pool_commit.proofs.SnapshotsLosses
 pub use Rattle.pool_commit.proofs.SnapshotsReadings
 pub use Rattle.pool_commit.proofs.SnapshotsStanding
+pub use Rattle.pool_commit.proofs.Directories as CommitDirectories
 pub use Rattle.pool_commit.proofs.Disks as CommitDisks
 pub use Rattle.pool_commit.proofs.Growing as CommitGrowing
 pub use Rattle.pool_commit.proofs.Labels as CommitLabels

@@ -13,7 +13,7 @@ use Rattle.pool_model.specs.declared.step.Step.{Step}
 use Rattle.pool_model.specs.declared.step.Step.TheVariants.{Plan, Device}
 use Rattle.pool_model.specs.declared.step.Reply.{Reply}
 use Rattle.pool_model.specs.declared.step.Reply.TheVariants.{Planned, Moved, Replan, Committed, Refused}
-use Rattle.pool_model.specs.View.{View, Vdev, Given, DueCall, is_away, nothing_given, Sync, Idle, Unplanned, Due, is_syncing, is_planned, is_quiesced, is_suspended, open_after}
+use Rattle.pool_model.specs.View.{View, Loss, Given, DueCall, is_away, nothing_given, Sync, Idle, Unplanned, Due, is_syncing, is_planned, is_quiesced, is_suspended, open_after}
 use Rattle.pool_model.specs.Pools.{Entry, PlainPool}
 use Rattle.pool_model.specs.Flow.{flow_of, with_committed}
 use Rattle.pool_model.specs.Refusals.{greatest, first_cause, refusal_of}
@@ -86,12 +86,12 @@ pub reads_grow : (old new : Disks) → OnlyReads old new → GrewTo old new
 reads_grow old new reads = record { starts = reads.starts; newer = reads.newer; calls = reads.calls }
 
 -- where nothing was done but reads
-abbrev pub given_by_reads : CoreState → CoreState → Option Vdev → Bool → Bool → Given
+abbrev pub given_by_reads : CoreState → CoreState → Option Loss → Bool → Bool → Given
 given_by_reads old new lost trusted full =
-    record { made = []; fault = None; unread = unread_between (disks_of old) (disks_of new); lost_on = lost; trusted = trusted; full = full }
+    record { made = []; fault = None; unread = unread_between (disks_of old) (disks_of new); lost = lost; trusted = trusted; full = full }
 
-pub reads_are_given : (old : CoreState) (v : View) (step : Step) (new : CoreState) (lost : Option Vdev) (trusted full : Bool) → OnlyReads (disks_of old) (disks_of new)
-    → ((vdev : Vdev) → lost ≡ Some vdev → LosesBlock old v step new vdev) → (full ≡ true → FindsNoRoom old v step) → IsGiven old v step new (given_by_reads old new lost trusted full)
+pub reads_are_given : (old : CoreState) (v : View) (step : Step) (new : CoreState) (lost : Option Loss) (trusted full : Bool) → OnlyReads (disks_of old) (disks_of new)
+    → ((loss : Loss) → lost ≡ Some loss → LosesBlock old v step new loss) → (full ≡ true → FindsNoRoom old v step) → IsGiven old v step new (given_by_reads old new lost trusted full)
 reads_are_given old v step new lost trusted full reads loses room = record {
   made = sym (told_by_reads plan_call (disks_of old) (disks_of new) not_due reads);
   fault = sym (told_by_reads fault_call (disks_of old) (disks_of new) no_fault reads);
@@ -100,24 +100,24 @@ reads_are_given old v step new lost trusted full reads loses room = record {
   full = room;
 }
 
-pub reads_quiet : (old new : CoreState) (lost : Option Vdev) (trusted full : Bool) → IsQuiet (given_by_reads old new lost trusted full)
+pub reads_quiet : (old new : CoreState) (lost : Option Loss) (trusted full : Bool) → IsQuiet (given_by_reads old new lost trusted full)
 reads_quiet old new lost trusted full = record { made = refl; fault = refl }
 
 -- a block that could not be read, as it is given
-pub record GivesLost (v : View) (old new : CoreState) (trusted : Bool) (cause : Cause) (Loses : Vdev → Type 0) : Type 0 where
-  pub lost : Option Vdev
+pub record GivesLost (v : View) (old new : CoreState) (trusted : Bool) (cause : Cause) (Loses : Loss → Type 0) : Type 0 where
+  pub lost : Option Loss
   pub unreadable : IsUnreadable v (given_by_reads old new lost trusted false) cause
-  pub loses : (vdev : Vdev) → lost ≡ Some vdev → Loses vdev
+  pub loses : (loss : Loss) → lost ≡ Some loss → Loses loss
 
 untrusted : {P : Type 0} (trusted : Bool) → (trusted ≡ true → P) → ¬ P → trusted ≡ false
 untrusted true honest lies = absurd (lies (honest refl))
 untrusted false honest lies = refl
 
-none_lost : (P : Vdev → Type 0) (vdev : Vdev) → None ≡ Some vdev → P vdev
-none_lost P vdev e = absurd (cc)
+none_lost : (P : Loss → Type 0) (loss : Loss) → None ≡ Some loss → P loss
+none_lost P loss e = absurd (cc)
 
-this_lost : (P : Vdev → Type 0) (lost vdev : Vdev) → P lost → Some lost ≡ Some vdev → P vdev
-this_lost P lost vdev p e = let same : lost ≡ vdev = cc in subst P same p
+this_lost : (P : Loss → Type 0) (lost loss : Loss) → P lost → Some lost ≡ Some loss → P loss
+this_lost P lost loss p e = let same : lost ≡ loss = cc in subst P same p
 
 pub under_given : (v : View) (old new : CoreState) (trusted : Bool) (group : ℕ) (name : List ℕ) (offset len : ℕ) (refusal : Refusal)
     → IsLostUnder v old.commit new.commit group name offset len [] refusal → (trusted ≡ true → PoolAnswersTruly old new)
@@ -125,7 +125,7 @@ pub under_given : (v : View) (old new : CoreState) (trusted : Bool) (group : ℕ
 under_given v old new trusted group name offset len DiskFault is honest = record {
   lost = Some is.lost.0;
   unreadable = (is.lost.0, refl, record { there = is.lost.2.0; more = is.lost.2.1 });
-  loses = λ vdev e. this_lost (LosesUnder v old.commit new.commit group name offset len) is.lost.0 vdev (record { unread = is.unread; on = is.lost.1 }) e;
+  loses = λ loss e. this_lost (LosesUnder v old.commit new.commit group name offset len) is.lost.0 loss (record { unread = is.unread; on = is.lost.1 }) e;
 }
 under_given v old new trusted group name offset len BadPointer is honest = record { lost = None; unreadable = untrusted trusted honest is.lost; loses = none_lost _ }
 under_given v old new trusted group name offset len BadDigest is honest = record { lost = None; unreadable = untrusted trusted honest is.lost; loses = none_lost _ }
@@ -137,7 +137,7 @@ pub plan_given : (v : View) (old new : CoreState) (trusted : Bool) (items : Entr
 plan_given v old new trusted items DiskFault is honest = record {
   lost = Some is.lost.0;
   unreadable = (is.lost.0, refl, record { there = is.lost.2.0; more = is.lost.2.1 });
-  loses = λ vdev e. this_lost (LosesForPlan v old.commit new.commit items) is.lost.0 vdev (record { unread = is.unread; on = is.lost.1 }) e;
+  loses = λ loss e. this_lost (LosesForPlan v old.commit new.commit items) is.lost.0 loss (record { unread = is.unread; on = is.lost.1 }) e;
 }
 plan_given v old new trusted items BadPointer is honest = record { lost = None; unreadable = untrusted trusted honest is.lost; loses = none_lost _ }
 plan_given v old new trusted items BadDigest is honest = record { lost = None; unreadable = untrusted trusted honest is.lost; loses = none_lost _ }
@@ -384,6 +384,7 @@ backs_taken s v backs none = record {
   vdevs = backs.vdevs;
   slots = backs.slots;
   out = backs.out;
+  stale = backs.stale;
   committed = backs.committed;
   stamped = backs.stamped;
   blocks = record {
@@ -441,7 +442,7 @@ plan_refused s intake commit v trusted timestamp refusal named is none f backs r
     (inr (inl (record { may = none; answer = refl; leaves = refl; calls = reads_quiet s new None trusted false })))))
     (λ other. ⊎_elim
     (λ lost. let gives = plan_given (taken v Unplanned) s new trusted (v.ledger (suc v.committed)) refusal lost honest in
-    goes gives.lost false (λ vdev e. let there = gives.loses vdev e in record { unread = there.unread; on = record { lost = there.on.lost; last = record { place = there.on.last.place; is_last = there.on.last.is_last; is_there = there.on.last.is_there } } })
+    goes gives.lost false (λ loss e. let there = gives.loses loss e in record { unread = there.unread; on = record { lost = there.on.lost; last = record { place = there.on.last.place; is_last = there.on.last.is_last; is_there = there.on.last.is_there }; birth = there.on.birth } })
     (λ e. absurd (true≢false (sym e))) (cause_of refusal)
     (inr (inr (record { none = none; answered = (inl (same_causes refusal gives.lost gives.unreadable), refl); calls = reads_quiet s new gives.lost trusted false }))))
     (λ space. subst (λ (x : Refusal). Goes s v trusted (Plan timestamp) (Refused (cause_of x)) new) (sym space)
@@ -451,14 +452,14 @@ plan_refused s intake commit v trusted timestamp refusal named is none f backs r
     new = record { intake = intake; commit = commit }
 
     -- that the group is taken changes nothing of its disks
-    same_causes : (refusal : Refusal) (lost : Option Vdev) → IsUnreadable (taken v Unplanned) (given_by_reads s new lost trusted false) (cause_of refusal)
+    same_causes : (refusal : Refusal) (lost : Option Loss) → IsUnreadable (taken v Unplanned) (given_by_reads s new lost trusted false) (cause_of refusal)
         → IsUnreadable v (given_by_reads s new lost trusted false) (cause_of refusal)
     same_causes DiskFault lost is = (is.0, is.1, record { there = is.2.there; more = is.2.more })
     same_causes BadPointer lost is = is
     same_causes BadDigest lost is = is
     same_causes refusal lost is = absurd is
 
-    goes : (lost : Option Vdev) (full : Bool) → ((vdev : Vdev) → lost ≡ Some vdev → LosesBlock s v (Plan timestamp) new vdev) → (full ≡ true → FindsNoRoom s v (Plan timestamp)) → (cause : Cause)
+    goes : (lost : Option Loss) (full : Bool) → ((loss : Loss) → lost ≡ Some loss → LosesBlock s v (Plan timestamp) new loss) → (full ≡ true → FindsNoRoom s v (Plan timestamp)) → (cause : Cause)
         → StepOf v (given_by_reads s new lost trusted full) (Plan timestamp) (Refused cause) (taken v Unplanned)
         → Goes s v trusted (Plan timestamp) (Refused cause) new
     goes lost full loses room cause step = record {

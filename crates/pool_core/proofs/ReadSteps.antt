@@ -10,7 +10,7 @@ use Rattle.pool_model.specs.declared.step.Step.TheVariants.{Read, ReadUnder}
 use Rattle.pool_model.specs.declared.step.Reply.TheVariants.{Bytes, Refused}
 use Rattle.pool_model.specs.declared.volume.PlainVolume.{PlainVolume}
 use Rattle.pool_model.specs.Pools.{PlainPool, volume_at}
-use Rattle.pool_model.specs.View.{View, Vdev, now_of}
+use Rattle.pool_model.specs.View.{View, Loss, now_of}
 use Rattle.pool_model.specs.Refusals.{refusal_of}
 use Rattle.pool_model.specs.Machine.{AreBytesOf, StepOf}
 use Rattle.volume_rules.specs.declared.shape.VolumeShape.{VolumeShape}
@@ -54,8 +54,8 @@ under_refused v group name offset len missing old new refusal named is why = eli
 ]
 
 -- a read, and what was given to it
-read_goes : (s : CoreState) (commit : State) (v : View) (lost : Option Vdev) (trusted : Bool) (step : Step) (reply : Reply) → Represents s v → OnlyReadsPool s.commit commit [] → IsFrontStep step
-    → ((vdev : Vdev) → lost ≡ Some vdev → LosesBlock s v step (record s { commit = commit }) vdev)
+read_goes : (s : CoreState) (commit : State) (v : View) (lost : Option Loss) (trusted : Bool) (step : Step) (reply : Reply) → Represents s v → OnlyReadsPool s.commit commit [] → IsFrontStep step
+    → ((loss : Loss) → lost ≡ Some loss → LosesBlock s v step (record s { commit = commit }) loss)
     → StepOf v (given_by_reads s (record s { commit = commit }) lost trusted false) step reply v → Goes s v trusted step reply (record s { commit = commit })
 read_goes s commit v lost trusted step reply r reads is_front loses is_step = record {
   given = given_by_reads s (record s { commit = commit }) lost trusted false;
@@ -72,8 +72,8 @@ read_goes s commit v lost trusted step reply r reads is_front loses is_step = re
   };
 }
 
-none_lost : (P : Vdev → Type 0) (vdev : Vdev) → None ≡ Some vdev → P vdev
-none_lost P vdev e = absurd (cc)
+none_lost : (P : Loss → Type 0) (loss : Loss) → None ≡ Some loss → P loss
+none_lost P loss e = absurd (cc)
 
 pub reads_under : (s : CoreState) (commit : State) (v : View) (trusted : Bool) (group : ℕ) (name : List ℕ) (offset len : ℕ) (bytes : List ℕ) → Represents s v → OnlyReadsPool s.commit commit []
     → refusal_of v (ReadUnder group name offset len) ≡ None → (trusted ≡ true → AreBytesOf (v.pools group) name offset len bytes)

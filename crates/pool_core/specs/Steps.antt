@@ -7,7 +7,7 @@ use Rattle.pool_model.specs.declared.step.Step.{Step}
 use Rattle.pool_model.specs.declared.step.Step.TheVariants.{Plan, Device, DiskOut, Release, Read, ReadUnder}
 use Rattle.pool_model.specs.declared.step.Reply.{Reply}
 use Rattle.pool_model.specs.declared.step.Reply.TheVariants.{Planned, Committed}
-use Rattle.pool_model.specs.View.{View, Vdev, Given, is_away, disks_in_use, is_suspended}
+use Rattle.pool_model.specs.View.{View, Loss, Given, is_away, disks_in_use, is_suspended}
 use Rattle.pool_model.specs.Machine.{StepOf}
 use Rattle.pool_commit.specs.Calls.{disk_call, made_between, faults_between, unread_between, called_between, IsFlushed}
 use Rattle.pool_commit.specs.Progress.{fault_list}
@@ -32,12 +32,12 @@ is_barred (Read name offset len) = false
 is_barred (ReadUnder group name offset len) = false
 is_barred step = true
 
--- a block that the step had to read could not be, and this is the vdev of its last copy
-abbrev pub LosesBlock : CoreState → View → Step → CoreState → Vdev → Type 0
-LosesBlock old v (Read name offset len) new vdev = LosesAt v old.commit new.commit (base_name v name) offset len vdev
-LosesBlock old v (ReadUnder group name offset len) new vdev = LosesUnder v old.commit new.commit group name offset len vdev
-LosesBlock old v (Plan timestamp) new vdev = LosesForPlan v old.commit new.commit (v.ledger (suc v.committed)) vdev
-LosesBlock old v step new vdev = ⊥
+-- a block that the step had to read could not be: this is the vdev of its last copy, and the group that it was born in
+abbrev pub LosesBlock : CoreState → View → Step → CoreState → Loss → Type 0
+LosesBlock old v (Read name offset len) new loss = LosesAt v old.commit new.commit (base_name v name) offset len loss
+LosesBlock old v (ReadUnder group name offset len) new loss = LosesUnder v old.commit new.commit group name offset len loss
+LosesBlock old v (Plan timestamp) new loss = LosesForPlan v old.commit new.commit (v.ledger (suc v.committed)) loss
+LosesBlock old v step new loss = ⊥
 
 -- there is no room for a block of the group that is to be planned, behind others of its own blocks and nothing else
 abbrev pub FindsNoRoom : CoreState → View → Step → Type 0
@@ -50,7 +50,7 @@ pub record IsGiven (old : CoreState) (v : View) (step : Step) (new : CoreState) 
   pub made : map disk_call given.made ≡ made_between (disks_of old) (disks_of new)
   pub fault : map disk_call (fault_list given.fault) ≡ faults_between (disks_of old) (disks_of new)
   pub unread : given.unread ≡ unread_between (disks_of old) (disks_of new)
-  pub lost : (vdev : Vdev) → given.lost_on ≡ Some vdev → LosesBlock old v step new vdev
+  pub lost : (loss : Loss) → given.lost ≡ Some loss → LosesBlock old v step new loss
   pub full : given.full ≡ true → FindsNoRoom old v step
 
 -- where a group is committed, each disk in use was flushed behind its last write

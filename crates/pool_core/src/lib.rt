@@ -14,7 +14,7 @@ mod syncing;
 mod workers;
 
 pub use pool::Core;
-pub use pool_commit::{RootContents, Stamp, contents_under, labels_of_opened_lie};
+pub use pool_commit::{KnownDisks, RootContents, Stamp, contents_under, labels_of_opened_lie};
 pub use pool_model::{Action, Bytes, Change, Name, Phase, Refusal, Reply, Step, Write};
 pub use runs::run;
 pub use volume_rules::{NamedShape, VolumeShape};

@@ -1,15 +1,15 @@
 //! Cores of pools that are opened, or made on disks.
-ghost use Rattle.std.specs.Prelude.{◌≡◌, ◌⊎◌, ◌<◌, Some, IfOk, IfErr};
+ghost use Rattle.std.specs.Prelude.{◌≡◌, ◌⊎◌, ◌<◌, Some, [], IfOk, IfErr};
 ghost use Rattle.block_store.specs.Blocks.{Contents, nothing_stored};
 ghost use Rattle.block_store.specs.Places.{AreEmpty, shapes_of};
 ghost use Rattle.block_store.specs.Plans.{Plans};
-ghost use Rattle.block_store.specs.Store.{Holds, is_out};
+ghost use Rattle.block_store.specs.Store.{Holds, is_out, is_stale};
 ghost use Rattle.pool_commit.specs.Backs.{HasMaps};
 ghost use Rattle.pool_commit.specs.Config.{vdevs_of};
 ghost use Rattle.pool_commit.specs.Configs.{FitsTable};
 ghost use Rattle.pool_commit.specs.Reopened.{AreContentsOf, AreMisplaced, IsConfiguredUnder};
 ghost use Rattle.pool_commit.specs.Slots.{IsStampOf, LabelsLieAside};
-ghost use Rattle.pool_commit.specs.Spans.{HasSpansOpened};
+ghost use Rattle.pool_commit.specs.Spans.{HaveNoSpans};
 ghost use Rattle.pool_model.specs.Pools.{PlainPool, no_volumes};
 ghost use Rattle.pool_model.specs.Refusals.{greatest};
 ghost use Rattle.pool_model.specs.View.{opened_as};
@@ -21,7 +21,7 @@ use crate::pool::Core;
 use block_pointer::Block;
 use block_store::BlockStore;
 use model_disk::{Disk, DiskArray};
-use pool_commit::{Commit, RootContents, Stamp};
+use pool_commit::{Commit, KnownDisks, RootContents, Stamp};
 use pool_intake::Intake;
 use pool_model::Refusal;
 use std::alloc::Global;
@@ -55,7 +55,9 @@ impl<D: Disk + Drop> Core<D> {
         ensures stamp { IfOk result (λ core. (state_of core).commit.stamp ≡ stamp) }
         ensures config { IfOk result (λ core. config_of (state_of core) ≡ config.value) }
         ensures represents { IfOk result (λ core. Represents (state_of core)
-            (opened_as (vdevs_of store.spaces) (is_out store.out) group no_volumes)) }
+            (opened_as (vdevs_of store.spaces) (is_out store.out)
+            (is_stale store.spans.stale) group no_volumes)) }
+        ensures spans { IfOk result (λ core. HaveNoSpans (state_of core).commit) }
         ensures back { IfErr result (λ disks. disks ≡ store.disks) }
     {
         let commit = Commit::empty(alloc, store, stamp, group, config)?;
@@ -66,7 +68,7 @@ impl<D: Disk + Drop> Core<D> {
         })
     }
 
-    /// A pool of this configuration that was committed before as that group, over a store that was opened and stores no block yet. The
+    /// A pool that was committed before as that group, with these disks, over a store that was opened and stores no block yet. The
     /// root is that of the group, and the contents are what was read of it. No disk is called. Nobody has a hold, each writer begins with number 1, and
     /// no group before it is kept. The uberblocks of later groups get this stamp. `BadPointer` where a space map is of no metaslab of the
     /// pool, a block of the meta object set lies in no place of it, or two copies share a sector. After an error the store's disks come
@@ -78,7 +80,7 @@ impl<D: Disk + Drop> Core<D> {
         group: u64,
         root: Block,
         contents: RootContents,
-        config: Arc<Config, Global>,
+        known: KnownDisks,
     ) -> Result<Self, (Refusal, DiskArray<D>)>
         requires plans { Plans store nothing_stored nothing_stored }
         requires empty { AreEmpty store.spaces }
@@ -88,9 +90,15 @@ impl<D: Disk + Drop> Core<D> {
         ensures disks { IfOk result (λ core. disks_in core ≡ store.disks) }
         ensures stamp { IfOk result (λ core. (state_of core).commit.stamp ≡ stamp) }
         ensures root { IfOk result (λ core. (state_of core).commit.kept.last.root ≡ Some root) }
-        ensures config { IfOk result (λ core. config_of (state_of core) ≡ config.value) }
+        ensures config { IfOk result (λ core. config_of (state_of core) ≡ known.config.value) }
+        ensures table { IfOk result (λ core.
+            (state_of core).commit.kept.last.spans_under.value ≡ contents.spans) }
         ensures spans { IfOk result (λ core.
-            HasSpansOpened store.out group (state_of core).commit.kept.last) }
+            (state_of core).commit.kept.last.spans.value ≡ known.spans) }
+        ensures stale { IfOk result (λ core.
+            (state_of core).commit.store.spans.stale ≡ store.spans.stale) }
+        ensures untouched { IfOk result (λ core. contents.spans ≡ [] → known.spans ≡ []
+            → HaveNoSpans (state_of core).commit) }
         ensures out { IfOk result (λ core. (state_of core).commit.store.out ≡ store.out) }
         ensures shapes { IfOk result (λ core.
             shapes_of (state_of core).commit.store.spaces ≡ shapes_of store.spaces) }
@@ -101,9 +109,10 @@ impl<D: Disk + Drop> Core<D> {
             → Holds store stored → AreContentsOf stored store.spaces group root pool contents
             → HasMaps store.spaces stored group (Some root) pool → IsMadeBy group pool
             → IsConfiguredUnder stamp stored group root pool
-            → IsStampOf (config_view config.value) stamp.claim stamp
+            → IsStampOf (config_view known.config.value) stamp.claim stamp
             → Represents (state_of core)
-            (opened_as (vdevs_of store.spaces) (is_out store.out) group pool)) }
+            (opened_as (vdevs_of store.spaces) (is_out store.out)
+            (is_stale store.spans.stale) group pool)) }
         ensures refused { IfErr result (λ failed. (failed.0 ≡ Refusal.NoMemory)
             ⊎ ((failed.0 ≡ Refusal.BadPointer) × AreMisplaced store.spaces contents)) }
         ensures back { IfErr result (λ failed. failed.1 ≡ store.disks) }
@@ -111,7 +120,7 @@ impl<D: Disk + Drop> Core<D> {
         let Ok(names) = contents.names.copied() else {
             return Err((Refusal::NoMemory, store.into_array()));
         };
-        match Commit::opened(alloc, store, stamp, group, root, contents, config) {
+        match Commit::opened(alloc, store, stamp, group, root, contents, known) {
             Ok(commit) => Ok(Core {
                 alloc,
                 intake: Intake::opened(alloc, group, names),

@@ -1,5 +1,5 @@
 -- A pool that is read back.
-use Rattle.std.proofs.Common.{◌≡◌, ◌⊎◌, inl, inr, ℕ, zero, suc, ◌<◌, ◌-◌, ◌^◌, Bool, true, false, List, length, Some, None, refl, sym, ap, ◌∙◌, subst, arith}
+use Rattle.std.proofs.Common.{◌≡◌, ◌⊎◌, inl, inr, ℕ, zero, suc, ◌<◌, ◌-◌, ◌^◌, Bool, true, false, List, [], length, Some, None, refl, sym, ap, ◌∙◌, subst, arith}
 use Rattle.std.specs.Prelude.{slice_get}
 use Rattle.std.proofs.lemmas.Option.{slice_get_within}
 use Rattle.block_pointer.specs.declared.block.Block.{Block}
@@ -8,6 +8,8 @@ use Rattle.block_store.specs.Elsewhere.{WritesElsewhereKeep}
 use Rattle.model_disk.specs.Joint.{Disks}
 use Rattle.model_disk.specs.Runs.{Makes, no_write}
 use Rattle.model_disk.proofs.RunLemmas.{Makes-none}
+use Rattle.pool_open.specs.Spans.{HaveNoSpans}
+use Rattle.pool_open.proofs.Knowing.{told_none}
 use Rattle.pool_open.specs.CoreState.{CoreState, config_of, disks_of}
 use Rattle.pool_model.specs.declared.volume.PlainVolume.{PlainVolume}
 use Rattle.pool_model.specs.Pools.{no_volumes, volume_at}
@@ -107,7 +109,7 @@ pub record AreRead (old surveyed read : Disks) (it : NewPool) (root : Block) (u 
   pub is : u ≡ first_uberblock it root
   pub alone : AreReadAlone u old surveyed
   pub beside : AreReadBeside it.out.items surveyed read
-  pub contents_are : IsReadOfRoot surveyed read it.shapes.items it.out.items 3 root contents
+  pub contents_are : IsReadOfRoot surveyed read it.shapes.items it.out.items [] 3 root contents
 
 pub record IsCoreOf (read : Disks) (it : NewPool) (u : Uberblock) (contents : RootContents) (core : CoreState) : Type 0 where
   pub disks : disks_of core ≡ read
@@ -116,7 +118,9 @@ pub record IsCoreOf (read : Disks) (it : NewPool) (u : Uberblock) (contents : Ro
   pub outs : core.commit.store.out ≡ it.out.items
   pub vdevs : shapes_of core.commit.store.spaces ≡ it.shapes.items
   pub config : config_of core ≡ it.config.value
-  pub represents : CoreRepresents read it.shapes.items it.out.items u contents core
+  pub fresh : core.commit.store.spans.stale ≡ []
+  pub untouched : contents.spans ≡ [] → HaveNoSpans core.commit
+  pub represents : CoreRepresents read it.shapes.items it.out.items [] u contents core
 
 both_read : (old surveyed read : Disks) (it : NewPool) (root : Block) (u : Uberblock) (contents : RootContents) → AreRead old surveyed read it root u contents → Makes no_write old read
 both_read old surveyed read it root u contents are = both_made no_write old surveyed read are.only (block_reads_made surveyed read are.beside.only)
@@ -129,7 +133,7 @@ back_of keep old surveyed read it root u contents core are made =
     let both = both_read old surveyed read it root u contents are in
     let reads = block_reads_made surveyed read are.beside.only in
     let still : IsTakenOf old read out u × AreReadAlone u old read = (taken_still old surveyed read out u are.taken reads, all_alone_more u old surveyed read reads are.alone) in
-    let at : CoreRepresents read shapes out (first_uberblock it root) contents core = subst (λ (v : Uberblock). CoreRepresents read shapes out v contents core) are.is made.represents in
+    let at : CoreRepresents read shapes out [] (first_uberblock it root) contents core = subst (λ (v : Uberblock). CoreRepresents read shapes out [] v contents core) are.is made.represents in
     record {
       only = subst (λ (d : Disks). Makes no_write old d) (sym made.disks) both;
       is = are.is;
@@ -140,18 +144,23 @@ back_of keep old surveyed read it root u contents core are made =
       outs = made.outs;
       vdevs = made.vdevs;
       config = made.config;
+      fresh = made.fresh;
+      untouched = λ stored hold spells none honest.
+          let honest_read = subst (λ (d : Disks). IsHonestSince old d) made.disks honest in
+          let within = honest_within no_write old surveyed read read are.only (Makes-none no_write read) honest_read in
+          made.untouched (told_none surveyed read shapes out 3 root contents are.contents_are stored no_volumes (held_behind_reads keep old surveyed shapes out [] stored are.only hold) spells none within);
       represents = λ stored hold spells configured named honest.
           let honest_read = subst (λ (d : Disks). IsHonestSince old d) made.disks honest in
           let within = honest_within no_write old surveyed read read are.only (Makes-none no_write read) honest_read in
-          at stored no_volumes (held_behind_reads keep old read shapes out out stored are.laid both hold)
-          (are.contents_are.are stored no_volumes (held_behind_reads keep old surveyed shapes out out stored are.laid are.only hold) spells.0 within) spells (none_made_by 3)
+          at stored no_volumes (held_behind_reads keep old read shapes out [] stored both hold)
+          (are.contents_are.are stored no_volumes (held_behind_reads keep old surveyed shapes out [] stored are.only hold) spells.0 within) spells (none_made_by 3)
           configured (subst (λ (kept : Config). IsStampOf (config_view kept) it.stamp.claim it.stamp) (sym made.config) named);
     }
 
 -- ---- there is none
 
 pub unread_root : (old surveyed new : Disks) (it : NewPool) (root : Block) (cause : RootRefusal) → Makes no_write old surveyed → IsFirstTaken old surveyed it root
-    → IsRootNotRead surveyed new it.shapes.items it.out.items 3 root (2 ^ 64 - 1) cause → IsUnread old it root new (of_root cause)
+    → IsRootNotRead surveyed new it.shapes.items it.out.items [] 3 root (2 ^ 64 - 1) cause → IsUnread old it root new (of_root cause)
 unread_root old surveyed new it root cause only taken unread = (
   both_made no_write old surveyed new only (block_reads_made surveyed new unread.only.only),
   elim unread.why [
@@ -161,7 +170,7 @@ unread_root old surveyed new it root cause only taken unread = (
 )
 
 pub unread_core : (old surveyed read : Disks) (it : NewPool) (root : Block) (u : Uberblock) (contents : RootContents) (refusal : Refusal) → AreRead old surveyed read it root u contents
-    → (refusal ≡ NoMemory) ⊎ ((refusal ≡ BadPointer) × AreMisplacedOver read it.shapes.items it.out.items contents) → IsUnread old it root read refusal
+    → (refusal ≡ NoMemory) ⊎ ((refusal ≡ BadPointer) × AreMisplacedOver read it.shapes.items it.out.items [] contents) → IsUnread old it root read refusal
 unread_core old surveyed read it root u contents refusal are why = (
   both_read old surveyed read it root u contents are,
   elim why [

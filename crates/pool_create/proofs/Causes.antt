@@ -1,6 +1,5 @@
 -- Why a stage is refused.
 use Rattle.std.proofs.Common.{◌≡◌, ◌⊎◌, inl, inr, ℕ, refl}
-use Rattle.block_store.specs.declared.refusal.Refusal.TheVariants as store
 use Rattle.model_disk.specs.Joint.{Disks}
 use Rattle.pool_format.specs.Blank.{HasCause}
 use Rattle.pool_format.specs.Faults.{FailedOn, is_fault}

@@ -7,12 +7,19 @@ use Rattle.block_pointer.specs.declared.block.Block.{Block}
 use Rattle.block_store.specs.Blocks.{Contents}
 use Rattle.block_store.specs.Places.{shapes_of}
 use Rattle.block_store.specs.Spaces.{VdevSpace}
-use Rattle.block_store.specs.Store.{is_out}
+use Rattle.block_store.specs.Store.{is_out, is_stale}
 use Rattle.block_store.specs.declared.shape.VdevShape.{VdevShape}
 use Rattle.model_disk.specs.Joint.{Disks}
+use Rattle.disk_set.specs.declared.stale.GroupSpan.{GroupSpan}
+use Rattle.meta_objset.specs.Reading.{HasStaleSpans}
+use Rattle.meta_objset.specs.declared.stale_spans.StaleSpan.{StaleSpan}
+use Rattle.stale_disks.proofs.Tables.{empty_once}
+use Rattle.pool_open.specs.Pools.{SpellsPool}
+use Rattle.pool_open.proofs.CommitDirectories.{spans_led}
+use Rattle.pool_open.proofs.CoreUntouched.{chain_keeps}
 use Rattle.pool_open.specs.Mapped.{SpellsWithMaps}
 use Rattle.pool_open.proofs.CommitMapping.{its_maps_over}
-use Rattle.pool_open.specs.Backs.{HasMaps, KeptHasMaps, SpellsKept, kept_pool}
+use Rattle.pool_open.specs.Backs.{HasMaps, KeptHasMaps, SpellsGroup, SpellsKept, kept_pool}
 use Rattle.pool_open.specs.Calls.{GrewTo}
 use Rattle.pool_open.specs.Directories.{SpellsBy}
 use Rattle.pool_open.specs.Reopened.{IsConfiguredUnder}
@@ -116,6 +123,16 @@ configured_if stored group last true pool b stamp it is none stamped =
     (by.0, its, has, record { claim_is = refl; guids = stamped.guids ∙ sym alike.guids; digest = stamped.digest ∙ sym alike.digest })
 configured_if stored group last false pool b stamp it is none stamped = absurd it
 
+-- its table of stale spans has the kept ones: none
+stale_if : (stored : Contents) (group : ℕ) (last : KeptGroup) (kept : Bool) (pool : PlainPool) (b : Block) (is : SpellsPool stored group b no_volumes)
+    → SpellsKept stored group (Some last) (if kept then Some pool else None) → last.root ≡ Some b → pool ≡ no_volumes → last.spans_under.value ≡ [] → is.stale ≡ []
+stale_if stored group last true pool b is it root none empty =
+    let spells : SpellsGroup stored group last no_volumes = subst (λ (p : PlainPool). SpellsGroup stored group last p) none it in
+    let table : HasStaleSpans (is.objects 3) [] =
+    subst (λ (spans : List StaleSpan). HasStaleSpans (is.objects 3) spans) empty (spans_led stored group last no_volumes b is spells root) in
+    empty_once (is.objects 3) is.stale table is.spans
+stale_if stored group last false pool b is it root none empty = absurd it
+
 pub spells_none : (old : Disks) (it : NewPool) (before after : CoreState) (root : Block) → it.out.items ≡ none_out (length old.starts) → IsInFront old it before → IsCommitted it before after root
     → SpellsNone old it (disks_of after) root
 spells_none old it before after root none in_front_of done honest =
@@ -140,11 +157,18 @@ spells_none old it before after root none in_front_of done honest =
     let spaces = after.commit.store.spaces in
     let maps = mapped_if spaces blocks.stored 3 kept.last (is_kept w 3) (w.pools 3)
     (subst (λ (g : Option KeptGroup). SpellsKept blocks.stored 3 g (kept_pool w 3)) at (blocks.kept 3))
-    (subst (λ (g : Option KeptGroup). KeptHasMaps spaces blocks.stored 3 g (kept_pool w 3)) at (blocks.reached.mapped 3)) in (
+    (subst (λ (g : Option KeptGroup). KeptHasMaps spaces blocks.stored 3 g (kept_pool w 3)) at (blocks.reached.mapped 3)) in
+    let spells = mapped_root spaces it.shapes.items blocks.stored 3 kept.last.root root (w.pools 3) done.root_is pool done.done.2 maps in
+    let keeps = chain_keeps before (in_front it) ran.steps (all.0).givens replies after w (all.0).chain done.done.1 in
+    let fresh : (disk birth : ℕ) → is_stale after.commit.store.spans.stale disk birth ≡ false = λ disk birth.
+    sym (backs.stale disk birth) ∙ ap (λ (lacks : ℕ → ℕ → Bool). lacks disk birth) keeps.1 in (
       blocks.stored,
       λ store over. held_whole after.commit.store store blocks.stored over.disks_are (over.shapes_are ∙ sym done.done.2) done.done.1
-          (λ disk. none_marked_in store.out (length old.starts) disk (over.out_is ∙ none)) blocks.plans.held,
-      mapped_root spaces it.shapes.items blocks.stored 3 kept.last.root root (w.pools 3) done.root_is pool done.done.2 maps,
+          (λ disk. none_marked_in store.out (length old.starts) disk (over.out_is ∙ none)) fresh
+          (λ disk birth. ap (λ (them : List (Option GroupSpan)). is_stale them disk birth) over.stale_is) blocks.plans.held,
+      spells,
+      stale_if blocks.stored 3 kept.last (is_kept w 3) (w.pools 3) root spells.0
+          (subst (λ (g : Option KeptGroup). SpellsKept blocks.stored 3 g (kept_pool w 3)) at (blocks.kept 3)) done.root_is pool (keeps.0.1 in_front_of.untouched).last.table,
       subst (λ (stamp : Stamp). IsConfiguredUnder stamp blocks.stored 3 root no_volumes) stamp
           (configured_if blocks.stored 3 kept.last (is_kept w 3) (w.pools 3) root after.commit.stamp
           (subst (λ (g : Option KeptGroup). SpellsKept blocks.stored 3 g (kept_pool w 3)) at (blocks.kept 3)) done.root_is pool (backs.stamped 3 kept.last at)),

@@ -1,5 +1,5 @@
 -- The labels of a new pool lie beside its blocks.
-use Rattle.std.proofs.Common.{◌≡◌, ◌⊎◌, inl, inr, ℕ, ◌+◌, ◌≤◌, ◌<◌, Bool, List, length, Some, refl, sym, ap, ◌∙◌, subst, arith}
+use Rattle.std.proofs.Common.{◌≡◌, ◌⊎◌, inl, inr, ℕ, ◌+◌, ◌≤◌, ◌<◌, Bool, List, [], length, Some, refl, sym, ap, ◌∙◌, subst, arith}
 use Rattle.std.specs.Prelude.{replicate, slice_get}
 use Rattle.std.proofs.lemmas.Option.{slice_get_within}
 use Rattle.std.proofs.lemmas.List.{length-map}
@@ -76,6 +76,7 @@ laid_later old new shapes out starts laid =
         shapes_are = laid.over.shapes_are;
         out_is = laid.over.out_is;
         since = laid.over.since ∙ ap (λ (them : List (List ℕ)). replicate (length them) 0) (sym starts);
+        stale_is = laid.over.stale_is;
       };
       lie = subst (λ (them : List (List ℕ)). LabelsLieAside them laid.store.spaces) (sym starts) laid.lie;
     }
@@ -83,10 +84,10 @@ laid_later old new shapes out starts laid =
 -- what the disks hold they hold behind their labels
 pub held_behind_labels : WritesElsewhereKeep → (old new : Disks) (shapes : List VdevShape) (out : List Bool) (pool : PoolIdentity) (config : Config) (stored : Contents)
     → IsLaidOver old shapes out → length (children_of (config_view config)) ≡ length old.starts → Makes (IsLabelWrite old.starts (labels_of pool config 1 3)) old new
-    → AreLabeled new (labels_of pool config 1 3) → HoldOver old shapes out stored → HoldOver new shapes out stored
+    → AreLabeled new (labels_of pool config 1 3) → HoldOver old shapes out [] stored → HoldOver new shapes out [] stored
 held_behind_labels keep old new shapes out pool config stored laid count makes are hold =
     let labels = labels_of pool config 1 3 in
-    held_where_same keep shapes out old new stored laid.store laid.over (hold laid.store laid.over) makes.starts
+    held_where_same keep shapes out [] old new stored laid.store laid.over (hold laid.store laid.over) makes.starts
     (λ disk i is. off_content (IsLabelWrite old.starts labels) old new disk i makes
     (off_area laid.store.spaces old.starts labels disk i laid.lie (labels_count pool config old.starts count) (shown_valid new labels are) is))
 

@@ -1,13 +1,15 @@
 -- A pool that is made, stage by stage.
-use Rattle.std.proofs.Common.{◌≡◌, ◌⊎◌, inl, inr, ℕ, Bool, true, false, List, length, refl, sym, ap, ◌∙◌, subst, arith}
+use Rattle.std.proofs.Common.{◌≡◌, ◌⊎◌, inl, inr, ℕ, Bool, true, false, Option, List, length, refl, sym, ap, ◌∙◌, subst, arith}
 use Rattle.std.specs.Prelude.{Ok}
 use Rattle.block_pointer.specs.declared.block.Block.{Block}
 use Rattle.block_store.specs.Elsewhere.{WritesElsewhereKeep}
 use Rattle.block_store.specs.Opened.{MayBeOpened}
-use Rattle.block_store.specs.Store.{is_out}
+use Rattle.block_store.specs.Store.{is_out, is_stale}
 use Rattle.model_disk.specs.Joint.{Disks}
 use Rattle.model_disk.specs.Runs.{AreSettled, Makes, no_write}
 use Rattle.model_disk.proofs.RunLemmas.{AreSettled-kept, Makes-none}
+use Rattle.disk_set.specs.declared.stale.GroupSpan.{GroupSpan}
+use Rattle.pool_open.specs.Spans.{HaveNoSpans}
 use Rattle.pool_open.specs.Calls.{GrewTo}
 use Rattle.pool_open.specs.Represents.{Represents}
 use Rattle.pool_open.specs.CoreState.{CoreState, disks_of}
@@ -16,7 +18,7 @@ use Rattle.pool_format.specs.Blank.{TellsBlank}
 use Rattle.pool_format.specs.Labels.{AreLabeled, IsLabelWrite, children_of, labels_of}
 use Rattle.pool_format.specs.declared.labeling.PoolIdentity.{PoolIdentity}
 use Rattle.pool_model.specs.Pools.{no_volumes}
-use Rattle.pool_model.specs.View.{opened_as}
+use Rattle.pool_model.specs.View.{none_stale, opened_as}
 use Rattle.pool_open.specs.Held.{IsLaidOver}
 use Rattle.pool_open.specs.Words.{vdevs_in}
 use Rattle.pool_open.specs.declared.refusal.Refusal.{Refusal}
@@ -128,13 +130,16 @@ named_of config count it new =
 
 represents_none : WritesElsewhereKeep → (old first labeled : Disks) (pool : PoolIdentity) (config : Config) (it : NewPool) (root : Block) (u : Uberblock) (core : CoreState)
     → AreStages old first labeled pool config it root u core → IsHonestSince old (disks_of core)
-    → Represents core (opened_as (vdevs_in it.shapes.items) (is_out it.out.items) 3 no_volumes)
+    → Represents core (opened_as (vdevs_in it.shapes.items) (is_out it.out.items) none_stale 3 no_volumes) × HaveNoSpans core.commit
 represents_none keep old first labeled pool config it root u core are honest =
     let spelled = are.group.spells (true_before old first (disks_of core) (grew_first old first labeled pool config it root u core are) honest) in
     let laid = laid_later old first it.shapes.items it.out.items are.group.grew.starts are.laid.laid in
     let count = are.count ∙ ap length (sym are.group.grew.starts) in
     let hold = held_behind_labels keep first labeled it.shapes.items it.out.items pool config spelled.0 laid count are.labels are.show spelled.1 in
-    are.back.represents spelled.0 hold spelled.2 spelled.3 (named_of config (length old.starts) it are.new) (true_after old labeled (disks_of core) (grew_labels old first labeled pool config it root u core are) honest)
+    let honest_back = true_after old labeled (disks_of core) (grew_labels old first labeled pool config it root u core are) honest in (
+      are.back.represents spelled.0 hold spelled.2 spelled.4 (named_of config (length old.starts) it are.new) honest_back,
+      are.back.untouched spelled.0 hold spelled.2.0 spelled.3 honest_back,
+    )
 
 -- what was known of the old disks is known of the labeled ones, and the reads of these were true
 since_labels : (old first labeled : Disks) (pool : PoolIdentity) (config : Config) (it : NewPool) (root : Block) (u : Uberblock) (core : CoreState)
@@ -179,7 +184,9 @@ made_of keep old first labeled pool config it root u core are = record {
   outs = are.back.outs;
   vdevs = are.back.vdevs;
   configured = ap config_view are.back.config ∙ are.new.config_is;
-  represents = represents_none keep old first labeled pool config it root u core are;
+  represents = λ honest. (represents_none keep old first labeled pool config it root u core are honest).0;
+  fresh = λ disk birth. ap (λ (them : List (Option GroupSpan)). is_stale them disk birth) are.back.fresh;
+  untouched = λ honest. (represents_none keep old first labeled pool config it root u core are honest).1;
 }
 
 pub created_of : (old blank : Disks) (pool : PoolIdentity) (config : Config) (it : NewPool) (u : Uberblock) (core : CoreState) → IsAllowedPool pool config → IsNewPool config (length old.starts) it
@@ -211,8 +218,10 @@ created_of old blank pool config it u core allowed new fit made =
       vdevs = made.vdevs;
       configured = made.configured;
       represents = λ honest.
-          subst (λ (out : List Bool). Represents core (opened_as (vdevs_in it.shapes.items) (is_out out) 3 no_volumes)) new.none_is_out
+          subst (λ (out : List Bool). Represents core (opened_as (vdevs_in it.shapes.items) (is_out out) none_stale 3 no_volumes)) new.none_is_out
           (made.represents (true_after old blank (disks_of core) first honest));
+      fresh = made.fresh;
+      untouched = λ honest. made.untouched (true_after old blank (disks_of core) first honest);
     }
 
 -- ---- the pool isn't made

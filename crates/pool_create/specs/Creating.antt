@@ -6,6 +6,7 @@ use Rattle.block_store.specs.Store.{is_out}
 use Rattle.block_store.specs.declared.shape.VdevShape.{VdevShape}
 use Rattle.model_disk.specs.Joint.{Disks, bytes_of, content}
 use Rattle.model_disk.specs.Runs.{AreSettled, Makes, no_write}
+use Rattle.pool_open.specs.Spans.{HaveNoSpans, NoneIsStale}
 use Rattle.pool_open.specs.Calls.{GrewTo}
 use Rattle.pool_open.specs.Represents.{Represents}
 use Rattle.pool_open.specs.CoreState.{CoreState, config_of, disks_of}
@@ -13,7 +14,7 @@ use Rattle.pool_format.specs.Blank.{TellsBlank}
 use Rattle.pool_format.specs.Labels.{AreLabeled, IsLabelWrite, labels_of}
 use Rattle.pool_format.specs.declared.labeling.PoolIdentity.{PoolIdentity}
 use Rattle.pool_model.specs.Pools.{no_volumes}
-use Rattle.pool_model.specs.View.{opened_as}
+use Rattle.pool_model.specs.View.{none_stale, opened_as}
 use Rattle.pool_open.specs.Shapes.{AreShapesOf}
 use Rattle.pool_open.specs.Words.{stamp_of, vdevs_in}
 use Rattle.pool_open.specs.declared.refusal.Refusal.{Refusal}
@@ -76,7 +77,10 @@ pub record IsCreated (old : Disks) (pool : PoolIdentity) (config : Config) (u : 
   pub vdevs : shapes_of core.commit.store.spaces ≡ shapes
   pub configured : config_view (config_of core) ≡ config_view config
   pub represents : IsHonestSince old (disks_of core)
-      → Represents core (opened_as (vdevs_in shapes) (is_out (nobody old.starts)) 3 no_volumes)
+      → Represents core (opened_as (vdevs_in shapes) (is_out (nobody old.starts)) none_stale 3 no_volumes)
+  -- it knows of no stale spans
+  pub fresh : NoneIsStale core.commit
+  pub untouched : IsHonestSince old (disks_of core) → HaveNoSpans core.commit
 
 -- ---- a pool that was not, and the disks as they are then
 

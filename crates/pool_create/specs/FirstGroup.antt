@@ -10,12 +10,13 @@ use Rattle.pool_open.specs.Mapped.{SpellsWithMaps}
 use Rattle.pool_open.specs.Calls.{GrewTo}
 use Rattle.pool_open.specs.Reopened.{IsConfiguredUnder}
 use Rattle.pool_open.specs.CommitState.{NoneIsOut}
+use Rattle.pool_open.specs.Spans.{HaveNoSpans}
 use Rattle.pool_open.specs.Represents.{Represents}
 use Rattle.pool_open.specs.CoreRuns.{Ran}
 use Rattle.pool_open.specs.CoreState.{CoreState, disks_of}
 use Rattle.pool_model.specs.Groups.{commits}
 use Rattle.pool_model.specs.Pools.{no_volumes}
-use Rattle.pool_model.specs.View.{View, opened_as}
+use Rattle.pool_model.specs.View.{View, none_stale, opened_as}
 use Rattle.pool_model.specs.declared.refusal.Refusal.TheVariants as cause
 use Rattle.pool_model.specs.declared.step.Reply.{Reply}
 use Rattle.pool_model.specs.declared.step.Reply.TheVariants.{Refused}
@@ -46,13 +47,14 @@ pub record RanFirst (old new : CoreState) (replies : List Reply) : Type 0 where
 
 -- no volumes are committed as group 2, of which nothing is on the disks, and none of them is out
 abbrev pub in_front : NewPool → View
-in_front it = opened_as (vdevs_in it.shapes.items) (is_out it.out.items) 2 no_volumes
+in_front it = opened_as (vdevs_in it.shapes.items) (is_out it.out.items) none_stale 2 no_volumes
 
 -- the core that the first group is committed by
 pub record IsInFront (disks : Disks) (it : NewPool) (core : CoreState) : Type 0 where
   pub disks_are : disks_of core ≡ disks
   pub stamp_is : core.commit.stamp ≡ it.stamp
   pub represents : Represents core (in_front it)
+  pub untouched : HaveNoSpans core.commit
 
 -- one group was committed, no disk went out, and the vdevs are what they were
 abbrev pub IsDone : NewPool → CoreState → List Reply → Type 0
@@ -91,12 +93,12 @@ pub record IsUnfinished (it : NewPool) (old new : CoreState) (refusal : Refusal)
   pub is_whole : IsTrue whole ↔ NoneIsOut new.commit
   pub cause_is : refusal ≡ cause_in replies whole
 
--- where all answers were true, the disks have the blocks of a root that spells no volumes, and has its space maps and the configuration that the
--- pool's uberblocks name
+-- where all answers were true, the disks have the blocks of a root that spells no volumes, and has its space maps, no stale spans, and the
+-- configuration that the pool's uberblocks name
 abbrev pub SpellsNone : Disks → NewPool → Disks → Block → Type 0
 SpellsNone old it new root =
-    IsHonestSince old new → (stored : Contents) × HoldOver new it.shapes.items it.out.items stored × SpellsWithMaps stored it.shapes.items 3 root no_volumes
-    × IsConfiguredUnder it.stamp stored 3 root no_volumes
+    IsHonestSince old new → (stored : Contents) × HoldOver new it.shapes.items it.out.items [] stored
+    × (spells : SpellsWithMaps stored it.shapes.items 3 root no_volumes) × (spells.0.stale ≡ []) × IsConfiguredUnder it.stamp stored 3 root no_volumes
 
 -- bytes of disks that were known are so still, where all answers were true
 abbrev pub KeepsKnown : Disks → NewPool → Disks → Type 0

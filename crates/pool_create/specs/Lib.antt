@@ -20,6 +20,7 @@ pub use Rattle.pool_open.specs.Progress
 pub use Rattle.pool_open.specs.Reopened
 pub use Rattle.pool_open.specs.Slots
 pub use Rattle.pool_open.specs.Space
+pub use Rattle.pool_open.specs.Spans
 pub use Rattle.pool_open.specs.Started
 pub use Rattle.pool_open.specs.CommitAbsence
 pub use Rattle.pool_open.specs.CommitState

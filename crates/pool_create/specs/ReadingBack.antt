@@ -1,5 +1,5 @@
 -- Reading a new pool as an open does.
-use Rattle.std.specs.Prelude.{ℕ, ◌≡◌, ◌≢◌, ◌⊎◌, ◌-◌, ◌^◌, Bool, List, Some}
+use Rattle.std.specs.Prelude.{ℕ, ◌≡◌, ◌≢◌, ◌⊎◌, ◌-◌, ◌^◌, Bool, List, [], Some}
 use Rattle.block_pointer.specs.declared.block.Block.{Block}
 use Rattle.block_store.specs.Places.{shapes_of}
 use Rattle.block_store.specs.Blocks.{Contents}
@@ -11,10 +11,12 @@ use Rattle.pool_open.specs.Slots.{IsStampOf, uberblock_of}
 use Rattle.pool_open.specs.Represents.{Represents}
 use Rattle.pool_open.specs.CoreState.{CoreState, config_of, disks_of}
 use Rattle.pool_model.specs.Pools.{no_volumes}
-use Rattle.pool_model.specs.View.{opened_as}
+use Rattle.pool_model.specs.View.{none_stale, opened_as}
 use Rattle.pool_open.specs.Causes.{of_root, of_slots}
 use Rattle.pool_open.specs.Held.{HoldOver}
 use Rattle.pool_open.specs.Mapped.{SpellsWithMaps}
+use Rattle.pool_open.specs.Pools.{SpellsPool}
+use Rattle.pool_open.specs.Spans.{HaveNoSpans}
 use Rattle.pool_open.specs.Opening.{AreMisplacedOver, RootContents}
 use Rattle.pool_open.specs.Roots.{IsReadOfRoot, RootRefuses}
 use Rattle.pool_open.specs.Words.{stamp_of, vdevs_in}
@@ -53,9 +55,12 @@ pub record IsReadBack (old : Disks) (it : NewPool) (root : Block) (u : Uberblock
   pub outs : core.commit.store.out ≡ it.out.items
   pub vdevs : shapes_of core.commit.store.spaces ≡ it.shapes.items
   pub config : config_of core ≡ it.config.value
-  pub represents : (stored : Contents) → HoldOver old it.shapes.items it.out.items stored → SpellsWithMaps stored it.shapes.items 3 root no_volumes
+  pub fresh : core.commit.store.spans.stale ≡ []
+  pub untouched : (stored : Contents) → HoldOver old it.shapes.items it.out.items [] stored → (is : SpellsPool stored 3 root no_volumes) → is.stale ≡ []
+      → IsHonestSince old (disks_of core) → HaveNoSpans core.commit
+  pub represents : (stored : Contents) → HoldOver old it.shapes.items it.out.items [] stored → SpellsWithMaps stored it.shapes.items 3 root no_volumes
       → IsConfiguredUnder it.stamp stored 3 root no_volumes → IsStampOf (config_view it.config.value) it.stamp.claim it.stamp
-      → IsHonestSince old (disks_of core) → Represents core (opened_as (vdevs_in it.shapes.items) (is_out it.out.items) 3 no_volumes)
+      → IsHonestSince old (disks_of core) → Represents core (opened_as (vdevs_in it.shapes.items) (is_out it.out.items) none_stale 3 no_volumes)
 
 -- the slots or labels of the disks in use were refused
 pub record IsSurveyRefused (old new : Disks) (refusal : Refusal) : Type 0 where
@@ -83,13 +88,13 @@ IsAmongOthers old new it root = IsFirstTaken old new it root × IsCrowded (first
 pub record IsRootUnread (now new : Disks) (it : NewPool) (root : Block) (refusal : Refusal) : Type 0 where
   pub cause : RootRefusal
   pub same : refusal ≡ of_root cause
-  pub why : RootRefuses now new it.shapes.items it.out.items 3 root (2 ^ 64 - 1) cause
+  pub why : RootRefuses now new it.shapes.items it.out.items [] 3 root (2 ^ 64 - 1) cause
 
 -- what was read of it has no place on the vdevs
 pub record IsMisplaced (old new : Disks) (it : NewPool) (root : Block) : Type 0 where
   pub contents : RootContents
-  pub reads : IsReadOfRoot old new it.shapes.items it.out.items 3 root contents
-  pub why : AreMisplacedOver new it.shapes.items it.out.items contents
+  pub reads : IsReadOfRoot old new it.shapes.items it.out.items [] 3 root contents
+  pub why : AreMisplacedOver new it.shapes.items it.out.items [] contents
 
 -- why there is no core: memory, a read that failed, or what was read
 abbrev pub IsCauseOfReading : Disks → Disks → NewPool → Block → Refusal → Type 0

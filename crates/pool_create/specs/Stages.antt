@@ -5,6 +5,7 @@ use Rattle.block_store.specs.Opened.{MayBeOpened}
 use Rattle.block_store.specs.Store.{is_out}
 use Rattle.model_disk.specs.Joint.{Disks}
 use Rattle.model_disk.specs.Runs.{AreSettled, Makes, no_write}
+use Rattle.pool_open.specs.Spans.{HaveNoSpans, NoneIsStale}
 use Rattle.pool_open.specs.Calls.{GrewTo}
 use Rattle.pool_open.specs.Represents.{Represents}
 use Rattle.pool_open.specs.CoreState.{CoreState, config_of, disks_of}
@@ -12,7 +13,7 @@ use Rattle.pool_format.specs.Blank.{TellsBlank}
 use Rattle.pool_format.specs.Labels.{AreLabeled, labels_of}
 use Rattle.pool_format.specs.declared.labeling.PoolIdentity.{PoolIdentity}
 use Rattle.pool_model.specs.Pools.{no_volumes}
-use Rattle.pool_model.specs.View.{opened_as}
+use Rattle.pool_model.specs.View.{none_stale, opened_as}
 use Rattle.pool_open.specs.Held.{IsLaidOver}
 use Rattle.pool_open.specs.Words.{stamp_of, vdevs_in}
 use Rattle.pool_open.specs.declared.refusal.Refusal.{Refusal}
@@ -61,7 +62,9 @@ pub record IsMade (old : Disks) (pool : PoolIdentity) (config : Config) (it : Ne
   pub vdevs : shapes_of core.commit.store.spaces ≡ it.shapes.items
   pub configured : config_view (config_of core) ≡ config_view config
   pub represents : IsHonestSince old (disks_of core)
-      → Represents core (opened_as (vdevs_in it.shapes.items) (is_out it.out.items) 3 no_volumes)
+      → Represents core (opened_as (vdevs_in it.shapes.items) (is_out it.out.items) none_stale 3 no_volumes)
+  pub fresh : NoneIsStale core.commit
+  pub untouched : IsHonestSince old (disks_of core) → HaveNoSpans core.commit
 
 -- There is none of them. It isn't put down to the configuration.
 pub record IsUnmade (old : Disks) (pool : PoolIdentity) (config : Config) (it : NewPool) (new : Disks) (refusal : Refusal) : Type 0 where

@@ -12,8 +12,9 @@ use crate::planning::NewPool;
 use crate::surveying::survey_alone;
 use block_pointer::Block;
 use block_store::writes_elsewhere_keep;
+use meta_objset::StaleSpans;
 use model_disk::{Disk, DiskArray};
-use pool_open::{OpenedPool, ReadRoot, Refusal, core_over, read_root};
+use pool_open::{KnownDisks, KnownRoot, OpenedPool, ReadRoot, Refusal, core_over, read_root};
 use std::alloc::Global;
 use std::sync::Arc;
 
@@ -58,15 +59,13 @@ pub(crate) fn read_back<D: Disk + Drop>(
         Err((refusal, disks)) => return Err((Refusal::from(refusal), disks)),
     };
     let ReadRoot { disks, contents } = read;
-    let core = core_over(
-        alloc,
-        disks,
-        &pool.shapes,
-        &pool.out,
-        &taken,
+    let spans = StaleSpans::new(alloc);
+    let root = KnownRoot {
         contents,
-        config,
-    )?;
+        stale: Vec::new(alloc),
+        disks: KnownDisks { config, spans },
+    };
+    let core = core_over(alloc, disks, &pool.shapes, &pool.out, &taken, root)?;
     Ok(OpenedPool {
         core,
         uberblock: taken,

@@ -51,7 +51,7 @@ Goes v step reply new = (w : View) × StepOf v nothing_given step reply w × Fol
 -- ---- nothing changes
 
 kept : (v : View) → KeepsCommitted v v
-kept v = record { vdevs = refl; slots = refl; first = refl; committed = refl; sync = refl; pools = refl; out = refl; synced = λ s. refl }
+kept v = record { vdevs = refl; slots = refl; first = refl; committed = refl; sync = refl; pools = refl; out = refl; stale = refl; synced = λ s. refl }
 
 -- the pipeline carries the same flow, and the index knows the same pool
 pub stays : (pipeline other : Pipeline) (index : NameIndex) (v : View) → Follows (record { pipeline = pipeline; index = index }) v → IsUnchanged pipeline other → Follows (record { pipeline = other; index = index }) v
@@ -130,7 +130,7 @@ goes old new v step reply waiting holds next ledger r s k n g same = (
     good = g;
     effects = effects_step v nothing_given step reply (moved v waiting holds next ledger) r.sound s r.effects;
   },
-  record { vdevs = refl; slots = refl; first = refl; committed = refl; sync = refl; pools = refl; out = refl; synced = same },
+  record { vdevs = refl; slots = refl; first = refl; committed = refl; sync = refl; pools = refl; out = refl; stale = refl; synced = same },
 )
 
 -- one that takes no action: the index stays
@@ -279,16 +279,16 @@ followed intake v w r e p f =
 -- ---- a pool that is opened
 
 -- nothing is pending behind the group that was committed
-now_opened : (vdevs : List Vdev) (out : ℕ → Bool) (group : ℕ) (pool : PlainPool) → now_of (opened_as vdevs out group pool) ≡ pool
-now_opened vdevs out group pool = upto_one group pool (λ other. no_items)
+now_opened : (vdevs : List Vdev) (out : ℕ → Bool) (stale : ℕ → ℕ → Bool) (group : ℕ) (pool : PlainPool) → now_of (opened_as vdevs out stale group pool) ≡ pool
+now_opened vdevs out stale group pool = upto_one group pool (λ other. no_items)
 
-pub follows_opened : (pipeline : Pipeline) (index : NameIndex) (vdevs : List Vdev) (out : ℕ → Bool) (group : ℕ) (pool : PlainPool) → group < greatest
+pub follows_opened : (pipeline : Pipeline) (index : NameIndex) (vdevs : List Vdev) (out : ℕ → Bool) (stale : ℕ → ℕ → Bool) (group : ℕ) (pool : PlainPool) → group < greatest
     → Carries pipeline (empty_after group) → Knows index pool → IsMadeBy group pool
-    → Follows (record { pipeline = pipeline; index = index }) (opened_as vdevs out group pool)
-follows_opened pipeline index vdevs out group pool below carries knows made = record {
-  sound = sound_opened vdevs out group pool below;
+    → Follows (record { pipeline = pipeline; index = index }) (opened_as vdevs out stale group pool)
+follows_opened pipeline index vdevs out stale group pool below carries knows made = record {
+  sound = sound_opened vdevs out stale group pool below;
   flow = carries;
-  names = subst (Knows index) (sym (now_opened vdevs out group pool)) knows;
+  names = subst (Knows index) (sym (now_opened vdevs out stale group pool)) knows;
   made = made;
   good = λ other. tt;
   effects = λ n le. tt;

@@ -33,6 +33,7 @@ pub record KeepsCommitted (v w : View) : Type 0 where
   pub sync : w.sync ≡ v.sync
   pub pools : w.pools ≡ v.pools
   pub out : w.out ≡ v.out
+  pub stale : w.stale ≡ v.stale
   pub synced : is_syncing v.sync ≡ true → w.ledger (suc v.committed) ≡ v.ledger (suc v.committed)
 
 -- in each view that old follows this is a step of the machine, with no call of a disk, to a view that new follows

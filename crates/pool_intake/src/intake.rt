@@ -47,8 +47,9 @@ impl Intake {
     /// each writer begins with number 1.
     pub fn opened(alloc: Global, group: u64, index: NameIndex) -> Intake
         requires { group < greatest }
-        ensures { (vdevs : List Vdev) (out : ℕ → Bool) (pool : PlainPool) → Knows index pool
-            → IsMadeBy group pool → Follows result (opened_as vdevs out group pool) }
+        ensures { (vdevs : List Vdev) (out : ℕ → Bool) (stale : ℕ → ℕ → Bool) (pool : PlainPool)
+            → Knows index pool → IsMadeBy group pool
+            → Follows result (opened_as vdevs out stale group pool) }
     {
         Intake {
             pipeline: Pipeline::new(alloc, group),

@@ -25,7 +25,7 @@ use Rattle.pool_model.specs.Headline.{Headline}
 use Rattle.pool_model.specs.Machine.{Run}
 use Rattle.pool_model.specs.Sound.{IsSound}
 use Rattle.pool_model.specs.Pools.{PlainPool}
-use Rattle.pool_model.specs.View.{Given, Vdev, View, nothing_given, opened_as}
+use Rattle.pool_model.specs.View.{Given, Vdev, View, none_stale, nothing_given, opened_as}
 use Rattle.pool_model.specs.declared.refusal.Refusal.TheVariants.{NoMemory}
 use Rattle.pool_model.specs.declared.step.Reply.{Reply}
 use Rattle.pool_model.specs.declared.step.Reply.TheVariants.{Refused}
@@ -113,8 +113,8 @@ few_disks guid vdevs allowed = omega (arith, few_guids vdevs allowed.each, allow
 
 -- a pool is opened with none of its disks out
 none_out : (its : List Vdev) (out : List Bool) (group : ℕ) (pool : PlainPool) → ((disk : ℕ) → is_out out disk ≡ false)
-    → opened_as its (is_out out) group pool ≡ opened_as its (λ disk. false) group pool
-none_out its out group pool none = λ j. opened_as its (λ disk. none disk j) group pool
+    → opened_as its (is_out out) none_stale group pool ≡ opened_as its (λ disk. false) none_stale group pool
+none_out its out group pool none = λ j. opened_as its (λ disk. none disk j) none_stale group pool
 
 by_group : (v : View) → AreByGroup (pool_of v)
 by_group v u other same = ap (λ (group : ℕ). if group == suc v.committed then pool_after v else v.pools group) same

@@ -21,7 +21,7 @@ use Rattle.pool_create.specs.Words.{vdevs_in}
 use Rattle.pool_format.specs.declared.labeling.PoolIdentity.{PoolIdentity}
 use Rattle.pool_labels.specs.declared.refusal.Refusal.{Refusal as LabelsRefusal}
 use Rattle.pool_model.specs.Pools.{PlainPool, no_volumes}
-use Rattle.pool_model.specs.View.{View, opened_as}
+use Rattle.pool_model.specs.View.{View, none_stale, opened_as}
 use Rattle.pool_model.specs.declared.refusal.Refusal.{Refusal as ExportRefusal}
 use Rattle.pool_model.specs.declared.step.Reply.{Reply}
 use Rattle.pool_model.specs.declared.step.Step.{Step}
@@ -58,7 +58,7 @@ pub record IsAtHand (core : CoreState) : Type 0 where
 module _ {D : Type 0} where
   -- what is served before anything was run
   abbrev pub served_first : {g : disk.Ghosts D} {pool : PoolIdentity} {config : Config} {u : Uberblock} {core : CoreState} → IsMade g pool config u core → View
-  served_first made = opened_as (vdevs_in made.created.created.shapes) (is_out (nobody made.created.array.starts)) 3 no_volumes
+  served_first made = opened_as (vdevs_in made.created.created.shapes) (is_out (nobody made.created.array.starts)) none_stale 3 no_volumes
 
   -- The core represents the view that is served, and its disks are at hand; or the disks are the pool's own, lead to the possible uberblocks with their pools, and open again.
   abbrev pub Keeps : disk.Ghosts D → PoolIdentity → Config → List ℕ → Place → Known → Type 0

@@ -6,7 +6,7 @@ use Rattle.pool_core.specs.Exporting.{MayBeExported}
 use Rattle.pool_model.specs.Headline.{Headline}
 use Rattle.pool_model.specs.Machine.{Run}
 use Rattle.pool_model.specs.Pools.{PlainPool}
-use Rattle.pool_model.specs.View.{Given, Vdev, View, opened_as}
+use Rattle.pool_model.specs.View.{Given, Vdev, View, none_stale, opened_as}
 use Rattle.pool_model.specs.declared.step.Reply.{Reply}
 use Rattle.pool_model.specs.declared.step.Step.{Step}
 use Rattle.pool_slots.specs.Commits.{last_or, only_last, IsNextGroup}
@@ -57,7 +57,7 @@ pub record StopsInSteps (v : View) (last : Uberblock) (before : List Uberblock) 
 pub record OpensPossible (p : Possible) (pools : Uberblock → PlainPool) (rewind : ℕ) (claimed : Uberblock) (v : View) : Type 0 where
   pub claim : IsClaimOf p rewind claimed
   pub vdevs : List Vdev
-  pub served : v ≡ opened_as vdevs (λ disk. false) claim.taken.group (pools claim.taken)
+  pub served : v ≡ opened_as vdevs (λ disk. false) none_stale claim.taken.group (pools claim.taken)
 
 abbrev pub Tells : Known → Happening → Known → Type 0
 Tells (Serving v last before) (Runs steps replies) (Serving w later earlier) = TakesSteps v last before steps replies w later earlier

@@ -93,6 +93,6 @@ sound_step v given step reply w s h = record {
 pub sound_start : (vdevs : List Vdev) → IsSound (started vdevs)
 sound_start vdevs = record { first = omega arith; flow = record { holds = tt; beyond = λ group lt. refl; groups = lit≤ tt; numbers = λ writer. lit≤ tt } }
 
-pub sound_opened : (vdevs : List Vdev) (out : ℕ → Bool) (group : ℕ) (pool : PlainPool) → group < greatest → IsSound (opened_as vdevs out group pool)
-sound_opened vdevs out group pool below =
+pub sound_opened : (vdevs : List Vdev) (out : ℕ → Bool) (stale : ℕ → ℕ → Bool) (group : ℕ) (pool : PlainPool) → group < greatest → IsSound (opened_as vdevs out stale group pool)
+sound_opened vdevs out stale group pool below =
     record { first = omega arith; flow = record { holds = tt; beyond = λ other lt. refl; groups = omega (arith, below); numbers = λ writer. lit≤ tt } }

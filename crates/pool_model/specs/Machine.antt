@@ -11,7 +11,7 @@ use Rattle.pool_model.specs.declared.refusal.Refusal.{Refusal}
 use Rattle.pool_model.specs.declared.refusal.Refusal.TheVariants.{NoMemory, DiskFault, NoSpace, Suspended, BadPointer, BadDigest, BadMap}
 use Rattle.pool_model.specs.declared.volume.PlainVolume.{PlainVolume}
 use Rattle.pool_model.specs.Pools.{PlainPool, volume_at, applied}
-use Rattle.pool_model.specs.View.{View, Vdev, Given, DueCall, Sync, Idle, Unplanned, Due, now_of, is_suspended, is_missing, lost_in, counted, disks_in_use}
+use Rattle.pool_model.specs.View.{View, Loss, Given, DueCall, Sync, Idle, Unplanned, Due, now_of, is_suspended, is_missing, lost_in, counted, disks_in_use}
 use Rattle.pool_model.specs.Refusals.{refusal_of, takes_memory}
 use Rattle.pool_model.specs.Flow.{Flow, flow_of, with_taken, with_committed, FlowStep}
 
@@ -196,15 +196,15 @@ AreBytesOf pool name offset len bytes = (volume : PlainVolume) × (volume_at nam
 abbrev pub IsReadCause : Refusal → Type 0
 IsReadCause cause = (cause ≡ DiskFault) ⊎ ((cause ≡ BadPointer) ⊎ ((cause ≡ BadDigest) ⊎ (cause ≡ BadMap)))
 
--- in this step one of the vdevs misses more disks than it has parities
-pub record MissesTooMany (v : View) (given : Given) (vdev : Vdev) : Type 0 where
-  pub there : Contains v.vdevs vdev
-  pub more : vdev.parity < lost_in (is_missing v given) vdev.first vdev.children
+-- in this step the vdev misses, for a block of that birth, more disks than it has parities
+pub record MissesTooMany (v : View) (given : Given) (loss : Loss) : Type 0 where
+  pub there : Contains v.vdevs loss.vdev
+  pub more : loss.vdev.parity < lost_in (is_missing v given loss.birth) loss.vdev.first loss.vdev.children
 
--- A block that had to be read can't be: the vdev of its last copy misses too many disks; or the block is not what its
+-- A block that had to be read can't be: the vdev of its last copy misses too many disks for it; or the block is not what its
 -- pointer tells, which is never so where the disks answer truly.
 abbrev pub IsUnreadable : View → Given → Refusal → Type 0
-IsUnreadable v given DiskFault = (vdev : Vdev) × (given.lost_on ≡ Some vdev) × MissesTooMany v given vdev
+IsUnreadable v given DiskFault = (loss : Loss) × (given.lost ≡ Some loss) × MissesTooMany v given loss
 IsUnreadable v given BadPointer = given.trusted ≡ false
 IsUnreadable v given BadDigest = given.trusted ≡ false
 IsUnreadable v given BadMap = given.trusted ≡ false

@@ -39,14 +39,20 @@ pub record View : Type 0 where
   pub ledger : Ledger  -- what each group above the committed one has accepted
   pub pools : ℕ → PlainPool  -- the pool of each kept group
   pub out : ℕ → Bool  -- the disks that are out
+  pub stale : ℕ → ℕ → Bool  -- whether a disk lacks blocks that were born in a group: it missed that group before the pool was opened
+
+-- no disk missed a group
+abbrev pub none_stale : ℕ → ℕ → Bool
+none_stale disk birth = false
 
 -- an empty pool over these vdevs is committed as group 3
 abbrev pub started : List Vdev → View
-started vdevs = record { vdevs = vdevs; slots = false; first = 3; committed = 3; sync = Idle; waiting = None; holds = []; next = λ writer. 1; ledger = λ group. no_items; pools = λ group. no_volumes; out = λ disk. false }
+started vdevs = record { vdevs = vdevs; slots = false; first = 3; committed = 3; sync = Idle; waiting = None; holds = []; next = λ writer. 1; ledger = λ group. no_items; pools = λ group. no_volumes; out = λ disk. false; stale = none_stale }
 
--- a pool is opened that was committed before as this group, with these disks out
-abbrev pub opened_as : List Vdev → (ℕ → Bool) → ℕ → PlainPool → View
-opened_as vdevs out group pool = record (started vdevs) { slots = true; first = group; committed = group; pools = λ other. pool; out = out }
+-- a pool is opened that was committed before as this group, with these disks out, and of groups before it these blocks lacking
+abbrev pub opened_as : List Vdev → (ℕ → Bool) → (ℕ → ℕ → Bool) → ℕ → PlainPool → View
+opened_as vdevs out stale group pool =
+    record (started vdevs) { slots = true; first = group; committed = group; pools = λ other. pool; out = out; stale = stale }
 
 -- ---- groups
 
@@ -126,22 +132,27 @@ is_away v disk = v.out disk
 abbrev pub is_suspended : View → Bool
 is_suspended v = not (is_tolerable v.vdevs (is_away v))
 
+-- A block that had to be read, and could not be.
+pub record Loss : Type 0 where
+  pub vdev : Vdev  -- that of its last copy
+  pub birth : ℕ  -- the group that it was born in
+
 -- What is not the machine's to choose in a step.
 pub record Given : Type 0 where
   pub made : List DueCall  -- the writes and flushes that were made, in order
   pub fault : Option DueCall  -- the last of them, where it failed
   pub unread : List ℕ  -- the disks that failed a read, in order
-  pub lost_on : Option Vdev  -- the vdev of the last copy of a block that had to be read, and could not be
+  pub lost : Option Loss  -- the block that could not be read
   pub trusted : Bool  -- whether what the disks answered is known to be true
   pub full : Bool  -- whether some block of a plan found no free run of its size where it may go
 
 -- no disk was called
 abbrev pub nothing_given : Given
-nothing_given = record { made = []; fault = None; unread = []; lost_on = None; trusted = true; full = false }
+nothing_given = record { made = []; fault = None; unread = []; lost = None; trusted = true; full = false }
 
--- the disks that are missing for a step: away, or failing a read in it
-abbrev pub is_missing : View → Given → ℕ → Bool
-is_missing v given disk = is_away v disk || list_any (λ d. d == disk) given.unread
+-- the disks that are missing in a step for a block that was born in that group: away, stale for it, or failing a read in the step
+abbrev pub is_missing : View → Given → ℕ → ℕ → Bool
+is_missing v given birth disk = is_away v disk || (v.stale disk birth || list_any (λ d. d == disk) given.unread)
 
 -- a write or a flush failed on the disk
 abbrev pub is_fault_on : Option DueCall → ℕ → Bool

@@ -1,5 +1,5 @@
 -- Vdevs, one after the other.
-use Rattle.std.proofs.Common.{◌≡◌, ◌≤◌, ◌+◌, ◌*◌, ℕ, zero, suc, Bool, false, List, [], ◌∷◌, length, Some, slice_get, slice_index_or, take, min, ap, refl, ◌∙◌, subst, arith}
+use Rattle.std.proofs.Common.{◌≡◌, ◌≤◌, ◌+◌, ◌*◌, ℕ, zero, suc, Bool, false, List, [], ◌∷◌, length, Some, slice_get, slice_index_or, take, min, ap, refl, subst, arith}
 use Rattle.block_store.specs.declared.shape.VdevShape.{VdevShape}
 use Rattle.pool_core.specs.Config.{shown}
 use Rattle.pool_open.specs.Words.{sectors_in, vdevs_in}

@@ -1,6 +1,7 @@
 pub mod Lists
 pub mod Claiming
 pub mod Holding
+pub mod Knowing
 pub mod Layouts
 pub mod Once
 pub mod Reading
@@ -20,6 +21,7 @@ pub mod PutAway
 pub use Rattle.pool_core.proofs.SnapshotsLosses
 pub use Rattle.pool_core.proofs.SnapshotsReadings
 pub use Rattle.pool_core.proofs.SnapshotsStanding
+pub use Rattle.pool_core.proofs.CommitDirectories
 pub use Rattle.pool_core.proofs.CommitGrowing
 pub use Rattle.pool_core.proofs.CommitLabels
 pub use Rattle.pool_core.proofs.CommitMade
@@ -28,3 +30,4 @@ pub use Rattle.pool_core.proofs.CommitPlanning
 pub use Rattle.pool_core.proofs.CommitProgressing
 pub use Rattle.pool_core.proofs.Phases as CorePhases
 pub use Rattle.pool_core.proofs.Running as CoreRunning
+pub use Rattle.pool_core.proofs.Untouched as CoreUntouched

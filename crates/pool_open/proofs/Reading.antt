@@ -1,5 +1,5 @@
 -- A root that was read through a store, by the disks alone.
-use Rattle.std.proofs.Common.{◌≡◌, ◌≢◌, ◌⊎◌, inl, inr, ℕ, ◌≤◌, Bool, List, [], length, refl, sym, ap, subst, ◌∙◌}
+use Rattle.std.proofs.Common.{◌≡◌, ◌≢◌, ◌⊎◌, inl, inr, ℕ, ◌≤◌, Bool, Option, List, [], length, refl, sym, ap, subst, ◌∙◌}
 use Rattle.std.proofs.lemmas.List.{append-nil}
 use Rattle.model_disk.specs.Joint.{Disks}
 use Rattle.raidz_io.specs.Reads.{OnlyReads, AreUntouched, IsHonestSince}
@@ -9,6 +9,7 @@ use Rattle.block_store.specs.Opened.{MayBeOpened}
 use Rattle.block_store.specs.Places.{shapes_of}
 use Rattle.block_store.specs.Spaces.{VdevSpace}
 use Rattle.block_store.specs.Steps.{OnlyReadsBlocks, AnswersAreTrue}
+use Rattle.disk_set.specs.declared.stale.GroupSpan.{GroupSpan}
 use Rattle.block_store.specs.Store.{Store, Holds, outs, outs_from}
 use Rattle.block_store.specs.declared.refusal.Refusal.{Refusal as StoreRefusal}
 use Rattle.block_store.specs.declared.refusal.Refusal.TheVariants as store
@@ -45,9 +46,9 @@ honest_between one other old new disks back honest =
 none_read : (out : List Bool) (disks : Disks) → AreReadBeside out disks disks
 none_read out disks = record { only = record { starts = refl; newer = []; calls = refl; are_reads = tt }; untouched = λ disk among. refl }
 
-pub refused_at_once : (old : Disks) (shapes : List VdevShape) (out : List Bool) (group : ℕ) (root : Block) (most : ℕ) (cause : StoreRefusal)
-    → (cause ≡ store.NoMemory) ⊎ ((cause ≡ store.BadConfig) × ¬ MayBeOpened old.starts shapes out) → IsRootNotRead old old shapes out group root most (of_read cause)
-refused_at_once old shapes out group root most cause why = record {
+pub refused_at_once : (old : Disks) (shapes : List VdevShape) (out : List Bool) (stale : List (Option GroupSpan)) (group : ℕ) (root : Block) (most : ℕ) (cause : StoreRefusal)
+    → (cause ≡ store.NoMemory) ⊎ ((cause ≡ store.BadConfig) × ¬ MayBeOpened old.starts shapes out) → IsRootNotRead old old shapes out stale group root most (of_read cause)
+refused_at_once old shapes out stale group root most cause why = record {
   only = none_read out old;
   why = elim why [ inl memory ↦ inl (ap of_read memory) | inr bad ↦ inr (inl (ap of_read bad.0, bad.1)) ];
 }
@@ -58,10 +59,10 @@ IsForLossAt store later group root most refusal =
     (stored : Contents) (pool : PlainPool) → Holds store stored → (is : SpellsPool stored group root pool) → HasItsMaps store.spaces is
     → AreDistinct (meta_blocks_of is) → length (meta_blocks_of is) ≤ most → AnswersAreTrue store later → IsForLossOf refusal
 
-pub refused_through : (store later : Store) (old : Disks) (shapes : List VdevShape) (out : List Bool) (group : ℕ) (root : Block) (most : ℕ) (refusal : Refusal)
-    → IsStoreOver old shapes out store → OnlyReadsBlocks store later [] → (after : ℕ) → AreContentsRefused store later [] group root most after refusal
-    → IsForLossAt store later group root most refusal → IsRootNotRead old later.disks shapes out group root most refusal
-refused_through store later old shapes out group root most refusal over reads after cause known = record {
+pub refused_through : (store later : Store) (old : Disks) (shapes : List VdevShape) (out : List Bool) (stale : List (Option GroupSpan)) (group : ℕ) (root : Block) (most : ℕ) (refusal : Refusal)
+    → IsStoreOver old shapes out stale store → OnlyReadsBlocks store later [] → (after : ℕ) → AreContentsRefused store later [] group root most after refusal
+    → IsForLossAt store later group root most refusal → IsRootNotRead old later.disks shapes out stale group root most refusal
+refused_through store later old shapes out stale group root most refusal over reads after cause known = record {
   only = read_beside store later old later.disks out over.disks_are over.out_is refl reads;
   why = inr (inr (record {
     store = store;

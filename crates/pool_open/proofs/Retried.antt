@@ -49,11 +49,12 @@ module _ {old : Disks} {shapes : List VdevShape} {out : List Bool} {rewind : ℕ
 
   pub laid_left : IsFailedClaim old shapes out rewind new left → IsLaidOver old shapes out → IsLaidOver new shapes left
   laid_left it laid =
-      let over : IsStoreOver new shapes left (record laid.store { disks = new; out = left }) = record {
+      let over : IsStoreOver new shapes left [] (record laid.store { disks = new; out = left }) = record {
         disks_are = refl;
         shapes_are = laid.over.shapes_are;
         out_is = refl;
         since = subst (λ (starts : List (List ℕ)). laid.store.spans.since ≡ replicate (length starts) 0) (sym (starts_left it)) laid.over.since;
+        stale_is = laid.over.stale_is;
       } in
       record {
         store = record laid.store { disks = new; out = left };

@@ -1,5 +1,5 @@
 -- Images of disks may be opened.
-use Rattle.std.proofs.Common.{◌≡◌, ◌<◌, ◌≤◌, [], refl}
+use Rattle.std.proofs.Common.{refl}
 use Rattle.model_disk.specs.Joint.{bytes_of}
 use Rattle.raidz_io.proofs.Written.{slice_get_some}
 use Rattle.pool_open.specs.Stops.{StoppedCanBeOpened}

@@ -2,6 +2,7 @@ pub mod Children
 pub mod Shapes
 pub mod Claims
 pub mod Held
+pub mod Known
 pub mod Finding
 pub mod Roots
 pub mod Causes
@@ -41,6 +42,7 @@ pub use Rattle.pool_core.specs.Stamp
 pub use Rattle.pool_core.specs.Moves
 pub use Rattle.pool_core.specs.Represents
 pub use Rattle.pool_core.specs.Runs as CoreRuns
+pub use Rattle.pool_core.specs.Spans
 pub use Rattle.pool_core.specs.State as CoreState
 pub use Rattle.pool_core.specs.StateOf as CoreStateOf
 pub use Rattle.pool_core.specs.Steps as CoreSteps

@@ -1,13 +1,14 @@
 -- Opening a pool whose disks are in order.
-use Rattle.std.specs.Prelude.{ℕ, ◌≡◌, ◌⊎◌, ◌≤◌, Bool, true, false, Some, List, length}
+use Rattle.std.specs.Prelude.{ℕ, ◌≡◌, ◌⊎◌, ◌≤◌, Bool, true, false, Option, Some, List, length}
 use Rattle.model_disk.specs.Joint.{Disks}
 use Rattle.raidz_io.specs.Reads.{IsHonestSince}
 use Rattle.block_store.specs.Blocks.{Contents}
 use Rattle.block_store.specs.Opened.{MayBeOpened}
 use Rattle.block_store.specs.Places.{AreEmpty, shapes_of}
-use Rattle.block_store.specs.Store.{Store, is_out}
+use Rattle.disk_set.specs.declared.stale.GroupSpan.{GroupSpan}
+use Rattle.block_store.specs.Store.{Store, is_out, is_stale}
 use Rattle.block_store.specs.declared.shape.VdevShape.{VdevShape}
-pub use Rattle.pool_core.specs.Spans.{HasSpansOpened}
+pub use Rattle.pool_core.specs.Spans.{HasSpansOpened, LeavesOutStale}
 use Rattle.pool_core.specs.Mapped.{SpellsWithMaps}
 pub use Rattle.pool_core.specs.RootContents.{RootContents}
 use Rattle.pool_core.specs.Reopened.{AreMisplaced}
@@ -29,7 +30,7 @@ use Rattle.uberblock_ring.specs.declared.uberblock.Uberblock.{Uberblock}
 use Rattle.volume_rules.specs.NowMoves.{IsMadeBy}
 use Rattle.pool_open.specs.Causes.{of_root, of_slots}
 use Rattle.pool_open.specs.Held.{HoldOver, IsStoreOver}
-use Rattle.pool_open.specs.Roots.{AreReadBeside, IsReadOfRoot, RootRefuses}
+use Rattle.pool_open.specs.Roots.{AreReadBeside, IsKnownRoot, RootIsUnknown}
 use Rattle.pool_open.specs.Trees.{IsConfiguredFor, NamesConfigOf, OpensPossible}
 use Rattle.pool_open.specs.Words.{most_blocks, stamp_of, vdevs_in}
 use Rattle.pool_open.specs.declared.refusal.Refusal.{Refusal}
@@ -59,13 +60,15 @@ pub record IsKeptThrough (later : List Bool) (rewind : ℕ) (old new : Disks) : 
 
 -- ---- an open that is done, by one attempt
 
--- Where the disks still in use have the blocks of a root that spells a pool and has its space maps and a configuration, the claimed uberblock names
--- that and the one that the core keeps, and all answers were true, the core represents that pool.
+-- Where the disks still in use have the blocks of a root that spells a pool, but for those of groups that disks missed by what the core knows, and it has
+-- its space maps and a configuration, the claimed uberblock names that and the one that the core keeps, and all answers were true, the core represents
+-- that pool.
 abbrev pub RepresentsRoot : Disks → List VdevShape → List Bool → Uberblock → CoreState → Type 0
 RepresentsRoot old shapes later claimed core =
-    (stored : Contents) (pool : PlainPool) → HoldOver old shapes later stored → SpellsWithMaps stored shapes claimed.group claimed.root pool
-    → IsConfiguredFor claimed stored pool → NamesConfigOf claimed core → IsHonestSince old (disks_of core) → IsMadeBy claimed.group pool
-    → Represents core (opened_as (vdevs_in shapes) (is_out later) claimed.group pool)
+    (stored : Contents) (pool : PlainPool) → HoldOver old shapes later core.commit.store.spans.stale stored
+    → SpellsWithMaps stored shapes claimed.group claimed.root pool → IsConfiguredFor claimed stored pool → NamesConfigOf claimed core
+    → IsHonestSince old (disks_of core) → IsMadeBy claimed.group pool
+    → Represents core (opened_as (vdevs_in shapes) (is_out later) (is_stale core.commit.store.spans.stale) claimed.group pool)
 
 -- An uberblock was claimed on the disks that are still in use, and the core goes on from its group.
 pub record IsOpenedOver (old : Disks) (shapes : List VdevShape) (out : List Bool) (rewind : ℕ) (claimed : Uberblock) (core : CoreState) : Type 0 where
@@ -85,8 +88,9 @@ pub record IsOpenedOver (old : Disks) (shapes : List VdevShape) (out : List Bool
   pub may : MayBeOpened old.starts shapes out
   pub outs : core.commit.store.out ≡ later
   pub vdevs : shapes_of core.commit.store.spaces ≡ shapes
-  -- and the spans of the group's table, which end with the group for disks that are back
+  -- and the spans of the group's table, which end with the group for disks that are back; those of their groups it leaves out as it reads
   pub spans : HasSpansOpened later claimed.group core.commit.kept.last
+  pub stale : LeavesOutStale core.commit
   pub represents : RepresentsRoot old shapes later claimed core
   pub possible : OpensPossible old shapes later rewind claimed core
 
@@ -105,12 +109,13 @@ pub record IsRootUnread (old surveyed new : Disks) (shapes : List VdevShape) (la
   pub is : IsSurveyed later rewind old surveyed s
   pub cause : RootRefusal
   pub same : refusal ≡ of_root cause
-  pub why : RootRefuses surveyed new shapes later s.claimed.group s.claimed.root (most_blocks shapes) cause
+  pub why : RootIsUnknown surveyed new shapes later s.claimed.group s.claimed.root (most_blocks shapes) cause
 
 -- what was read of a root has no place on the vdevs
-pub record AreMisplacedOver (disks : Disks) (shapes : List VdevShape) (later : List Bool) (contents : RootContents) : Type 0 where
+pub record AreMisplacedOver (disks : Disks) (shapes : List VdevShape) (later : List Bool) (stale : List (Option GroupSpan)) (contents : RootContents)
+    : Type 0 where
   pub store : Store
-  pub over : IsStoreOver disks shapes later store
+  pub over : IsStoreOver disks shapes later stale store
   pub empty : AreEmpty store.spaces
   pub misplaced : AreMisplaced store.spaces contents
 
@@ -119,8 +124,9 @@ pub record IsReadMisplaced (old surveyed read new : Disks) (shapes : List VdevSh
   pub s : Surveyed
   pub is : IsSurveyed later rewind old surveyed s
   pub contents : RootContents
-  pub reads : IsReadOfRoot surveyed read shapes later s.claimed.group s.claimed.root contents
-  pub why : AreMisplacedOver new shapes later contents
+  pub stale : List (Option GroupSpan)
+  pub reads : IsKnownRoot surveyed read shapes later s.claimed.group s.claimed.root contents stale
+  pub why : AreMisplacedOver new shapes later stale contents
 
 -- Before anything was written: want of memory; the vdevs don't lie on the disks; slots, labels or absent disks; the root.
 abbrev pub IsCauseOfReading : Disks → Disks → Disks → List VdevShape → List Bool → List Bool → ℕ → Refusal → Type 0

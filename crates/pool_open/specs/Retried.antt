@@ -1,5 +1,6 @@
 -- Opens that go on without disks on which their claims failed.
-use Rattle.std.specs.Prelude.{ℕ, zero, suc, ◌≡◌, ◌⊎◌, ◌<◌, Bool, true, false, List, length}
+use Rattle.std.specs.Prelude.{ℕ, zero, suc, ◌≡◌, ◌⊎◌, ◌<◌, Bool, true, false, Option, List, length}
+use Rattle.disk_set.specs.declared.stale.GroupSpan.{GroupSpan}
 use Rattle.model_disk.specs.Joint.{Disks}
 use Rattle.model_disk.specs.declared.disk.Disk as disk
 use Rattle.block_store.specs.Store.{is_out}
@@ -16,7 +17,7 @@ use Rattle.pool_slots.specs.Surveys.{Surveyed, IsSurveyed, IsWholeOf}
 use Rattle.uberblock_ring.specs.declared.uberblock.Uberblock.{Uberblock}
 use Rattle.vdev_label.specs.declared.label.Config.{Config}
 use Rattle.pool_open.specs.Opening.{AreClaimedThrough, IsKeptThrough, IsNotOpenedOver, IsOpenedOver}
-use Rattle.pool_open.specs.Roots.{AreReadBeside, IsReadOfRoot}
+use Rattle.pool_open.specs.Roots.{AreReadBeside, IsKnownRoot}
 use Rattle.pool_open.specs.Settling.{AreSettledWithout}
 use Rattle.pool_open.specs.Words.{vdevs_in}
 use Rattle.pool_open.specs.declared.attempts.Attempt.{Attempt}
@@ -27,7 +28,8 @@ use Rattle.pool_open.specs.declared.refusal.Refusal.TheVariants.{TooManyMissing}
 -- ---- one attempt
 
 -- The disks were surveyed, and the root of what was found is read. Nothing was written, and of no vdev more disks are out than it has parities.
-pub record IsPoolRead (old : Disks) (shapes : List VdevShape) (out later : List Bool) (rewind : ℕ) (s : Surveyed) (contents : RootContents) (new : Disks) : Type 0 where
+pub record IsPoolRead (old : Disks) (shapes : List VdevShape) (out later : List Bool) (rewind : ℕ) (s : Surveyed) (contents : RootContents)
+    (stale : List (Option GroupSpan)) (new : Disks) : Type 0 where
   pub surveyed : Disks
   pub absent : GoOut out later old surveyed
   pub count : length later ≡ length old.starts
@@ -36,7 +38,7 @@ pub record IsPoolRead (old : Disks) (shapes : List VdevShape) (out later : List 
   pub below : s.claimed.group < greatest
   pub tolerable : is_tolerable (vdevs_in shapes) (is_out later) ≡ true
   pub blocks : AreReadBeside later surveyed new
-  pub root : IsReadOfRoot surveyed new shapes later s.claimed.group s.claimed.root contents
+  pub root : IsKnownRoot surveyed new shapes later s.claimed.group s.claimed.root contents stale
 
 -- A claim was begun, of which a call failed on a disk that was in use. That disk is out now, and nothing is unflushed on those that are left. When the
 -- claim was begun, of no vdev more disks were out than it has parities; and a stop at any moment since, in the flushes too, left what one in an open does.

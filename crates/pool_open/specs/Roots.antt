@@ -1,5 +1,6 @@
 -- What is read of a root, over disks that no store holds yet.
-use Rattle.std.specs.Prelude.{ℕ, ◌≡◌, ◌≤◌, ◌⊎◌, Bool, List, [], length}
+use Rattle.std.specs.Prelude.{ℕ, ◌≡◌, ◌≢◌, ◌≤◌, ◌⊎◌, Bool, Option, List, [], length}
+use Rattle.disk_set.specs.declared.stale.GroupSpan.{GroupSpan}
 use Rattle.model_disk.specs.Joint.{Disks}
 use Rattle.raidz_io.specs.Reads.{OnlyReads, AreUntouched, IsHonestSince}
 use Rattle.block_pointer.specs.declared.block.Block.{Block}
@@ -8,7 +9,7 @@ use Rattle.block_store.specs.Opened.{MayBeOpened}
 use Rattle.block_store.specs.Places.{shapes_of}
 use Rattle.block_store.specs.Spaces.{VdevSpace}
 use Rattle.block_store.specs.Store.{Store, outs_from}
-use Rattle.block_store.specs.declared.refusal.Refusal.TheVariants.{BadConfig}
+use Rattle.block_store.specs.declared.refusal.Refusal.TheVariants.{BadConfig, BadDigest}
 use Rattle.block_store.specs.declared.shape.VdevShape.{VdevShape}
 use Rattle.pool_core.specs.Contents.{AreContentsOf, AreContentsRefused}
 use Rattle.pool_core.specs.Mapped.{HasItsMapsOver}
@@ -35,10 +36,11 @@ AreContentsOver shapes stored group root pool contents = (spaces : List VdevSpac
 abbrev pub AreSetsOver : List VdevShape → RootContents → Type 0
 AreSetsOver shapes contents = (spaces : List VdevSpace) → shapes_of spaces ≡ shapes → AreSetsOf spaces contents.maps.items
 
--- Where any store over the disks may read the blocks of a root that spells a pool, and the disks' answers are true, this is what it has.
--- Its space maps have places on the vdevs, whatever the root is.
-pub record IsReadOfRoot (old new : Disks) (shapes : List VdevShape) (out : List Bool) (group : ℕ) (root : Block) (contents : RootContents) : Type 0 where
-  pub are : (stored : Contents) (pool : PlainPool) → HoldOver old shapes out stored → SpellsPool stored group root pool → IsHonestSince old new
+-- Where any store over the disks, of which some missed these groups, may read the blocks of a root that spells a pool, and the disks' answers are
+-- true, this is what it has. Its space maps have places on the vdevs, whatever the root is.
+pub record IsReadOfRoot (old new : Disks) (shapes : List VdevShape) (out : List Bool) (stale : List (Option GroupSpan)) (group : ℕ) (root : Block)
+    (contents : RootContents) : Type 0 where
+  pub are : (stored : Contents) (pool : PlainPool) → HoldOver old shapes out stale stored → SpellsPool stored group root pool → IsHonestSince old new
       → AreContentsOver shapes stored group root pool contents
   pub sets : AreSetsOver shapes contents
 
@@ -50,21 +52,69 @@ pub record IsSmallRoot (stored : Contents) (shapes : List VdevShape) (group : �
 
 -- A store over the disks was refused the root by these reads, of so many blocks at most. Where it may read the blocks of a root that has its space
 -- maps, whose meta object set has no more blocks, and the answers are true, it is for want of memory or of disks alone.
-pub record IsRootRefused (old new : Disks) (shapes : List VdevShape) (out : List Bool) (group : ℕ) (root : Block) (most : ℕ) (refusal : Refusal) : Type 0 where
+pub record IsRootRefused (old new : Disks) (shapes : List VdevShape) (out : List Bool) (stale : List (Option GroupSpan)) (group : ℕ) (root : Block) (most : ℕ)
+    (refusal : Refusal) : Type 0 where
   pub store : Store
-  pub over : IsStoreOver old shapes out store
+  pub over : IsStoreOver old shapes out stale store
   pub later : Store
   pub now : later.disks ≡ new
   pub after : ℕ
   pub cause : AreContentsRefused store later [] group root most after refusal
-  pub whole : (stored : Contents) (pool : PlainPool) → HoldOver old shapes out stored → IsSmallRoot stored shapes group root pool most → IsHonestSince old new → IsForLossOf refusal
+  pub whole : (stored : Contents) (pool : PlainPool) → HoldOver old shapes out stale stored → IsSmallRoot stored shapes group root pool most → IsHonestSince old new → IsForLossOf refusal
 
 -- why nothing was read: the vdevs don't lie on the disks, or the root was refused
-abbrev pub RootRefuses : Disks → Disks → List VdevShape → List Bool → ℕ → Block → ℕ → Refusal → Type 0
-RootRefuses old new shapes out group root most refusal =
-    ((refusal ≡ Unread BadConfig) × ¬ MayBeOpened old.starts shapes out) ⊎ IsRootRefused old new shapes out group root most refusal
+abbrev pub RootRefuses : Disks → Disks → List VdevShape → List Bool → List (Option GroupSpan) → ℕ → Block → ℕ → Refusal → Type 0
+RootRefuses old new shapes out stale group root most refusal =
+    ((refusal ≡ Unread BadConfig) × ¬ MayBeOpened old.starts shapes out) ⊎ IsRootRefused old new shapes out stale group root most refusal
 
 -- the disks were only read until then
-pub record IsRootNotRead (old new : Disks) (shapes : List VdevShape) (out : List Bool) (group : ℕ) (root : Block) (most : ℕ) (refusal : Refusal) : Type 0 where
+pub record IsRootNotRead (old new : Disks) (shapes : List VdevShape) (out : List Bool) (stale : List (Option GroupSpan)) (group : ℕ) (root : Block) (most : ℕ)
+    (refusal : Refusal) : Type 0 where
   pub only : AreReadBeside out old new
-  pub why : (refusal ≡ NoMemory) ⊎ RootRefuses old new shapes out group root most refusal
+  pub why : (refusal ≡ NoMemory) ⊎ RootRefuses old new shapes out stale group root most refusal
+
+-- ---- a root that is read once more where disks missed groups
+
+-- It was read with nothing known of groups that disks missed, and its table has spans.
+pub record TellsSpans (old new : Disks) (shapes : List VdevShape) (out : List Bool) (group : ℕ) (root : Block) (contents : RootContents) : Type 0 where
+  pub read : IsReadOfRoot old new shapes out [] group root contents
+  pub some : contents.spans ≢ []
+
+-- What it has, read by what its table says that disks missed; where the pool's table has no span none did.
+pub record IsKnownRoot (old new : Disks) (shapes : List VdevShape) (out : List Bool) (group : ℕ) (root : Block) (contents : RootContents)
+    (stale : List (Option GroupSpan)) : Type 0 where
+  pub read : IsReadOfRoot old new shapes out stale group root contents
+  pub fresh : (stored : Contents) (pool : PlainPool) → HoldOver old shapes out [] stored → (is : SpellsPool stored group root pool) → is.stale ≡ []
+      → IsHonestSince old new → stale ≡ []
+
+-- Read once more, by what its table said that disks missed, it has another table.
+pub record HasAnotherTable (old new : Disks) (shapes : List VdevShape) (out : List Bool) (stale : List (Option GroupSpan)) (group : ℕ) (root : Block)
+    (first : RootContents) : Type 0 where
+  pub again : RootContents
+  pub read : IsReadOfRoot old new shapes out stale group root again
+  pub other : again.spans ≢ first.spans
+
+-- why it was not read once more: want of memory; it was refused then, or has another table
+abbrev pub IsNotReadAgain : Disks → Disks → List VdevShape → List Bool → ℕ → Block → ℕ → RootContents → Refusal → Type 0
+IsNotReadAgain old new shapes out group root most first refusal =
+    (refusal ≡ NoMemory) ⊎ ((stale : List (Option GroupSpan)) × (RootRefuses old new shapes out stale group root most refusal
+    ⊎ ((refusal ≡ Unread BadDigest) × HasAnotherTable old new shapes out stale group root first)))
+
+-- Its table has spans, and it was not read once more.
+pub record IsRefusedAgain (old new : Disks) (shapes : List VdevShape) (out : List Bool) (group : ℕ) (root : Block) (most : ℕ) (refusal : Refusal) : Type 0 where
+  pub mid : Disks
+  pub before : AreReadBeside out old mid
+  pub after : AreReadBeside out mid new
+  pub first : RootContents
+  pub tells : TellsSpans old mid shapes out group root first
+  pub why : IsNotReadAgain mid new shapes out group root most first refusal
+
+-- why nothing is known of a root: it was refused at once, or once more
+abbrev pub RootIsUnknown : Disks → Disks → List VdevShape → List Bool → ℕ → Block → ℕ → Refusal → Type 0
+RootIsUnknown old new shapes out group root most refusal =
+    RootRefuses old new shapes out [] group root most refusal ⊎ IsRefusedAgain old new shapes out group root most refusal
+
+-- the disks were only read until then
+pub record IsRootNotKnown (old new : Disks) (shapes : List VdevShape) (out : List Bool) (group : ℕ) (root : Block) (most : ℕ) (refusal : Refusal) : Type 0 where
+  pub only : AreReadBeside out old new
+  pub why : (refusal ≡ NoMemory) ⊎ RootIsUnknown old new shapes out group root most refusal

@@ -1,5 +1,5 @@
 -- Pools that disks lead to, whatever stop they come from.
-use Rattle.std.specs.Prelude.{ℕ, ◌≡◌, Bool, List, length, map}
+use Rattle.std.specs.Prelude.{ℕ, ◌≡◌, Bool, List, [], length, map}
 use Rattle.model_disk.specs.Joint.{Disks, content}
 use Rattle.raidz_io.specs.Reads.{IsHonestSince}
 use Rattle.block_store.specs.Blocks.{Contents}
@@ -10,9 +10,10 @@ use Rattle.pool_core.specs.Pools.{SpellsPool}
 use Rattle.pool_core.specs.Represents.{Represents}
 use Rattle.pool_core.specs.Reopened.{IsConfiguredUnder}
 use Rattle.pool_core.specs.Slots.{IsStampOf}
+use Rattle.pool_core.specs.Spans.{HaveNoSpans, NoneIsStale}
 use Rattle.pool_core.specs.State.{CoreState, config_of, disks_of}
 use Rattle.pool_model.specs.Pools.{PlainPool}
-use Rattle.pool_model.specs.View.{opened_as}
+use Rattle.pool_model.specs.View.{none_stale, opened_as}
 use Rattle.pool_slots.specs.Opens.{CanOpen, IsClaimOf}
 use Rattle.pool_slots.specs.Possible.{Possible, IsInReach, Trees, TreeStands}
 use Rattle.uberblock_ring.specs.declared.uberblock.Uberblock.{Uberblock}
@@ -29,20 +30,23 @@ IsConfiguredFor u stored pool = IsConfiguredUnder (stamp_of u) stored u.group u.
 abbrev pub NamesConfigOf : Uberblock → CoreState → Type 0
 NamesConfigOf u core = IsStampOf (config_view (config_of core)) u.claim (stamp_of u)
 
--- The tree below the uberblock's root is that of the pool, and has its space maps and the configuration that the uberblock names: where it stands
--- on disks of these sizes, the blocks that spell the pool may be read.
+-- The tree below the uberblock's root is that of the pool, and has its space maps, no stale spans, and the configuration that the uberblock names: where
+-- it stands on disks of these sizes, the blocks that spell the pool may be read.
 pub record IsTreeOf (trees : Trees) (starts : List (List ℕ)) (shapes : List VdevShape) (out : List Bool) (u : Uberblock) (pool : PlainPool) : Type 0 where
   pub stored : Contents
   pub spells : SpellsPool stored u.group u.root pool
+  pub untouched : spells.stale ≡ []
   pub mapped : HasItsMapsOver shapes spells
   pub configured : IsConfiguredFor u stored pool
   pub made : IsMadeBy u.group pool
-  pub held : (disks : Disks) → map length disks.starts ≡ map length starts → TreeStands trees out (content disks) u.root → HoldOver disks shapes out stored
+  pub held : (disks : Disks) → map length disks.starts ≡ map length starts → TreeStands trees out (content disks) u.root → HoldOver disks shapes out [] stored
 
--- a core represents the pool of the group that was taken
+-- a core represents the pool of the group that was taken, and knows of no stale spans
 pub record IsOpenedFor (p : Possible) (pools : Uberblock → PlainPool) (shapes : List VdevShape) (out : List Bool) (rewind : ℕ) (claimed : Uberblock) (core : CoreState) : Type 0 where
   pub claim : IsClaimOf p rewind claimed
-  pub represents : Represents core (opened_as (vdevs_in shapes) (is_out out) claim.taken.group (pools claim.taken))
+  pub represents : Represents core (opened_as (vdevs_in shapes) (is_out out) none_stale claim.taken.group (pools claim.taken))
+  pub fresh : NoneIsStale core.commit
+  pub untouched : HaveNoSpans core.commit
 
 -- Whatever the disks in use lead to, if each uberblock that an open may come to has the tree of its pool, the claimed one names the configuration
 -- that the core keeps, and all answers were true: what is claimed is one of the possible ones, or so many groups below one, and its pool is what

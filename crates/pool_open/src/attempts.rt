@@ -4,18 +4,18 @@ ghost use Rattle.block_store.specs.Opened.{MayBeOpened};
 ghost use Rattle.pool_core.specs.State.{config_of};
 ghost use Rattle.pool_core.specs.StateOf.{state_of};
 ghost use Rattle.pool_open.specs.Held.{IsLaidOver};
+ghost use Rattle.pool_open.specs.Known.{IsKnownBy};
 ghost use Rattle.pool_open.specs.Opening.{IsNotOpenedOver};
 ghost use Rattle.pool_open.specs.Retried.{IsAttempt, IsNotOpenedAtLast, IsOpenedAtLast, IsPoolRead, KeepsConfig};
 ghost use Rattle.pool_slots.specs.Slots.{HaveLabels};
 
+use crate::known::{KnownRoot, read_known};
 use crate::opening::{OpenedPool, core_over, fitting, survey_disks};
 use crate::refusal::Refusal;
-use crate::roots::read_root;
 use crate::settling::settle_without;
-use crate::tolerance::{are_tolerable, count_sectors};
+use crate::tolerance::are_tolerable;
 use block_store::{VdevShape, writes_elsewhere_keep};
 use model_disk::{Disk, DiskArray};
-use pool_core::RootContents;
 use pool_slots::{Survey, claim};
 use std::alloc::Global;
 use std::sync::Arc;
@@ -35,7 +35,7 @@ struct ReadPool<D: Disk + Drop> {
     disks: DiskArray<D>,
     out: Vec<bool>,
     survey: Survey,
-    contents: RootContents,
+    root: KnownRoot,
 }
 
 /// Surveys the disks in use, and reads the root of what is taken. Nothing is written.
@@ -45,11 +45,16 @@ fn read_pool<D: Disk + Drop>(
     shapes: &[VdevShape],
     out: Vec<bool>,
     rewind: u64,
+    config: &Arc<Config, Global>,
 ) -> Result<ReadPool<D>, (Refusal, DiskArray<D>)>
     requires may { MayBeOpened disks.starts shapes.now out.items }
     requires labels { HaveLabels disks.starts }
     ensures read { IfOk result (λ read. IsPoolRead disks shapes.now out.items read.out.items
-        rewind read.survey read.contents read.disks) }
+        rewind read.survey read.root.contents read.root.stale.items read.disks) }
+    ensures known { IfOk result (λ read.
+        IsKnownBy read.out.items read.survey.claimed.group read.root) }
+    ensures config { IfOk result (λ read.
+        read.root.disks.config.value ≡ config.now.value) }
     ensures refused { IfErr result (λ failed.
         IsNotOpenedOver disks shapes.now out.items rewind failed.1 failed.0) }
 {
@@ -60,13 +65,12 @@ fn read_pool<D: Disk + Drop>(
         Err(refusal) => return Err((refusal, disks)),
     };
     let taken = survey.claimed();
-    let left = count_sectors(shapes);
-    match read_root(alloc, disks, shapes, &out, &taken.root, taken.group, left) {
+    match read_known(alloc, disks, shapes, &out, &taken, config) {
         Ok(read) => Ok(ReadPool {
             disks: read.disks,
             out,
             survey,
-            contents: read.contents,
+            root: read.root,
         }),
         Err((refusal, disks)) => Err((Refusal::from(refusal), disks)),
     }
@@ -91,19 +95,16 @@ fn open_once<D: Disk + Drop>(
         IsNotOpenedOver disks shapes.now out.items rewind failed.1 failed.0) }
 {
     writes_elsewhere_keep();
-    let Ok(kept) = Arc::try_clone(config) else {
-        return Err((Refusal::NoMemory, disks));
-    };
-    let read = read_pool(alloc, disks, shapes, out, rewind)?;
+    let read = read_pool(alloc, disks, shapes, out, rewind, config)?;
     let ReadPool {
         mut disks,
         mut out,
         survey,
-        contents,
+        root,
     } = read;
     match claim(&survey, &mut disks, &out) {
         Ok(claimed) => {
-            let core = core_over(alloc, disks, shapes, &out, &claimed, contents, kept)?;
+            let core = core_over(alloc, disks, shapes, &out, &claimed, root)?;
             Ok(Attempt::Opened(OpenedPool {
                 core,
                 uberblock: claimed,

@@ -1,13 +1,13 @@
 //! The parts of an open of disks that are in order: a survey of them, and the core of what they hold.
-ghost use Rattle.std.specs.Prelude.{◌≡◌, ◌⊎◌, ◌<◌, length, Some, true, IfErr, IfOk};
+ghost use Rattle.std.specs.Prelude.{◌≡◌, ◌⊎◌, ◌<◌, length, Some, [], true, IfErr, IfOk};
 ghost use Rattle.block_store.specs.Blocks.{Contents};
 ghost use Rattle.block_store.specs.Opened.{MayBeOpened};
 ghost use Rattle.block_store.specs.Places.{shapes_of};
-ghost use Rattle.block_store.specs.Store.{is_out};
+ghost use Rattle.block_store.specs.Store.{is_out, is_stale};
 ghost use Rattle.pool_core.specs.Mapped.{SpellsWithMaps};
 ghost use Rattle.pool_core.specs.Represents.{Represents};
 ghost use Rattle.pool_core.specs.State.{config_of};
-ghost use Rattle.pool_core.specs.Spans.{HasSpansOpened};
+ghost use Rattle.pool_core.specs.Spans.{HaveNoSpans};
 ghost use Rattle.pool_core.specs.StateOf.{disks_in, state_of};
 ghost use Rattle.pool_model.specs.Pools.{PlainPool};
 ghost use Rattle.pool_model.specs.declared.refusal.Refusal.TheVariants as Causes;
@@ -24,16 +24,15 @@ ghost use Rattle.pool_slots.specs.Surveys.{IsSurveyed, IsWholeOf};
 ghost use Rattle.uberblock_ring.specs.Uberblock.{IsNumber};
 ghost use Rattle.volume_rules.specs.NowMoves.{IsMadeBy};
 
+use crate::known::KnownRoot;
 use crate::refusal::Refusal;
 use crate::tolerance::are_tolerable;
 use block_store::{BlockStore, VdevShape};
 use model_disk::{Disk, DiskArray};
-use pool_core::{Core, RootContents, Stamp, labels_of_opened_lie};
+use pool_core::{Core, Stamp, labels_of_opened_lie};
 use pool_slots::{Survey, survey_present};
 use std::alloc::Global;
-use std::sync::Arc;
 use uberblock_ring::Uberblock;
-use vdev_label::Config;
 use words::LAST_COUNT;
 
 /// A pool that was opened.
@@ -109,7 +108,7 @@ fn of_core(cause: pool_model::Refusal) -> Refusal
     }
 }
 
-/// The core of a pool of this configuration whose disks show this uberblock, with what was read of its root; it goes on under that claim.
+/// The core of a pool whose disks show this uberblock, with what is known of its root and of them; it goes on under that claim.
 /// No disk is called.
 /// `BadPointer` where a block has no place of the pool, or two blocks share a sector. After an error the disks come back.
 pub fn core_over<D: Disk + Drop>(
@@ -118,8 +117,7 @@ pub fn core_over<D: Disk + Drop>(
     shapes: &[VdevShape],
     out: &[bool],
     claimed: &Uberblock,
-    contents: RootContents,
-    config: Arc<Config, Global>,
+    root: KnownRoot,
 ) -> Result<Core<D>, (Refusal, DiskArray<D>)>
     requires may { MayBeOpened disks.starts shapes.now out.now }
     requires claim { IsNumber claimed.now.claim }
@@ -131,24 +129,31 @@ pub fn core_over<D: Disk + Drop>(
     ensures out { IfOk result (λ core. (state_of core).commit.store.out ≡ out.now) }
     ensures shapes { IfOk result (λ core.
         shapes_of (state_of core).commit.store.spaces ≡ shapes.now) }
-    ensures config { IfOk result (λ core. config_of (state_of core) ≡ config.value) }
+    ensures config { IfOk result (λ core. config_of (state_of core) ≡ root.disks.config.value) }
+    ensures table { IfOk result (λ core.
+        (state_of core).commit.kept.last.spans_under.value ≡ root.contents.spans) }
     ensures spans { IfOk result (λ core.
-        HasSpansOpened out.now claimed.now.group (state_of core).commit.kept.last) }
+        (state_of core).commit.kept.last.spans.value ≡ root.disks.spans) }
+    ensures stale { IfOk result (λ core.
+        (state_of core).commit.store.spans.stale ≡ root.stale.items) }
+    ensures untouched { IfOk result (λ core. root.contents.spans ≡ [] → root.disks.spans ≡ []
+        → HaveNoSpans (state_of core).commit) }
     ensures represents { IfOk result (λ core. (stored : Contents) (pool : PlainPool)
-        → HoldOver disks shapes.now out.now stored
-        → AreContentsOver shapes.now stored claimed.now.group claimed.now.root pool contents
+        → HoldOver disks shapes.now out.now root.stale.items stored → AreContentsOver
+        shapes.now stored claimed.now.group claimed.now.root pool root.contents
         → SpellsWithMaps stored shapes.now claimed.now.group claimed.now.root pool
         → IsMadeBy claimed.now.group pool
         → IsConfiguredFor claimed.now stored pool → NamesConfigOf claimed.now (state_of core)
         → Represents (state_of core)
-        (opened_as (vdevs_in shapes.now) (is_out out.now) claimed.now.group pool)) }
+        (opened_as (vdevs_in shapes.now) (is_out out.now) (is_stale root.stale.items)
+        claimed.now.group pool)) }
     ensures refused { IfErr result (λ failed. (failed.0 ≡ Refusal.NoMemory)
         ⊎ ((failed.0 ≡ Refusal.BadPointer)
-        × AreMisplacedOver disks shapes.now out.now contents)) }
+        × AreMisplacedOver disks shapes.now out.now root.stale.items root.contents)) }
     ensures back { IfErr result (λ failed. failed.1 ≡ disks) }
 {
     labels_of_opened_lie();
-    let store = match BlockStore::opened(alloc, disks, shapes, out) {
+    let mut store = match BlockStore::opened(alloc, disks, shapes, out) {
         Ok(store) => store,
         Err((refusal, disks)) => return Err((Refusal::from(refusal), disks)),
     };
@@ -157,6 +162,12 @@ pub fn core_over<D: Disk + Drop>(
         claim: claimed.claim,
         config_digest: claimed.config_digest,
     };
+    let KnownRoot {
+        contents,
+        stale,
+        disks,
+    } = root;
+    store.mark_stale(stale);
     match Core::opened(
         alloc,
         store,
@@ -164,7 +175,7 @@ pub fn core_over<D: Disk + Drop>(
         claimed.group,
         claimed.root,
         contents,
-        config,
+        disks,
     ) {
         Ok(core) => Ok(core),
         Err((cause, disks)) => Err((of_core(cause), disks)),

@@ -23,7 +23,7 @@ use Rattle.pool_slots.specs.Slots.{AreSettled}
 use Rattle.volume_rules.specs.NowMoves.{IsMadeBy}
 use Rattle.pool_stops.specs.Phases.{IsInPhase, IsInSlots, StepEnds}
 use Rattle.pool_stops.specs.Running.{IsOfKept, IsRunning, IsWhole, StandAt, StepsOn}
-use Rattle.pool_stops.proofs.Steps.{HasShown, PhaseLaws, committed_so, first_or, good, has_shown, is_last_or_before, its_group, pools_stay, same_flags, slots_stand, stops_in_slots, was_in_slots, whole_still}
+use Rattle.pool_stops.proofs.Steps.{HasShown, MissesNone, PhaseLaws, committed_so, first_or, good, has_shown, is_last_or_before, its_group, pools_stay, same_flags, slots_stand, stops_in_slots, was_in_slots, whole_still}
 
 -- ---- kept groups by their numbers
 
@@ -143,13 +143,13 @@ is_committed old new v w given reply plan last before runs link is shifted stamp
     }
 
 pub commits : (old new : CoreState) (v w : View) (given : Given) (reply : Reply) (plan : Planned) (last : Uberblock) (before : List Uberblock) → PhaseLaws
-    → IsRunning old v last before → Link old v steps.Device given reply new w → WritesPlan old.commit new.commit → NoneIsOut new.commit → old.commit.planned ≡ Some plan
+    → IsRunning old v last before → Link old v steps.Device given reply new w → MissesNone new.commit → WritesPlan old.commit new.commit → NoneIsOut new.commit → old.commit.planned ≡ Some plan
     → new.commit.planned ≡ None → IsShifted old.commit.kept plan.after new.commit.kept → StepsOn old v new w last before
-commits old new v w given reply plan last before laws runs link writes none is gone shifted =
+commits old new v w given reply plan last before laws runs link misses writes none is gone shifted =
     let so : IsCommitted old new v w plan last before = is_committed old new v w given reply plan last before runs link is shifted writes.stamp in
     let starts = (writes.makes plan is).starts in
     let out : new.commit.store.out ≡ old.commit.store.out = same_flags old.commit.store.out new.commit.store.out writes.out.count runs.whole.none none in
-    let whole : IsWhole new.commit = whole_still old.commit new.commit runs.whole none writes.out.count starts writes.shapes in
+    let whole : IsWhole new.commit = whole_still old.commit new.commit runs.whole none misses writes.out.count starts writes.shapes in
     let answer = committed_so v given reply w link.is_step (λ same. absurd (omega (arith, same, so.now))) in
     let has : HasShown old.commit new.commit plan =
     has_shown old new v w given reply plan answer.0 link whole (omega (arith, runs.whole.count, ap length starts)) is answer.1 in

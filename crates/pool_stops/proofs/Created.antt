@@ -10,7 +10,7 @@ use Rattle.pool_create.specs.CommitState.{State}
 use Rattle.pool_create.specs.Creating.{IsShownAlone}
 use Rattle.pool_create.specs.Planning.{nobody, none_out}
 use Rattle.pool_model.specs.Pools.{no_volumes}
-use Rattle.pool_model.specs.View.{View, opened_as}
+use Rattle.pool_model.specs.View.{View, none_stale, opened_as}
 use Rattle.pool_create.specs.Words.{vdevs_in}
 use Rattle.pool_slots.specs.Commits.{AreAt, only_last}
 use Rattle.pool_slots.specs.PhaseLaws.{BlocksBegin}
@@ -56,7 +56,7 @@ created_pools_run begin old pool config u core is known honest some few =
     let s : State = core.commit in
     let trees : Trees = filled_trees s.store.spaces s.store.disks in
     let out : List Bool = nobody old.starts in
-    let v : View = opened_as (vdevs_in is.shapes) (is_out out) 3 no_volumes in
+    let v : View = opened_as (vdevs_in is.shapes) (is_out out) none_stale 3 no_volumes in
     let represents = is.represents honest in
     let backs : Backs s v = represents.backs in
     let starts : s.store.disks.starts ≡ old.starts = is.grew.starts in
@@ -65,7 +65,8 @@ created_pools_run begin old pool config u core is known honest some few =
     (subst (λ (flags : List Bool). MayBeOpened old.starts is.shapes flags) (sym is.outs) (is.may.lie is.shapes is.shapes_are)) in
     let whole : IsWhole s =
     whole_opened s is.shapes is.vdevs lies (omega (arith, few, ap length starts))
-    (λ disk. ap (λ flags. is_out flags disk) is.outs ∙ none_of (length old.starts) disk) (omega (arith, some, ap length starts)) in
+    (λ disk. ap (λ flags. is_out flags disk) is.outs ∙ none_of (length old.starts) disk) (omega (arith, some, ap length starts)) is.fresh
+    (is.untouched honest) in
     let stand : (w : Uberblock) → TreeStands trees out (content s.store.disks) w.root =
     λ w. picked_stand (is_filled s.store.spaces) out (content s.store.disks) w.root in
     let there : (which : ℕ) → InUse out which → which < length old.starts = λ which used. omega (arith, used_below out which used, count_of (length old.starts)) in

@@ -7,13 +7,14 @@ use Rattle.raidz_io.specs.Places.{disk_of, offset_of}
 use Rattle.raidz_io.specs.Stands.{all_columns}
 use Rattle.raidz_io.proofs.Written.{size_at, slice_get_some}
 use Rattle.block_store.specs.Elsewhere.{IsForBlocks}
-use Rattle.block_store.specs.Store.{Store, is_out, outs}
+use Rattle.block_store.specs.Store.{Store, is_out, is_stale, lost, missed, outs}
 use Rattle.block_store.proofs.Lost.{lost_is_out}
 use Rattle.block_store.proofs.Outs.{out_from}
 use Rattle.block_store.proofs.Sectors.{lie_in_sectors}
 use Rattle.block_store.proofs.Writing.{found_at}
 use Rattle.model_disk.specs.Contents.{covers}
 use Rattle.raidz_io.proofs.Kept.{written_of}
+use Rattle.pool_create.proofs.OpenHolding.{none_missed}
 use Rattle.std.proofs.lemmas.Bool.Decides.{nat_tests}
 use Rattle.pool_slots.specs.Slots.{InUse}
 use Rattle.pool_stops.specs.Filled.{is_filled}
@@ -38,8 +39,18 @@ used store disk there present = elim (flag_is (is_out store.out disk)) [
   | inr not ↦ get_in_use store.out disk there not
 ]
 
+-- where no disk missed a group, one that is lost is out
+lost_are_out : (store : Store) (birth disk : ℕ) → ((it group : ℕ) → is_stale store.spans.stale it group ≡ false) → Contains (lost store birth) disk → Contains (outs store) disk
+lost_are_out store birth disk fresh gone = elim (lost_is_out store birth disk gone) [
+  | inl out ↦ out
+  | inr stale ↦
+      let none : missed store birth ≡ [] = none_missed store.spans.stale 0 birth (λ it. fresh it birth) in
+      let held : Contains [] disk = subst (λ (them : List ℕ). Contains them disk) none stale in
+      absurd (omega (arith, held.1))
+]
+
 pub filled_trees_hold_blocks : FilledTreesHoldBlocks
-filled_trees_hold_blocks store stored disks root lie count stores tree block bytes i extent known copy =
+filled_trees_hold_blocks store stored disks root lie count fresh stores tree block bytes i extent known copy =
     let stands = stores.held.stand block bytes i extent known copy in
     let taken = stores.placed.places block bytes i copy.place known copy.is_copy in
     record {
@@ -62,7 +73,7 @@ filled_trees_hold_blocks store stored disks root lie count stores tree block byt
           let for_blocks : IsForBlocks store.spaces disk place = filled_bytes_are_for_blocks store.spaces disk place filled in
           let there : disk < length store.out = omega (arith, its_disk store.disks.starts store.spaces disk place lie.laid for_blocks, count) in
           let held : content store.disks disk place ≡ slice_get column_bytes j =
-          stands.stand k column column_bytes at at' (λ gone. present (lost_is_out store block.birth disk gone)) j within in
+          stands.stand k column column_bytes at at' (λ gone. present (lost_are_out store block.birth disk fresh gone)) j within in
           let value = slice_get_some column_bytes j within in
           tree disk place value.0 (used store disk there present)
           (if_so (is_filled store.spaces disk place) (content store.disks disk place) None filled ∙ held ∙ value.1)

@@ -1,6 +1,6 @@
 -- The tree below the uberblock of a kept group, and of one that is planned.
-use Rattle.std.proofs.Common.{ℕ, suc, ◌≡◌, ⊎_elim, ◌+◌, ◌<◌, Bool, true, false, List, [], ◌∷◌, length, Option, Some, None, refl, sym, ap, subst, ◌∙◌, arith}
-use Rattle.std.specs.Prelude.{if◌then◌else◌, filter, nat_le, replicate, slice_index}
+use Rattle.std.proofs.Common.{ℕ, suc, ◌≡◌, ⊎_elim, ◌+◌, ◌++◌, ◌<◌, Bool, true, false, List, [], ◌∷◌, length, Option, Some, None, refl, sym, ap, subst, ◌∙◌, arith}
+use Rattle.std.specs.Prelude.{◌==◌, if◌then◌else◌, filter, nat_le, replicate, slice_index}
 use Rattle.model_disk.specs.Joint.{Disks, content}
 use Rattle.block_pointer.specs.Copies.{dvas}
 use Rattle.block_pointer.specs.declared.block.Block.{Block}
@@ -15,7 +15,7 @@ use Rattle.block_store.specs.Places.{ArePlacesIn, IsCopy, shapes_of}
 use Rattle.block_store.specs.Places.{filled as filled_marks, planned as planned_marks}
 use Rattle.block_store.specs.Plans.{Plans}
 use Rattle.block_store.specs.Spaces.{VdevSpace}
-use Rattle.block_store.specs.Store.{Store, is_out, outs, outs_from}
+use Rattle.block_store.specs.Store.{Store, is_out, missed, outs, outs_from}
 use Rattle.block_store.proofs.Planning.{arrived, is_among, placed_lies, some_or_none, stored_by}
 use Rattle.block_store.proofs.Sectors.{lie_in_sectors}
 use Rattle.pool_create.specs.Mapped.{SpellsWithMaps}
@@ -30,17 +30,22 @@ use Rattle.pool_create.specs.Stamp.{Stamp}
 use Rattle.pool_create.specs.Directories.{SpellsBy}
 use Rattle.pool_create.specs.Reopened.{IsConfiguredUnder}
 use Rattle.pool_create.specs.Slots.{IsStampOf}
+use Rattle.pool_create.specs.Spans.{HasNoSpan, HaveNoSpans, NoneIsStale}
 use Rattle.vdev_label.specs.Plain.{config_view}
 use Rattle.vdev_label.specs.declared.label.Config.{Config}
 use Rattle.std.proofs.lemmas.Bool.Decides.{nat_tests}
 use Rattle.pool_create.specs.CommitState.{NoneIsOut, State, group_at}
+use Rattle.meta_objset.specs.Reading.{HasStaleSpans}
+use Rattle.meta_objset.specs.declared.stale_spans.StaleSpan.{StaleSpan}
+use Rattle.pool_create.proofs.CommitDirectories.{spans_led}
 use Rattle.pool_create.proofs.CommitMapping.{its_maps_over}
 use Rattle.pool_model.specs.Pools.{PlainPool}
 use Rattle.pool_model.specs.View.{View, is_kept}
 use Rattle.pool_create.specs.Held.{HoldOver}
 use Rattle.pool_create.specs.Trees.{IsConfiguredFor, IsTreeOf}
-use Rattle.pool_create.proofs.OpenHolding.{alike_stores_hold_alike}
+use Rattle.pool_create.proofs.OpenHolding.{alike_stores_hold_alike, none_missed}
 use Rattle.pool_slots.specs.Possible.{TreeStands}
+use Rattle.stale_disks.proofs.Tables.{empty_once}
 use Rattle.volume_rules.specs.NowMoves.{IsMadeBy}
 use Rattle.volume_rules.specs.GoodChanges.{MakesGoodVolumes}
 use Rattle.volume_rules.proofs.Overlays.{made_by_applied}
@@ -68,15 +73,16 @@ no_outs s none = none_from s.store.out 0 none
 hold_over : (store : Store) (disks : Disks) (held : Contents) → outs store ≡ [] → ((block : Block) (bytes : List ℕ) → held block ≡ Some bytes → IsWrittenAs block bytes)
     → ((block : Block) (bytes : List ℕ) → held block ≡ Some bytes → ArePlacesIn store.spaces block.property.sectors (dvas block.copies))
     → ((block : Block) (bytes : List ℕ) (i : ℕ) (extent : Extent) → held block ≡ Some bytes → IsCopy store.spaces block i extent → ExtentStands (content disks) [] extent bytes)
-    → HoldOver disks (shapes_of store.spaces) store.out held
+    → HoldOver disks (shapes_of store.spaces) store.out [] held
 hold_over store disks held none written places stand =
-    let over : Store = record store { disks = disks; spans = record { since = replicate (length disks.starts) 0; group = 0 } } in
-    alike_stores_hold_alike disks (shapes_of store.spaces) store.out held over (record { disks_are = refl; shapes_are = refl; out_is = refl; since = refl })
+    let over : Store = record store { disks = disks; spans = record { since = replicate (length disks.starts) 0; group = 0; stale = [] } } in
+    alike_stores_hold_alike disks (shapes_of store.spaces) store.out [] held over
+    (record { disks_are = refl; shapes_are = refl; out_is = refl; since = refl; stale_is = refl })
     (record {
       blocks = written;
       places = places;
       stand = λ block bytes i extent known copy.
-          subst (λ (them : List ℕ). ExtentStands (content disks) (filter (λ disk. nat_le (slice_index over.spans.since disk) block.birth) them) extent bytes) (sym none)
+          subst (λ (them : List ℕ). ExtentStands (content disks) (filter (λ disk. nat_le (slice_index over.spans.since disk) block.birth) them ++ []) extent bytes) (sym none)
           (stand block bytes i extent known copy);
     })
 
@@ -112,6 +118,32 @@ configured_kept stored group root found kept pool true stamp is root_is spells s
     configured_after stored group kept root pool stamp root_is (subst (λ (o : Option KeptGroup). SpellsKept stored group o (Some pool)) is spells) stamped
 configured_kept stored group root found kept pool false stamp is root_is spells stamped = absurd (subst (λ (o : Option KeptGroup). SpellsKept stored group o None) is spells)
 
+-- its root has no stale span where none is known
+untouched_after : (stored : Contents) (group : ℕ) (kept : KeptGroup) (root : Block) (pool : PlainPool) (is : SpellsPool stored group root pool) → kept.root ≡ Some root
+    → SpellsGroup stored group kept pool → HasNoSpan kept → is.stale ≡ []
+untouched_after stored group kept root pool is root_is spells none =
+    empty_once (is.objects 3) is.stale
+    (subst (λ (spans : List StaleSpan). HasStaleSpans (is.objects 3) spans) none.table (spans_led stored group kept pool root is spells root_is)) is.spans
+
+untouched_kept : (stored : Contents) (group : ℕ) (root : Block) (found : Option KeptGroup) (kept : KeptGroup) (pool : PlainPool) (here : Bool) (is : SpellsPool stored group root pool)
+    → found ≡ Some kept → kept.root ≡ Some root → SpellsKept stored group found (if here then Some pool else None) → HasNoSpan kept → is.stale ≡ []
+untouched_kept stored group root found kept pool true is found_is root_is spells none =
+    untouched_after stored group kept root pool is root_is (subst (λ (o : Option KeptGroup). SpellsKept stored group o (Some pool)) found_is spells) none
+untouched_kept stored group root found kept pool false is found_is root_is spells none =
+    absurd (subst (λ (o : Option KeptGroup). SpellsKept stored group o None) found_is spells)
+
+one_of_three : (first second third : Bool) (s : State) (it : KeptGroup) → HaveNoSpans s
+    → (if first then Some s.kept.last else (if second then s.kept.before else (if third then s.kept.earliest else None))) ≡ Some it → HasNoSpan it
+one_of_three true second third s it none is =
+    let same : s.kept.last ≡ it = cc in
+    subst (λ (k : KeptGroup). HasNoSpan k) same none.last
+one_of_three false true third s it none is = none.before it is
+one_of_three false false true s it none is = none.earliest it is
+one_of_three false false false s it none is = absurd (cc)
+
+none_at : (s : State) (group : ℕ) (it : KeptGroup) → HaveNoSpans s → group_at s.kept group ≡ Some it → HasNoSpan it
+none_at s group it none is = one_of_three (group == s.kept.committed) (suc group == s.kept.committed) (suc (suc group) == s.kept.committed) s it none is
+
 last_at : (kept : Kept) → group_at kept kept.committed ≡ Some kept.last
 last_at kept = grind (arith, nat_tests)
 
@@ -131,6 +163,8 @@ kept_tree s v u backs whole of =
     let tree : IsTreeOf (filled_trees s.store.spaces s.store.disks) s.store.disks.starts (shapes_of s.store.spaces) s.store.out u (v.pools u.group) = record {
       stored = stored;
       spells = mapped.0;
+      untouched = untouched_kept stored u.group u.root (group_at s.kept u.group) of.kept (v.pools u.group) (is_kept v u.group) mapped.0 of.is of.root
+          (backs.blocks.kept u.group) (none_at s u.group of.kept whole.untouched of.is);
       mapped = mapped.1;
       configured = subst (λ (stamp : Stamp). IsConfiguredUnder stamp stored u.group u.root (v.pools u.group)) (sym of.stamped)
           (configured_kept stored u.group u.root (group_at s.kept u.group) of.kept (v.pools u.group) (is_kept v u.group) s.stamp of.is of.root (backs.blocks.kept u.group)
@@ -140,7 +174,7 @@ kept_tree s v u backs whole of =
           hold_over s.store disks stored none stores.held.blocks stores.held.places
           (λ block bytes i extent known copy.
           subst (λ (absent : List ℕ). ExtentStands (content disks) absent extent bytes) none
-          (filled_trees_hold_blocks s.store stored disks u.root whole.lie whole.count stores tree block bytes i extent known copy));
+          (filled_trees_hold_blocks s.store stored disks u.root whole.lie whole.count whole.fresh stores tree block bytes i extent known copy));
     } in
     record {
       tree = tree;
@@ -165,6 +199,7 @@ kept_tree_too s u pool it = record {
   tree = record {
     stored = it.tree.stored;
     spells = it.tree.spells;
+    untouched = it.tree.untouched;
     mapped = it.tree.mapped;
     configured = it.tree.configured;
     made = it.tree.made;
@@ -207,14 +242,16 @@ stands_too s disks root block bytes i extent whole places copy tree stands = rec
 -- ---- a planned group
 
 -- once no write is due the blocks of a plan stand on all disks
-planned_stand : (s : State) (stored planned : Contents) (block : Block) (bytes : List ℕ) (i : ℕ) (extent : Extent) → outs s.store ≡ [] → s.store.due ≡ []
+planned_stand : (s : State) (stored planned : Contents) (block : Block) (bytes : List ℕ) (i : ℕ) (extent : Extent) → outs s.store ≡ [] → NoneIsStale s → s.store.due ≡ []
     → Plans s.store stored planned → planned block ≡ Some bytes → IsCopy s.store.spaces block i extent → ExtentStands (content s.store.disks) [] extent bytes
-planned_stand s stored planned block bytes i extent none written plans known copy = ⊎_elim
+planned_stand s stored planned block bytes i extent none fresh written plans known copy = ⊎_elim
     (λ (was, is).
     let same : was ≡ bytes = same_some was bytes (sym (plans.kept block was is) ∙ known) in
+    let stale : missed s.store block.birth ≡ [] = none_missed s.store.spans.stale 0 block.birth (λ disk. fresh disk block.birth) in
     subst (λ (b : List ℕ). ExtentStands (content s.store.disks) [] extent b) same
-    (subst (λ (them : List ℕ). ExtentStands (content s.store.disks) (filter (λ disk. nat_le (slice_index s.store.spans.since disk) block.birth) them) extent was) none
-    (plans.held.stand block was i extent is copy)))
+    (subst (λ (them : List ℕ). ExtentStands (content s.store.disks) (filter (λ disk. nat_le (slice_index s.store.spans.since disk) block.birth) them ++ []) extent was) none
+    (subst (λ (them : List ℕ). ExtentStands (content s.store.disks) (filter (λ disk. nat_le (slice_index s.store.spans.since disk) block.birth) (outs s.store) ++ them) extent was) stale
+    (plans.held.stand block was i extent is copy))))
     (λ new.
     subst (λ (absent : List ℕ). ExtentStands (content s.store.disks) absent extent bytes) none
     (arrived s.store (plans.writes_of block i) extent bytes written (plans.on_the_way block bytes i extent known new copy)))
@@ -238,9 +275,13 @@ plan_tree s v plan backs whole is written made good =
     let WithMaps : Uberblock → Type 0 = λ u. SpellsWithMaps planned (shapes_of s.store.spaces) u.group u.root (pool_after v) in
     let mapped : WithMaps plan.uberblock = subst WithMaps (sym has.uberblock.is)
     (root_with_maps s.store.spaces planned (suc v.committed) has.uberblock.root plan.after.root (pool_after v) has.uberblock.is_root reached.mapped) in
+    let NoSpans : Uberblock → Type 0 = λ u. (it : SpellsPool planned u.group u.root (pool_after v)) → it.stale ≡ [] in
+    let none_in : NoSpans plan.uberblock = subst NoSpans (sym has.uberblock.is) (λ it.
+    untouched_after planned (suc v.committed) plan.after has.uberblock.root (pool_after v) it has.uberblock.is_root has.spells (whole.untouched.planned plan is)) in
     let tree : IsTreeOf (block_trees s.store.spaces s.store.disks) s.store.disks.starts (shapes_of s.store.spaces) s.store.out plan.uberblock (pool_after v) = record {
       stored = planned;
       spells = mapped.0;
+      untouched = none_in mapped.0;
       mapped = mapped.1;
       configured = subst (λ (u : Uberblock). IsConfiguredFor u planned (pool_after v)) (sym has.uberblock.is)
           (configured_after planned (suc v.committed) plan.after has.uberblock.root (pool_after v) s.stamp has.uberblock.is_root has.spells
@@ -251,7 +292,7 @@ plan_tree s v plan backs whole is written made good =
           hold_over s.store disks planned none plans.placed.blocks places
           (λ block bytes i extent known copy.
           stands_too s disks plan.uberblock.root block bytes i extent whole (places block bytes known) copy tree
-          (planned_stand s backs.blocks.stored planned block bytes i extent none written plans known copy));
+          (planned_stand s backs.blocks.stored planned block bytes i extent none whole.fresh written plans known copy));
     } in
     record {
       tree = tree;

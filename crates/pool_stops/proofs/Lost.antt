@@ -1,12 +1,13 @@
 -- A root is refused for want of disks only where some are lost.
-use Rattle.std.proofs.Common.{ℕ, suc, ◌≡◌, inl, inr, Bool, true, false, List, [], ◌∷◌, ◌++◌, length, Contains, refl, sym, ap, subst, ◌∙◌, arith, true≢false}
+use Rattle.std.proofs.Common.{ℕ, suc, ◌≡◌, inl, inr, Bool, true, false, List, [], ◌∷◌, ◌++◌, length, Contains, Option, refl, sym, ap, subst, ◌∙◌, arith, true≢false}
 use Rattle.std.proofs.lemmas.List.{append-nil}
 use Rattle.model_disk.specs.Joint.{failed_since}
 use Rattle.raidz_io.specs.Reads.{absent_since}
 use Rattle.block_pointer.specs.declared.block.Block.{Block}
 use Rattle.block_store.specs.Losses.{IsBlockLost, LossesAreNotTolerable}
 use Rattle.block_store.specs.Reading.{AreTolerable}
-use Rattle.block_store.specs.Store.{Store, is_out, outs, outs_from}
+use Rattle.block_store.specs.Store.{Store, is_out, missed, outs, outs_from, stale_from}
+use Rattle.disk_set.specs.declared.stale.GroupSpan.{GroupSpan}
 use Rattle.block_store.specs.declared.refusal.Refusal.{Refusal}
 use Rattle.block_store.specs.declared.refusal.Refusal.TheVariants.{DiskFault, BadPointer}
 use Rattle.block_store.proofs.Losses.{lost_behind_reads}
@@ -110,17 +111,20 @@ none_in : (xs : List ℕ) → ((x : ℕ) → ¬ Contains xs x) → xs ≡ []
 none_in [] none = refl
 none_in (x ∷ xs) none = absurd (none x (0, omega arith, refl))
 
--- a whole root over disks that are all there, and of which no call failed, is refused for want of memory alone
+-- a whole root over disks that are all there, of which none missed a group and no call failed, is refused for want of memory alone
 pub not_for_loss : LossesAreNotTolerable → (old new : Store) (birth : ℕ) (root : Block) (before after : ℕ) (refusal : RootRefusal) → AreContentsRefused old new [] birth root before after refusal
-    → ((disk : ℕ) → is_out old.out disk ≡ false) → ((disk : ℕ) → ¬ Contains (failed_since (length old.disks.calls) new.disks.calls) disk) → IsForLossOf refusal → of_root refusal ≡ NoMemory
-not_for_loss law old new birth root before after refusal cause none well (inl memory) = ap of_root memory
-not_for_loss law old new birth root before after refusal cause none well (inr (why, same, inl memory)) = ap of_root (same ∙ ap Unread memory)
-not_for_loss law old new birth root before after refusal cause none well (inr (why, same, inr fault)) =
+    → ((disk : ℕ) → is_out old.out disk ≡ false) → old.spans.stale ≡ [] → ((disk : ℕ) → ¬ Contains (failed_since (length old.disks.calls) new.disks.calls) disk) → IsForLossOf refusal → of_root refusal ≡ NoMemory
+not_for_loss law old new birth root before after refusal cause none fresh well (inl memory) = ap of_root memory
+not_for_loss law old new birth root before after refusal cause none fresh well (inr (why, same, inl memory)) = ap of_root (same ∙ ap Unread memory)
+not_for_loss law old new birth root before after refusal cause none fresh well (inr (why, same, inr fault)) =
     let failed : failed_since (length old.disks.calls) new.disks.calls ≡ [] = none_in (failed_since (length old.disks.calls) new.disks.calls) well in
-    let away : absent_since old.disks new.disks (outs old ++ []) ≡ [] =
-    ap (λ them. them ++ failed_since (length old.disks.calls) new.disks.calls) (append-nil (outs old) ∙ none_out old.out 0 none) ∙ failed in
+    let present : (birth : ℕ) → (outs old ++ []) ++ missed old birth ≡ [] = λ birth.
+    ap (λ (stale : List (Option GroupSpan)). (outs old ++ []) ++ stale_from 0 stale birth) fresh ∙ append-nil (outs old ++ []) ∙ append-nil (outs old)
+    ∙ none_out old.out 0 none in
+    let away : (birth : ℕ) → absent_since old.disks new.disks ((outs old ++ []) ++ missed old birth) ≡ [] = λ birth.
+    ap (λ them. them ++ failed_since (length old.disks.calls) new.disks.calls) (present birth) ∙ failed in
     absurd (law old new [] (contents_lost old new birth root before after refusal cause (same ∙ ap Unread fault))
-    (subst (λ (them : List ℕ). AreTolerable old.spaces them) (sym away) (λ v space found. record {
+    (λ birth. subst (λ (them : List ℕ). AreTolerable old.spaces them) (sym (away birth)) (λ v space found. record {
       disks = [];
       few = omega arith;
       all = λ child below held. absurd (omega (arith, held.1));

@@ -110,6 +110,7 @@ module _ {images : List (List ℕ)} {shapes : List VdevShape} {out : List Bool} 
     tree = record {
       stored = it.tree.stored;
       spells = it.tree.spells;
+      untouched = it.tree.untouched;
       mapped = it.tree.mapped;
       configured = it.tree.configured;
       made = it.tree.made;

@@ -12,13 +12,14 @@ use Rattle.uberblock_ring.specs.declared.uberblock.Uberblock.{Uberblock}
 use Rattle.pool_create.specs.CommitPlanned.{Planned}
 use Rattle.pool_create.specs.Backs.{Backs, HasPlan, IsPlanOf}
 use Rattle.pool_create.specs.CommitState.{State}
+use Rattle.pool_create.specs.Spans.{HaveNoSpans, NoneIsStale}
 use Rattle.pool_create.proofs.CommitLabels.{labels_of_opened_lie}
 use Rattle.pool_create.proofs.CommitPlanning.{in_counted}
 use Rattle.pool_create.specs.CoreState.{disks_of}
 use Rattle.block_store.specs.Blocks.{Contents}
 use Rattle.pool_model.specs.Pools.{PlainPool}
 use Rattle.pool_export.specs.Moments.{IsLeading}
-use Rattle.pool_model.specs.View.{View, Idle, counted, is_syncing, opened_as}
+use Rattle.pool_model.specs.View.{View, Idle, counted, is_syncing, none_stale, opened_as}
 use Rattle.pool_model.specs.View.{disks_of as disks_in_vdevs}
 use Rattle.pool_create.specs.OpenStops.{fresh}
 use Rattle.pool_create.specs.Trees.{IsConfiguredFor, IsOpenedFor, IsTreeOf, OpensPossible}
@@ -64,6 +65,7 @@ tree_on : (trees : Trees) (starts others : List (List ℕ)) (shapes : List VdevS
 tree_on trees starts others shapes out u pool sizes tree = record {
   stored = tree.stored;
   spells = tree.spells;
+  untouched = tree.untouched;
   mapped = tree.mapped;
   configured = tree.configured;
   made = tree.made;
@@ -111,6 +113,7 @@ claimed_tree trees starts shapes out taken u pool is tree =
     let here : IsTreeOf trees starts shapes out (record taken { claim = u.claim }) pool = record {
       stored = tree.stored;
       spells = tree.spells;
+      untouched = tree.untouched;
       mapped = tree.mapped;
       configured = configured_under taken u.claim tree.stored pool tree.configured;
       made = tree.made;
@@ -179,13 +182,15 @@ covered_from (shape ∷ shapes) starts first disk lie from below = ⊎_elim
     at_child : (first n disk : ℕ) → first ≤ disk → disk < first + n → (k : ℕ) × (k < n) × (disk ≡ first + k)
     at_child first n disk from below = (disk - first, omega (arith, from, below), omega (arith, from))
 
--- with no disk out, and the vdevs that it was opened with
+-- with no disk out and none stale, and the vdevs that it was opened with
 pub whole_opened : (s : State) (shapes : List VdevShape) → shapes_of s.store.spaces ≡ shapes → MayBeOpened s.store.disks.starts shapes s.store.out → length s.store.disks.starts ≤ 2 ^ 64
-    → ((disk : ℕ) → is_out s.store.out disk ≡ false) → 0 < length s.store.disks.starts → IsWhole s
-whole_opened s shapes vdevs may few none some =
+    → ((disk : ℕ) → is_out s.store.out disk ≡ false) → 0 < length s.store.disks.starts → NoneIsStale s → HaveNoSpans s → IsWhole s
+whole_opened s shapes vdevs may few none some fresh untouched =
     let is = is_opened s.store shapes vdevs may.lie may.few few in
     record {
       none = none;
+      fresh = fresh;
+      untouched = untouched;
       count = may.flags;
       some = some;
       covered = λ disk there.
@@ -213,17 +218,18 @@ led_disks_open begin old shapes out rewind p pools claimed core led is all none 
     let out_is : core.commit.store.out ≡ out = is.outs ∙ all in
     let starts : (disks_of core).starts ≡ old.starts = is.calls.claims.makes.starts ∙ (through_made out is.later old is.calls.read is.calls.before).starts in
     let below = used_below out led.can.some.0 led.can.some.1 in
+    let possible = subst (λ (them : List Bool). OpensPossible old shapes them rewind claimed core) all is.possible in
+    let opened : IsOpenedFor p pools shapes out rewind claimed core = possible led.trees p pools led.can led.tree named honest in
     let whole : IsWhole core.commit =
     whole_opened core.commit shapes is.vdevs
     (subst (λ (them : List (List ℕ)). MayBeOpened them shapes core.commit.store.out) (sym starts) (subst (λ (flags : List Bool). MayBeOpened old.starts shapes flags) (sym out_is) is.may))
-    (omega (arith, few, ap length starts)) (λ disk. ap (λ flags. is_out flags disk) out_is ∙ none disk) (omega (arith, below, is.may.flags, ap length starts)) in
-    let possible = subst (λ (them : List Bool). OpensPossible old shapes them rewind claimed core) all is.possible in
+    (omega (arith, few, ap length starts)) (λ disk. ap (λ flags. is_out flags disk) out_is ∙ none disk) (omega (arith, below, is.may.flags, ap length starts)) opened.fresh
+    opened.untouched in
     let gives = subst (λ (them : List Bool). OpenGives them rewind old claimed (disks_of core)) all is.gives in
-    let opened : IsOpenedFor p pools shapes out rewind claimed core = possible led.trees p pools led.can led.tree named honest in
     let at : AreAt led.trees out (disks_of core) claimed [] = (gives led.trees p led.can honest).1 in
     let s : State = core.commit in
     let trees : Trees = filled_trees s.store.spaces s.store.disks in
-    let v : View = opened_as (vdevs_in shapes) (is_out out) opened.claim.taken.group (pools opened.claim.taken) in
+    let v : View = opened_as (vdevs_in shapes) (is_out out) none_stale opened.claim.taken.group (pools opened.claim.taken) in
     let here : AreAt trees out (disks_of core) claimed [] =
     at_with led.trees trees out (disks_of core) claimed [] (λ u. picked_stand (is_filled s.store.spaces) out (content s.store.disks) u.root) at in
     let group : claimed.group ≡ opened.claim.taken.group = ap (λ (x : Uberblock). x.group) opened.claim.is in

@@ -18,27 +18,27 @@ use Rattle.pool_model.specs.declared.step.Step.{Step}
 use Rattle.pool_model.specs.declared.step.Step.TheVariants.{Hold, Write, Act, Release, Close, Quiesce, Plan, Device, DiskOut, Read, ReadUnder}
 use Rattle.pool_stops.specs.Running.{IsRunning, RunningPoolsStepOn, RunsStopWell, StepsOn}
 use Rattle.pool_stops.proofs.Commits.{commits}
-use Rattle.pool_stops.proofs.Steps.{PhaseLaws, goes_on, plans_on, read_steps, stays}
+use Rattle.pool_stops.proofs.Steps.{MissesNone, PhaseLaws, goes_on, misses_none, plans_on, read_steps, stays}
 
 -- ---- one step
 
 -- with a plan, which is there afterwards or not
 with_plan : (old new : CoreState) (v w : View) (given : Given) (reply : Reply) (plan : Planned) (later : Option Planned) (last : Uberblock) (before : List Uberblock) → PhaseLaws
-    → IsRunning old v last before → Link old v Device given reply new w → WritesPlan old.commit new.commit → NoneIsOut new.commit → old.commit.planned ≡ Some plan
+    → IsRunning old v last before → Link old v Device given reply new w → MissesNone new.commit → WritesPlan old.commit new.commit → NoneIsOut new.commit → old.commit.planned ≡ Some plan
     → new.commit.planned ≡ later → StepsOn old v new w last before
-with_plan old new v w given reply plan (Some after) last before laws runs link writes none is still =
-    goes_on old new v w Device given reply plan after last before laws runs link writes none is still
-with_plan old new v w given reply plan None last before laws runs link writes none is gone = ⊎_elim
+with_plan old new v w given reply plan (Some after) last before laws runs link misses writes none is still =
+    goes_on old new v w Device given reply plan after last before laws runs link misses writes none is still
+with_plan old new v w given reply plan None last before laws runs link misses writes none is gone = ⊎_elim
     (λ dropped. absurd (true≢false (sym dropped.out ∙ none dropped.disk)))
-    (λ shifted. commits old new v w given reply plan last before laws runs link writes none is gone shifted)
+    (λ shifted. commits old new v w given reply plan last before laws runs link misses writes none is gone shifted)
     (writes.ends plan is gone)
 
 writes_on : (old new : CoreState) (v w : View) (given : Given) (reply : Reply) (planned : Option Planned) (last : Uberblock) (before : List Uberblock) → PhaseLaws
-    → IsRunning old v last before → Link old v Device given reply new w → WritesPlan old.commit new.commit → NoneIsOut new.commit → old.commit.planned ≡ planned
+    → IsRunning old v last before → Link old v Device given reply new w → MissesNone new.commit → WritesPlan old.commit new.commit → NoneIsOut new.commit → old.commit.planned ≡ planned
     → StepsOn old v new w last before
-writes_on old new v w given reply None last before laws runs link writes none is = stays old new v w Device given reply last before laws runs link (writes.idle is)
-writes_on old new v w given reply (Some plan) last before laws runs link writes none is =
-    with_plan old new v w given reply plan new.commit.planned last before laws runs link writes none is refl
+writes_on old new v w given reply None last before laws runs link misses writes none is = stays old new v w Device given reply last before laws runs link misses (writes.idle is)
+writes_on old new v w given reply (Some plan) last before laws runs link misses writes none is =
+    with_plan old new v w given reply plan new.commit.planned last before laws runs link misses writes none is refl
 
 -- a disk that is taken out is out
 taken_is_out : (old new : State) (disk : ℕ) → TakesOut disk old new → NoneIsOut new → ⊥
@@ -51,26 +51,31 @@ taken_is_out old new disk takes none = true≢false (sym (takes.out.disks disk �
     or_same true = refl
     or_same false = same
 
-pub steps_on : PhaseLaws → RunningPoolsStepOn
-steps_on laws old new v w (Hold x) given reply last before runs link moves none = stays old new v w (Hold x) given reply last before laws runs link moves
-steps_on laws old new v w (Write x) given reply last before runs link moves none = stays old new v w (Write x) given reply last before laws runs link moves
-steps_on laws old new v w (Act x) given reply last before runs link moves none = stays old new v w (Act x) given reply last before laws runs link moves
-steps_on laws old new v w (Release x) given reply last before runs link moves none = stays old new v w (Release x) given reply last before laws runs link moves
-steps_on laws old new v w Close given reply last before runs link moves none = stays old new v w Close given reply last before laws runs link moves
-steps_on laws old new v w Quiesce given reply last before runs link moves none = stays old new v w Quiesce given reply last before laws runs link moves
-steps_on laws old new v w (Plan t) given reply last before runs link moves none = ⊎_elim
-    (λ same. stays old new v w (Plan t) given reply last before laws runs link same)
-    (λ plans. plans_on t old new v w (Plan t) given reply last before laws runs link plans) moves
-steps_on laws old new v w Device given reply last before runs link moves none = ⊎_elim
-    (λ same. stays old new v w Device given reply last before laws runs link same)
-    (λ writes. writes_on old new v w given reply old.commit.planned last before laws runs link writes none refl) moves
-steps_on laws old new v w (DiskOut d) given reply last before runs link moves none = ⊎_elim
-    (λ same. stays old new v w (DiskOut d) given reply last before laws runs link same)
+steps_by : PhaseLaws → (old new : CoreState) (v w : View) (step : Step) (given : Given) (reply : Reply) (last : Uberblock) (before : List Uberblock) → IsRunning old v last before
+    → Link old v step given reply new w → Moves step old.commit new.commit → NoneIsOut new.commit → MissesNone new.commit → StepsOn old v new w last before
+steps_by laws old new v w (Hold x) given reply last before runs link moves none misses = stays old new v w (Hold x) given reply last before laws runs link misses moves
+steps_by laws old new v w (Write x) given reply last before runs link moves none misses = stays old new v w (Write x) given reply last before laws runs link misses moves
+steps_by laws old new v w (Act x) given reply last before runs link moves none misses = stays old new v w (Act x) given reply last before laws runs link misses moves
+steps_by laws old new v w (Release x) given reply last before runs link moves none misses = stays old new v w (Release x) given reply last before laws runs link misses moves
+steps_by laws old new v w Close given reply last before runs link moves none misses = stays old new v w Close given reply last before laws runs link misses moves
+steps_by laws old new v w Quiesce given reply last before runs link moves none misses = stays old new v w Quiesce given reply last before laws runs link misses moves
+steps_by laws old new v w (Plan t) given reply last before runs link moves none misses = ⊎_elim
+    (λ same. stays old new v w (Plan t) given reply last before laws runs link misses same)
+    (λ plans. plans_on t old new v w (Plan t) given reply last before laws runs link misses plans) moves
+steps_by laws old new v w Device given reply last before runs link moves none misses = ⊎_elim
+    (λ same. stays old new v w Device given reply last before laws runs link misses same)
+    (λ writes. writes_on old new v w given reply old.commit.planned last before laws runs link misses writes none refl) moves
+steps_by laws old new v w (DiskOut d) given reply last before runs link moves none misses = ⊎_elim
+    (λ same. stays old new v w (DiskOut d) given reply last before laws runs link misses same)
     (λ takes. absurd (taken_is_out old.commit new.commit d takes none)) moves
-steps_on laws old new v w (Read a b c) given reply last before runs link moves none =
-    read_steps old new v w (Read a b c) given reply last before laws runs link moves.reads moves.rest
-steps_on laws old new v w (ReadUnder g a b c) given reply last before runs link moves none =
-    read_steps old new v w (ReadUnder g a b c) given reply last before laws runs link moves.reads moves.rest
+steps_by laws old new v w (Read a b c) given reply last before runs link moves none misses =
+    read_steps old new v w (Read a b c) given reply last before laws runs link misses moves.reads moves.rest
+steps_by laws old new v w (ReadUnder g a b c) given reply last before runs link moves none misses =
+    read_steps old new v w (ReadUnder g a b c) given reply last before laws runs link misses moves.reads moves.rest
+
+pub steps_on : PhaseLaws → RunningPoolsStepOn
+steps_on laws old new v w step given reply last before runs link moves none =
+    steps_by laws old new v w step given reply last before runs link moves none (misses_none old new v w step given reply last before runs link moves none)
 
 -- ---- disks that are out stay so
 

@@ -18,11 +18,13 @@ use Rattle.pool_create.specs.CommitPlanned.{Planned}
 use Rattle.pool_create.specs.Backs.{pool_after}
 use Rattle.pool_create.specs.Config.{vdevs_of}
 use Rattle.pool_create.specs.Slots.{ShowsIn}
+use Rattle.pool_create.specs.Spans.{HaveNoSpans, NoneIsStale}
 use Rattle.pool_create.specs.CommitState.{NoneIsOut, State, group_at}
 use Rattle.pool_create.specs.CommitWriting.{PlansFrom, WritesPlan, in_use_of, may_write}
 use Rattle.pool_create.proofs.CommitLabels.{labels_still}
 use Rattle.pool_create.proofs.CommitProgressing.{vdevs_by_shapes}
-use Rattle.pool_create.specs.Moves.{ReadsAndPlans}
+use Rattle.pool_create.proofs.CoreUntouched.{keeps_no_spans, none_stale_on, stale_stays}
+use Rattle.pool_create.specs.Moves.{Moves, ReadsAndPlans}
 use Rattle.pool_create.specs.CoreState.{CoreState}
 use Rattle.pool_create.specs.CoreSteps.{AreFlushed, Link, ShowsGroup}
 use Rattle.pool_model.specs.Machine.{GoesOn, MayAnswer, StepOf}
@@ -203,12 +205,27 @@ stops_either old v new plan last before runs is group well = ⊎_elim
 
 -- ---- the pool runs on
 
-pub whole_still : (old new : State) → IsWhole old → NoneIsOut new → length new.store.out ≡ length old.store.out → new.store.disks.starts ≡ old.store.disks.starts
+-- no disk missed a group by then
+pub record MissesNone (s : State) : Type 0 where
+  pub fresh : NoneIsStale s
+  pub untouched : HaveNoSpans s
+
+-- so it is behind a step
+pub misses_none : (old new : CoreState) (v w : View) (step : Step) (given : Given) (reply : Reply) (last : Uberblock) (before : List Uberblock)
+    → IsRunning old v last before → Link old v step given reply new w → Moves step old.commit new.commit → NoneIsOut new.commit → MissesNone new.commit
+misses_none old new v w step given reply last before runs link moves none = record {
+  fresh = none_stale_on old new v w (stale_stays v w given step reply link.is_step) runs.represents link.represents runs.whole.fresh;
+  untouched = (keeps_no_spans step old.commit new.commit moves none).1 runs.whole.untouched;
+}
+
+pub whole_still : (old new : State) → IsWhole old → NoneIsOut new → MissesNone new → length new.store.out ≡ length old.store.out → new.store.disks.starts ≡ old.store.disks.starts
     → shapes_of new.store.spaces ≡ shapes_of old.store.spaces → IsWhole new
-whole_still old new whole none count starts shapes =
+whole_still old new whole none misses count starts shapes =
     let disks : length new.store.disks.starts ≡ length old.store.disks.starts = ap length starts in
     record {
       none = none;
+      fresh = misses.fresh;
+      untouched = misses.untouched;
       count = count ∙ whole.count ∙ sym disks;
       some = omega (arith, whole.some, disks);
       covered = λ disk there.
@@ -285,9 +302,9 @@ reads_by old v disks last before (Some plan) laws runs reads is phase =
 
 -- the same of any state with other disks
 pub read_steps : (old new : CoreState) (v w : View) (step : Step) (given : Given) (reply : Reply) (last : Uberblock) (before : List Uberblock) → PhaseLaws → IsRunning old v last before
-    → Link old v step given reply new w → OnlyReads old.commit.store.disks new.commit.store.disks → new.commit ≡ with_disks old.commit new.commit.store.disks
+    → Link old v step given reply new w → MissesNone new.commit → OnlyReads old.commit.store.disks new.commit.store.disks → new.commit ≡ with_disks old.commit new.commit.store.disks
     → StepsOn old v new w last before
-read_steps old new v w step given reply last before laws runs link reads rest =
+read_steps old new v w step given reply last before laws runs link misses reads rest =
     let disks : Disks = new.commit.store.disks in
     let went = reads_by old v disks last before old.commit.planned laws runs reads refl runs.stand in
     let none : NoneIsOut new.commit = subst (λ (s : State). NoneIsOut s) (sym rest) runs.whole.none in
@@ -296,7 +313,7 @@ read_steps old new v w step given reply last before laws runs link reads rest =
       earlier = before;
       next = inl (refl, refl);
       runs = runs_still old new v w step given reply last before runs link
-          (whole_still old.commit new.commit runs.whole none (ap (λ s. length s.store.out) rest) reads.starts (ap (λ s. shapes_of s.store.spaces) rest))
+          (whole_still old.commit new.commit runs.whole none misses (ap (λ s. length s.store.out) rest) reads.starts (ap (λ s. shapes_of s.store.spaces) rest))
           (ap (λ s. s.stamp) rest) (ap (λ s. s.kept) rest) (subst (λ (s : State). StandAt s s.planned last before) (sym rest) went.0);
       stops = went.1;
     }
@@ -306,10 +323,10 @@ no_reads disks = record { starts = refl; newer = []; calls = refl; are_reads = t
 
 -- nothing was done
 pub stays : (old new : CoreState) (v w : View) (step : Step) (given : Given) (reply : Reply) (last : Uberblock) (before : List Uberblock) → PhaseLaws → IsRunning old v last before
-    → Link old v step given reply new w → new.commit ≡ old.commit → StepsOn old v new w last before
-stays old new v w step given reply last before laws runs link same =
+    → Link old v step given reply new w → MissesNone new.commit → new.commit ≡ old.commit → StepsOn old v new w last before
+stays old new v w step given reply last before laws runs link misses same =
     let disks : new.commit.store.disks ≡ old.commit.store.disks = ap (λ s. s.store.disks) same in
-    read_steps old new v w step given reply last before laws runs link
+    read_steps old new v w step given reply last before laws runs link misses
     (subst (λ (d : Disks). OnlyReads old.commit.store.disks d) (sym disks) (no_reads old.commit.store.disks))
     (same ∙ ap (λ (d : Disks). with_disks old.commit d) (sym disks))
 
@@ -340,8 +357,8 @@ plan_stands old v new last before (Some plan) runs from is phase settled = inl (
 })
 
 pub plans_on : (timestamp : ℕ) (old new : CoreState) (v w : View) (step : Step) (given : Given) (reply : Reply) (last : Uberblock) (before : List Uberblock) → PhaseLaws → IsRunning old v last before
-    → Link old v step given reply new w → ReadsAndPlans timestamp old.commit new.commit → StepsOn old v new w last before
-plans_on timestamp old new v w step given reply last before laws runs link plans =
+    → Link old v step given reply new w → MissesNone new.commit → ReadsAndPlans timestamp old.commit new.commit → StepsOn old v new w last before
+plans_on timestamp old new v w step given reply last before laws runs link misses plans =
     let from : PlansFrom old.commit new.commit = plans.from in
     let phase : StandAt old.commit None last before = subst (λ (o : Option Planned). StandAt old.commit o last before) plans.unplanned runs.stand in
     let went = laws.plans old.commit new.commit last before runs.whole.lie from plans.reads phase.blocks in
@@ -354,7 +371,7 @@ plans_on timestamp old new v w step given reply last before laws runs link plans
       earlier = before;
       next = inl (refl, refl);
       runs = runs_still old new v w step given reply last before runs link
-          (whole_still old.commit new.commit runs.whole none (ap length from.out) plans.reads.starts from.shapes) from.stamp from.kept
+          (whole_still old.commit new.commit runs.whole none misses (ap length from.out) plans.reads.starts from.shapes) from.stamp from.kept
           (plan_stands old v new.commit last before new.commit.planned runs from refl went.0 settled);
       stops = stops_filled old v new.commit.store.disks last before runs went.1;
     }
@@ -363,9 +380,9 @@ plans_on timestamp old new v w step given reply last before laws runs link plans
 
 -- a step that goes on with its plan
 pub goes_on : (old new : CoreState) (v w : View) (step : Step) (given : Given) (reply : Reply) (plan after : Planned) (last : Uberblock) (before : List Uberblock) → PhaseLaws
-    → IsRunning old v last before → Link old v step given reply new w → WritesPlan old.commit new.commit → NoneIsOut new.commit → old.commit.planned ≡ Some plan
+    → IsRunning old v last before → Link old v step given reply new w → MissesNone new.commit → WritesPlan old.commit new.commit → NoneIsOut new.commit → old.commit.planned ≡ Some plan
     → new.commit.planned ≡ Some after → StepsOn old v new w last before
-goes_on old new v w step given reply plan after last before laws runs link writes none is still =
+goes_on old new v w step given reply plan after last before laws runs link misses writes none is still =
     let out : new.commit.store.out ≡ old.commit.store.out =
     same_flags old.commit.store.out new.commit.store.out writes.out.count runs.whole.none none in
     let phase : IsInPhase old.commit plan last before = subst (λ (o : Option Planned). StandAt old.commit o last before) is runs.stand in
@@ -376,7 +393,7 @@ goes_on old new v w step given reply plan after last before laws runs link write
       earlier = before;
       next = inl (refl, refl);
       runs = runs_still old new v w step given reply last before runs link
-          (whole_still old.commit new.commit runs.whole none writes.out.count (writes.makes plan is).starts writes.shapes) writes.stamp (writes.stays plan after is still)
+          (whole_still old.commit new.commit runs.whole none misses writes.out.count (writes.makes plan is).starts writes.shapes) writes.stamp (writes.stays plan after is still)
           (subst (λ (o : Option Planned). StandAt new.commit o last before) (sym still) went.0);
       stops = stops_either old v new.commit plan last before runs is (its_group old v plan last before runs is) went.1;
     }

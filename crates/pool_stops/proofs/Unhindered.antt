@@ -1,5 +1,5 @@
 -- Opens that nothing hinders are refused for want of memory alone.
-use Rattle.std.proofs.Common.{ℕ, zero, suc, ◌≡◌, ◌⊎◌, inl, inr, ⊎_elim, ◌+◌, ◌<◌, ◌≤◌, Bool, true, false, List, [], ◌∷◌, length, map, Contains, refl, sym, ap, subst, ◌∙◌, arith, true≢false, if◌then◌else◌, nat_le, ◌&&◌}
+use Rattle.std.proofs.Common.{ℕ, zero, suc, ◌≡◌, ◌⊎◌, inl, inr, ⊎_elim, ◌+◌, ◌<◌, ◌≤◌, Bool, true, false, List, [], ◌∷◌, length, map, Contains, Option, refl, sym, ap, subst, ◌∙◌, arith, true≢false, if◌then◌else◌, nat_le, ◌&&◌}
 use Rattle.pool_model.specs.Refusals.{greatest}
 use Rattle.std.proofs.lemmas.Bool.Decides.{nat_tests}
 use Rattle.model_disk.specs.Joint.{Disks, JointCall, content, failed_since}
@@ -13,6 +13,7 @@ use Rattle.block_store.specs.Places.{AreEmpty, shapes_of}
 use Rattle.block_store.specs.Releases.{copies_of_all}
 use Rattle.block_store.specs.Spaces.{VdevSpace}
 use Rattle.block_store.specs.Store.{is_out}
+use Rattle.disk_set.specs.declared.stale.GroupSpan.{GroupSpan}
 use Rattle.block_store.specs.declared.shape.VdevShape.{VdevShape}
 use Rattle.block_pointer.specs.declared.block.Block.{Block}
 use Rattle.pool_create.proofs.SnapshotsReadings.{roots_spell_one_pool}
@@ -27,11 +28,12 @@ use Rattle.pool_create.specs.Reopened.{AreMisplaced}
 use Rattle.pool_create.specs.OpenCauses.{of_root}
 use Rattle.pool_create.specs.Held.{HoldOver}
 use Rattle.pool_create.specs.OpenOpening.{AreClaimedThrough, AreReadThrough, IsCauseOfClaim, IsCauseOfReading, IsReadMisplaced, IsRootUnread, IsSurveyRefused}
-use Rattle.pool_create.specs.Roots.{IsRootRefused, IsSmallRoot}
+use Rattle.pool_create.specs.Roots.{IsRefusedAgain, IsRootRefused, IsSmallRoot, RootRefuses}
 use Rattle.pool_create.specs.Trees.{IsTreeOf}
 use Rattle.pool_create.specs.Words.{most_blocks, vdevs_in}
 use Rattle.pool_create.specs.OpenRefusal.{Refusal}
 use Rattle.pool_create.specs.OpenRefusal.TheVariants.{NoMemory}
+use Rattle.pool_create.proofs.OpenKnowing.{never_again}
 use Rattle.pool_create.proofs.OpenThrough.{block_reads_made, honest_within}
 use Rattle.pool_slots.specs.Failures.{HasFailedOn}
 use Rattle.pool_slots.specs.Marks.{IsUsedUp}
@@ -201,7 +203,8 @@ record AtRoot (disks : Disks) (shapes : List VdevShape) (out : List Bool) (pool 
   pub spells : SpellsPool stored u.group u.root pool
   pub mapped : HasItsMapsOver shapes spells
   pub apart : LieApart shapes (reach_of spells)
-  pub hold : HoldOver disks shapes out stored
+  pub untouched : spells.stale ≡ []
+  pub hold : HoldOver disks shapes out [] stored
 
 at_root : (old surveyed new : Disks) (shapes : List VdevShape) (out : List Bool) (p : Possible) (pools : Uberblock → PlainPool) (s : Surveyed) → LeadToWholePools old shapes out p pools
     → IsFree old new shapes out → Makes no_write old surveyed → IsHonestSince old surveyed → IsSurveyed out 0 old surveyed s → AtRoot surveyed shapes out (pools s.taken) s.claimed
@@ -217,6 +220,7 @@ at_root old surveyed new shapes out p pools s led free makes honest is =
       stored = tree.stored;
       spells = tree.spells;
       mapped = tree.mapped;
+      untouched = tree.untouched;
       apart = whole.apart;
       hold = tree.held surveyed sizes stands;
     } in
@@ -230,9 +234,9 @@ root_case law old surveyed new shapes out p pools refusal led free makes reads u
     let later : IsHonestSince surveyed new = honest_within no_write old surveyed new new makes (Makes-none no_write new) free.honest in
     let at = at_root old surveyed new shapes out p pools unread.s led free makes honest unread.is in
     let u : Uberblock = unread.s.claimed in
-    let memory : of_root unread.cause ≡ NoMemory = ⊎_elim
+    let at_once : RootRefuses surveyed new shapes out [] u.group u.root (most_blocks shapes) unread.cause → of_root unread.cause ≡ NoMemory = λ refuses. ⊎_elim
     (λ (bad, not). absurd (not (subst (λ (starts : List (List ℕ)). MayBeOpened starts shapes out) (sym makes.starts) free.may)))
-    (λ (it : IsRootRefused surveyed new shapes out u.group u.root (most_blocks shapes) unread.cause).
+    (λ (it : IsRootRefused surveyed new shapes out [] u.group u.root (most_blocks shapes) unread.cause).
     let small : IsSmallRoot at.stored shapes u.group u.root (pools unread.s.taken) (most_blocks shapes) = record {
       is = at.spells;
       mapped = at.mapped;
@@ -240,12 +244,16 @@ root_case law old surveyed new shapes out p pools refusal led free makes reads u
           (first_apart shapes (meta_blocks_of at.spells) (volume_blocks_of at.spells) at.apart);
     } in
     not_for_loss law it.store it.later u.group u.root (most_blocks shapes) it.after unread.cause it.cause
-    (λ disk. ap (λ flags. is_out flags disk) it.over.out_is ∙ free.none disk)
+    (λ disk. ap (λ flags. is_out flags disk) it.over.out_is ∙ free.none disk) it.over.stale_is
     (λ disk failed.
     let P : Disks → Disks → Type 0 = λ a b. HasFailedOn a b disk in
     let here : HasFailedOn surveyed new disk = subst (λ (b : Disks). P surveyed b) it.now (subst (λ (a : Disks). P a it.later.disks) it.over.disks_are failed) in
     free.none_failed disk (fails_later no_write old surveyed new makes disk here))
     (it.whole at.stored (pools unread.s.taken) at.hold small later))
+    refuses in
+    let memory : of_root unread.cause ≡ NoMemory = ⊎_elim at_once
+    (λ (again : IsRefusedAgain surveyed new shapes out u.group u.root (most_blocks shapes) unread.cause).
+    absurd (never_again surveyed new shapes out u.group u.root (most_blocks shapes) unread.cause again at.stored (pools unread.s.taken) at.hold at.spells at.untouched later))
     unread.why in
     unread.same ∙ memory
 
@@ -284,7 +292,9 @@ misplaced_case old surveyed read new shapes out p pools may led free makes reads
     let pool : PlainPool = pools it.s.taken in
     let spaces : List VdevSpace = it.why.store.spaces in
     let same : shapes_of spaces ≡ shapes = it.why.over.shapes_are in
-    let are = it.reads.are at.stored pool at.hold at.spells later spaces same in
+    let fresh : it.stale ≡ [] = it.reads.fresh at.stored pool at.hold at.spells at.untouched later in
+    let hold : HoldOver surveyed shapes out it.stale at.stored = subst (λ (stale : List (Option GroupSpan)). HoldOver surveyed shapes out stale at.stored) (sym fresh) at.hold in
+    let are = it.reads.read.are at.stored pool hold at.spells later spaces same in
     let one = roots_spell_one_pool at.stored u.group u.group u.root pool pool at.spells are.is in
     never_misplaced spaces shapes at.stored u.group u.root pool it.contents same it.why.empty are (one.3 spaces (at.mapped spaces same))
     (subst (λ (them : List Block). LieApart shapes them) one.1 at.apart) it.why.misplaced

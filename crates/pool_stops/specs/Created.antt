@@ -10,7 +10,7 @@ use Rattle.pool_create.specs.Creating.{IsCreated}
 use Rattle.pool_create.specs.Planning.{nobody}
 use Rattle.pool_format.specs.declared.labeling.PoolIdentity.{PoolIdentity}
 use Rattle.pool_model.specs.Pools.{no_volumes}
-use Rattle.pool_model.specs.View.{opened_as}
+use Rattle.pool_model.specs.View.{none_stale, opened_as}
 use Rattle.pool_create.specs.Words.{vdevs_in}
 use Rattle.pool_slots.specs.Opens.{AreKnown}
 use Rattle.pool_stops.specs.Running.{IsRunning}
@@ -20,4 +20,4 @@ abbrev pub CreatedPoolsRun : Type 0
 CreatedPoolsRun =
     (old : Disks) (pool : PoolIdentity) (config : Config) (u : Uberblock) (core : CoreState) → (is : IsCreated old pool config u core)
     → AreKnown (nobody old.starts) old → IsHonestSince old (disks_of core) → 0 < length old.starts → length old.starts ≤ 2 ^ 64
-    → IsRunning core (opened_as (vdevs_in is.shapes) (is_out (nobody old.starts)) 3 no_volumes) u []
+    → IsRunning core (opened_as (vdevs_in is.shapes) (is_out (nobody old.starts)) none_stale 3 no_volumes) u []

@@ -15,7 +15,7 @@ use Rattle.pool_create.specs.Creating.{IsCreated}
 use Rattle.pool_create.specs.Planning.{nobody}
 use Rattle.pool_format.specs.declared.labeling.PoolIdentity.{PoolIdentity}
 use Rattle.pool_model.specs.Pools.{PlainPool, no_volumes}
-use Rattle.pool_model.specs.View.{View, opened_as}
+use Rattle.pool_model.specs.View.{View, none_stale, opened_as}
 use Rattle.pool_model.specs.declared.step.Reply.{Reply}
 use Rattle.pool_model.specs.declared.step.Step.{Step}
 use Rattle.pool_create.specs.OpenExporting.{IsExportBegun}
@@ -75,14 +75,14 @@ abbrev pub CreatedPoolsRunAs : Type 0
 CreatedPoolsRunAs =
     (old : Disks) (pool : PoolIdentity) (config : Config) (u : Uberblock) (core : CoreState) → (is : IsCreated old pool config u core)
     → AreKnown (nobody old.starts) old → IsHonestSince old (disks_of core) → 0 < length old.starts → length old.starts ≤ 2 ^ 64
-    → IsRunningAs u.config_digest core (opened_as (vdevs_in is.shapes) (is_out (nobody old.starts)) 3 no_volumes) u []
+    → IsRunningAs u.config_digest core (opened_as (vdevs_in is.shapes) (is_out (nobody old.starts)) none_stale 3 no_volumes) u []
 
 -- such a pool was opened, well
 pub record IsOpenedAs (digest : List ℕ) (p : Possible) (pools : Uberblock → PlainPool) (shapes : List VdevShape) (out : List Bool) (rewind : ℕ)
     (claimed : Uberblock) (core : CoreState) : Type 0 where
   pub well : IsOpenedWell p pools shapes out rewind claimed core
   pub runs : IsRunningAs digest core
-      (opened_as (vdevs_in shapes) (is_out out) well.opened.claim.taken.group (pools well.opened.claim.taken)) claimed []
+      (opened_as (vdevs_in shapes) (is_out out) none_stale well.opened.claim.taken.group (pools well.opened.claim.taken)) claimed []
 
 -- a pool that was opened with no disk out is one, if whatever the disks lead to has the configuration, and its core keeps the one that the claimed
 -- uberblock names

@@ -10,7 +10,7 @@ use Rattle.uberblock_ring.specs.declared.uberblock.Uberblock.{Uberblock}
 use Rattle.pool_create.specs.CommitState.{NoneIsOut, State}
 use Rattle.pool_create.specs.CoreState.{CoreState, disks_of}
 use Rattle.pool_model.specs.Pools.{PlainPool}
-use Rattle.pool_model.specs.View.{View, opened_as}
+use Rattle.pool_model.specs.View.{View, none_stale, opened_as}
 use Rattle.pool_model.specs.declared.step.Reply.{Reply}
 use Rattle.pool_model.specs.declared.step.Step.{Step}
 use Rattle.pool_create.specs.OpenExporting.{IsExportBegun}
@@ -66,7 +66,8 @@ StoppedOpensLead =
 pub record IsOpenedWell (p : Possible) (pools : Uberblock → PlainPool) (shapes : List VdevShape) (out : List Bool) (rewind : ℕ) (claimed : Uberblock) (core : CoreState)
     : Type 0 where
   pub opened : IsOpenedFor p pools shapes out rewind claimed core
-  pub runs : IsRunning core (opened_as (vdevs_in shapes) (is_out out) opened.claim.taken.group (pools opened.claim.taken)) claimed []
+  pub runs : IsRunning core (opened_as (vdevs_in shapes) (is_out out) none_stale opened.claim.taken.group
+      (pools opened.claim.taken)) claimed []
 
 abbrev pub LedDisksOpen : Type 0
 LedDisksOpen =

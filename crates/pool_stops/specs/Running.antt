@@ -14,6 +14,7 @@ use Rattle.pool_create.specs.CoreRuns.{Chain}
 use Rattle.pool_create.specs.CoreState.{CoreState}
 use Rattle.pool_create.specs.CoreState.{disks_of as disks_in}
 use Rattle.pool_create.specs.CoreSteps.{Link}
+use Rattle.pool_create.specs.Spans.{HaveNoSpans, NoneIsStale}
 use Rattle.pool_model.specs.Pools.{PlainPool}
 use Rattle.pool_model.specs.View.{Given, View, disks_of}
 use Rattle.pool_model.specs.declared.step.Reply.{Reply}
@@ -31,9 +32,11 @@ use Rattle.pool_stops.specs.Whole.{IsWholeTree}
 
 -- ---- between two steps
 
--- no disk is out, each is one of a vdev's, and there are some; no block lies on labels
+-- no disk is out or missed a group, each is one of a vdev's, and there are some; no block lies on labels
 pub record IsWhole (s : State) : Type 0 where
   pub none : NoneIsOut s
+  pub fresh : NoneIsStale s
+  pub untouched : HaveNoSpans s
   pub count : length s.store.out ≡ length s.store.disks.starts
   pub some : 0 < length s.store.disks.starts
   pub covered : (disk : ℕ) → disk < length s.store.disks.starts → Contains (disks_of (vdevs_of s.store.spaces)) disk

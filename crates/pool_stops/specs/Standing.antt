@@ -12,7 +12,7 @@ use Rattle.block_store.specs.Blocks.{Contents}
 use Rattle.block_store.specs.Elsewhere.{IsForBlocks}
 use Rattle.block_store.specs.Places.{IsCopy, IsLaidOut}
 use Rattle.block_store.specs.Plans.{Plans}
-use Rattle.block_store.specs.Store.{Store, Stores, outs}
+use Rattle.block_store.specs.Store.{Store, Stores, is_stale, outs}
 use Rattle.block_store.specs.Spaces.{VdevSpace}
 use Rattle.pool_create.specs.Slots.{LabelsLieAside}
 use Rattle.pool_create.specs.CommitWriting.{IsDueWrite}
@@ -57,11 +57,11 @@ DueWritesAreUnfilled =
     (store : Store) (stored planned : Contents) → LieBesideLabels store.disks.starts store.spaces → Plans store stored planned
     → (which at : ℕ) (bytes : List ℕ) → IsDueWrite store.due which at bytes → unfilled_write store.spaces which at bytes
 
--- Wherever all that a store has filled stands, on disks in use, its blocks do.
+-- Wherever all that a store has filled stands, on disks in use that missed no group, its blocks do.
 abbrev pub FilledTreesHoldBlocks : Type 0
 FilledTreesHoldBlocks =
     (store : Store) (stored : Contents) (disks : Disks) (root : Block) → LieBesideLabels store.disks.starts store.spaces → length store.out ≡ length store.disks.starts
-    → Stores store stored → TreeStands (filled_trees store.spaces store.disks) store.out (content disks) root → AllStand store stored disks
+    → ((disk birth : ℕ) → is_stale store.spans.stale disk birth ≡ false) → Stores store stored → TreeStands (filled_trees store.spaces store.disks) store.out (content disks) root → AllStand store stored disks
 
 -- In the blocks phase what isn't filled may be written, whatever the plan, and less may be filled from then on: the phase goes on, and stopped at any
 -- moment the disks lead to the last uberblock.

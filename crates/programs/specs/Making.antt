@@ -13,7 +13,7 @@ use Rattle.pool_create.specs.Creates.{CreateRefusesOn, IsCreatedOn}
 use Rattle.pool_create.specs.Planning.{nobody}
 use Rattle.pool_format.specs.declared.labeling.PoolIdentity.{PoolIdentity}
 use Rattle.pool_model.specs.Pools.{no_volumes}
-use Rattle.pool_model.specs.View.{opened_as}
+use Rattle.pool_model.specs.View.{none_stale, opened_as}
 use Rattle.pool_model.specs.declared.refusal.Refusal.{Refusal as Cause}
 use Rattle.pool_model.specs.declared.refusal.Refusal.TheVariants as cause
 use Rattle.pool_create.specs.Words.{vdevs_in}
@@ -68,7 +68,7 @@ pub record IsMadeOn (line : PoolLine) (core : CoreState) : Type 0 where
   pub asked : IsAsked line pool config
   pub first : Uberblock
   pub made : IsCreatedOn ghosts disks pool config first core
-  pub represents : Represents core (opened_as (vdevs_in made.created.shapes) (is_out (nobody made.array.starts)) 3 no_volumes)
+  pub represents : Represents core (opened_as (vdevs_in made.created.shapes) (is_out (nobody made.array.starts)) none_stale 3 no_volumes)
 
 -- and it runs, with all disks in use and no stop set
 pub record IsMadePool (line : PoolLine) (pool : PoolState) : Type 0 where

@@ -1,2 +1,4 @@
+pub mod NoSpans
 pub mod Spans
 pub mod Steps
+pub mod Tables

@@ -1,6 +1,7 @@
 -- Which spans the disks of a pool have, by what was known and which of them are out.
-use Rattle.std.specs.Prelude.{ℕ, ◌≡◌, ◌<◌, ◌≤◌, ◌-◌, ◌^◌, ◌⊎◌, ◌↔◌, min, Bool, true, false, List, Some, slice_get, flat_map, Contains}
+use Rattle.std.specs.Prelude.{ℕ, ◌≡◌, ◌<◌, ◌≤◌, ◌==◌, ◌-◌, ◌^◌, ◌⊎◌, ◌↔◌, min, Bool, true, false, List, Option, Some, option_map, slice_get, map, flat_map, find, Contains}
 use Rattle.disk_set.specs.Outs.{is_out}
+use Rattle.disk_set.specs.declared.stale.GroupSpan.{GroupSpan}
 use Rattle.meta_objset.specs.declared.stale_spans.StaleSpan.{StaleSpan}
 use Rattle.meta_objset.specs.StaleSpans.{LacksDisk}
 use Rattle.vdev_label.specs.Plain.{PlainVdev}
@@ -46,3 +47,11 @@ OpensAs guids out group row span =
 abbrev pub AreSpansOpened : List ℕ → List Bool → ℕ → List StaleSpan → List StaleSpan → Type 0
 AreSpansOpened guids out group table spans = (span : StaleSpan)
     → Contains spans span ↔ ((row : StaleSpan) × Contains table row × OpensAs guids out group row span)
+
+-- the groups of the span that the disk of this guid has, if it has one
+abbrev pub groups_of : List StaleSpan → ℕ → Option GroupSpan
+groups_of spans guid = option_map (λ span. record { from = span.from; to = span.to }) (find (λ span. span.disk == guid) spans)
+
+-- so it is of each disk
+abbrev pub stale_groups : List StaleSpan → List ℕ → List (Option GroupSpan)
+stale_groups spans guids = map (groups_of spans) guids

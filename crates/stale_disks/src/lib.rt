@@ -3,8 +3,10 @@
 
 mod away;
 mod disks;
+mod groups;
 mod opened;
 
 pub use away::spans_after;
 pub use disks::disk_guids;
+pub use groups::stale_groups;
 pub use opened::spans_opened;

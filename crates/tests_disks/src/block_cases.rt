@@ -9,7 +9,7 @@
 //!
 //! `plan` has the seed of a block's bytes, its sectors, its copies and its group, and blocks are named by
 //! their number in the order of their plans. `read` has a block and the disks that are missing; names
-//! such as `wide` stand for a read by another pointer. `take` has the blocks that are taken in, `release`
+//! such as `wide` stand for a read by another pointer. `missed` has a disk and the first and last group that it missed. `take` has the blocks that are taken in, `release`
 //! a block and a group, and `maps` the blocks that are given back: it gives by how many bytes the maps
 //! grow.
 
@@ -22,6 +22,13 @@ pub(crate) const STORED: &[(&str, &str)] = &[
             read 1 2; read 2 2; read 2 0 1; read 2 0 2; read 2 1 2",
         "new; ok; ok; ok; ok; 0 failed; ok; right; right; right; right; right; right; right;
             right; right; right; right; right; DiskFault; DiskFault; DiskFault",
+    ),
+    // A disk that missed a group isn't read for a block of that group, and is for one of another.
+    (
+        "small; drop 7; plan 1 12 1 7; write; finish; drop 8; plan 2 12 1 8; write; finish;
+            missed 1 8 8; read 0; read 0 0; read 1; read 1 1; read 1 0; missed 1 9 9; read 1 0",
+        "new; ok; ok; 0 failed; ok; ok; ok; 0 failed; ok; marked; right; right; right; right; DiskFault; marked;
+            right",
     ),
     // A plan is dropped between two that are finished: what is stored stays, and the place is used again.
     (

@@ -7,6 +7,7 @@ use block_pointer::{Block, Copies, Property};
 use block_store::{
     Asked, BlockStore, CopyCount, NewBlock, Refusal, VdevConfig, VdevShape, sectors_for_blocks,
 };
+use disk_set::GroupSpan;
 use model_disk::{Fault, FaultDisk, MemDisk};
 use raidz_io::Vdev;
 use raidz_map::Geometry;
@@ -359,6 +360,14 @@ fn planned(
     Ok(())
 }
 
+/// The groups that this disk missed, and no other one.
+pub(crate) fn missed(alloc: Global, call: &Call) -> Result<Vec<Option<GroupSpan>>, Fail> {
+    let mut stale = vec![in alloc; None; call.number(0).min(9)]?;
+    let (from, to) = (call.number(1) as u64, call.number(2) as u64);
+    stale.push(Some(GroupSpan { from, to }))?;
+    Ok(stale)
+}
+
 /// What comes of a call on a store that is there.
 fn called(
     store: &mut TestStore,
@@ -430,6 +439,10 @@ impl Bench for Blocks {
             return Err(Fail::new("no store"));
         };
         match (call.name, &self.other) {
+            ("missed", _) => {
+                store.mark_stale(missed(alloc, call)?);
+                Ok(format!(in alloc; "marked")?)
+            }
             ("load", Some(other)) => {
                 let (differ, refused) = load(store, other)?;
                 Ok(format!(in alloc; "{differ} differ {refused} refused")?)

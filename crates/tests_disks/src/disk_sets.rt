@@ -1,4 +1,5 @@
 //! Sets of disks of which one fails, and what is left of a plan without it.
+use crate::blocks::missed;
 use crate::lines::{Bench, Call};
 use disk_set::{Behind, DiskSet, SlotWrite};
 use model_disk::{DiskArray, Fault, FaultDisk, MemDisk};
@@ -8,7 +9,8 @@ use std::test::Fail;
 
 /// `set` makes a set of two disks of 16 bytes, of which the second fails each call. `write` writes
 /// the last three bytes of a disk, `enter` has a group, `absent` a disk that is
-/// missing too, and `read` reads the disks of the set, which it takes apart.
+/// missing too, and `read` reads the disks of the set, which it takes apart. `missed` has a disk and the first and last group that it
+/// missed, and `lacks` a group: it adds the disks that missed it to disk 9.
 pub(crate) const SETS: &[(&str, &str)] = &[
     // A disk that fails is out.
     (
@@ -23,6 +25,11 @@ pub(crate) const SETS: &[(&str, &str)] = &[
     (
         "set; enter 7; write 0; write 1; flush 0; flush 1; enter 4; absent 5",
         "new; group 7; ok; 1 is out; ok; 1 is out; group 4; [1, 5]",
+    ),
+    // A disk lacks the groups that it missed, and no others; what is said of it takes the place of what was.
+    (
+        "set; lacks 5; missed 1 5 6; lacks 4; lacks 5; lacks 6; lacks 7; missed 0 7 7; lacks 6; lacks 7",
+        "new; [9]; marked; [9]; [9, 1]; [9, 1]; [9]; marked; [9]; [9, 0]",
     ),
     // A plan goes on without a disk: with the flushes of blocks on both disks, and the slot and the flush
     // behind it on the other.
@@ -83,6 +90,15 @@ impl Bench for Sets {
             ("since", Some(set)) => return Ok(format!(in alloc; "{:?}", set.out_since(disk))?),
             ("absent", Some(set)) => {
                 return Ok(format!(in alloc; "{:?}", set.absent(alloc, &call.numbers)?)?);
+            }
+            ("missed", Some(set)) => {
+                set.mark_stale(missed(alloc, call)?);
+                return Ok(format!(in alloc; "marked")?);
+            }
+            ("lacks", Some(set)) => {
+                let mut absent = vec![in alloc; 9]?;
+                set.add_stale(disk as u64, &mut absent)?;
+                return Ok(format!(in alloc; "{absent:?}")?);
             }
             ("flush", Some(set)) if disk < set.len() => set.flush(disk),
             ("write", Some(set)) if disk < set.len() && set.size(disk) == 16 => {

@@ -1,6 +1,6 @@
 //! Disks that are away and come back: which groups they lack.
 use meta_objset::StaleSpans;
-use stale_disks::{disk_guids, spans_after, spans_opened};
+use stale_disks::{disk_guids, spans_after, spans_opened, stale_groups};
 use std::alloc::{AllocError, Global};
 use std::test::Fail;
 use vdev_label::{Config, Vdev};
@@ -24,6 +24,10 @@ const LIFE: [Case; 9] = [
     ),
     (false, 9, [false, false, false], "12 7 to 9 13 6 to 9 "),
 ];
+
+/// The groups that each disk lacks in the end.
+const LACKED: &str =
+    "[None, Some(GroupSpan { from: 7, to: 9 }), Some(GroupSpan { from: 6, to: 9 })]";
 
 fn three_disks(alloc: Global) -> Result<Config, AllocError> {
     let children = vec![in alloc; 11, 12]?;
@@ -72,6 +76,10 @@ fn wrong_steps(alloc: Global) -> Result<String, AllocError> {
         if came.as_str() != *wanted {
             wrong.push_str(format!(in alloc; "{group}: {came}\n")?.as_str())?;
         }
+    }
+    let groups = format!(in alloc; "{:?}", stale_groups(alloc, &spans, &guids)?)?;
+    if groups.as_str() != LACKED {
+        wrong.push_str(groups.as_str())?;
     }
     Ok(wrong)
 }

@@ -166,6 +166,31 @@ release 1 -> released
 sync -> committed 7
 read v 0 512 -> refused 8 NoSuchName";
 
+/// A disk that was away missed a group: nothing of that group is read of it once it is back, by this open and by later ones, and where
+/// another disk is away too what the group wrote is lost, and not wrong.
+const MISSED_BY_ONE: &str = "pool 1 3 8388608 12 2 -> pool 3 claim 1
+hold 1 -> held 4
+create 1 1 v 4096 4096 -> receipt 4
+release 1 -> released
+sync -> committed 4
+reopen 0 0 -> opened 4 claim 2
+hold 1 -> held 5
+write 1 1 v 0 4096 0b -> receipt 5
+release 1 -> released
+sync -> committed 5
+reopen 0 -> opened 5 claim 3
+read v 0 4096 -> 0bx4096
+sync -> committed 6
+reopen 0 -> opened 6 claim 4
+read v 0 4096 -> 0bx4096
+out 1 -> out
+read v 0 4096 -> refused 2 DiskFault
+reopen 0 0 -> opened 6 claim 5
+read v 0 4096 -> 0bx4096
+reopen 0 2 -> refused 2 DiskFault
+reopen 0 -> opened 6 claim 6
+read v 0 4096 -> 0bx4096";
+
 /// Behind a pool at group 8, rows that stop commits.
 const STOPPED_COMMITS: [&[&str]; 6] = [
     &[EIGHT, STOPPED_TWICE],
@@ -177,13 +202,14 @@ const STOPPED_COMMITS: [&[&str]; 6] = [
 ];
 
 /// Rows that stop claims, and some that go back.
-const STOPPED_CLAIMS: [&[&str]; 6] = [
+const STOPPED_CLAIMS: [&[&str]; 7] = [
     &[EIGHT, CLAIM_OF_ONE],
     &[EIGHT, CLAIM_OF_NONE],
     &[EIGHT, CLAIM_OF_ALL],
     &[GONE_BACK],
     &[CLONE_OPENED],
     &[DESTROY_OPENED],
+    &[MISSED_BY_ONE],
 ];
 
 #[test]

@@ -178,5 +178,5 @@ effects_step v given step reply w s h effects = by_move KeepsEffects effect_move
 pub effects_start : (vdevs : List Vdev) → PendingTakeEffect (started vdevs)
 effects_start vdevs n le = tt
 
-pub effects_opened : (vdevs : List Vdev) (out : ℕ → Bool) (group : ℕ) (pool : PlainPool) → PendingTakeEffect (opened_as vdevs out group pool)
-effects_opened vdevs out group pool n le = tt
+pub effects_opened : (vdevs : List Vdev) (out : ℕ → Bool) (stale : ℕ → ℕ → Bool) (group : ℕ) (pool : PlainPool) → PendingTakeEffect (opened_as vdevs out stale group pool)
+effects_opened vdevs out stale group pool n le = tt

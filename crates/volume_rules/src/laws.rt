@@ -82,8 +82,8 @@ pub fn groups_stay_below()
 /// Each pending change takes effect: so it is at the start, as a pool is opened, and after each step.
 pub fn changes_take_effect()
     ensures start { (vdevs : List Vdev) → PendingTakeEffect (started vdevs) }
-    ensures opened { (vdevs : List Vdev) (out : ℕ → Bool) (group : ℕ) (pool : PlainPool) →
-        PendingTakeEffect (opened_as vdevs out group pool) }
+    ensures opened { (vdevs : List Vdev) (out : ℕ → Bool) (stale : ℕ → ℕ → Bool) (group : ℕ)
+        (pool : PlainPool) → PendingTakeEffect (opened_as vdevs out stale group pool) }
     ensures step { (v : View) (given : Given) (step : Step) (reply : Reply) (w : View) → IsSound v →
         StepOf v given step reply w → PendingTakeEffect v → PendingTakeEffect w }
 {}

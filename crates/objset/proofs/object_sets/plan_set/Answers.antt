@@ -2,7 +2,9 @@ use Rattle.std.proofs.Common.{[], refl, subst, arith}
 use Rattle.std.proofs.lemmas.Result.{IfOk-at_ok}
 use Rattle.block_store.specs.Blocks.{Adds}
 use Rattle.block_store.proofs.Steps.{steps_plan}
+use Rattle.block_pointer.specs.Property.{FitsProperty}
 use Rattle.dnode.specs.ObjectSet.{object_set_bytes}
+use Rattle.objset.specs.Sets.{asked_of_set}
 use Rattle.objset.proofs.Outcomes.{if_ok}
 use Rattle.block_store.proofs.Causes.{plan_is_caused}
 use Rattle.std.proofs.lemmas.Result.{IfErr-weaker}
@@ -32,4 +34,7 @@ returns-clause-planned g c =
 
 pub returns-clause-caused : goal.returns-clause-caused
 returns-clause-caused g c =
-    IfErr-weaker c.plan_write.result _ _ (λ refusal why. plan_is_caused c.args.store.now c.plan_write.new.self [] _ _ refusal why) c.plan_write.ensures.refused
+    let fits : FitsProperty (asked_of_set c.args.birth).property =
+    record { level = omega arith; object_type = omega arith; not_empty = omega arith; sectors = omega arith } in
+    IfErr-weaker c.plan_write.result _ _
+    (λ refusal why. plan_is_caused c.args.store.now c.plan_write.new.self [] (asked_of_set c.args.birth).property c.args.copies refusal fits why) c.plan_write.ensures.refused

@@ -6,7 +6,7 @@ use Rattle.disk_set.specs.declared.device.FailedDisk.{FailedDisk}
 use Rattle.block_store.specs.Store.{Store, IsOutToo}
 use Rattle.pool_model.specs.declared.step.Phase.TheVariants as phases
 use Rattle.pool_commit.specs.Making.{flushes_left, MadeCalls, MadeFlushes, FailedFlush, FlushesMove, FlushesMoveBut}
-use Rattle.pool_commit.proofs.Made.{none_made, one_made, one_failed_before, flush_due, flush_made, flush_lost, below_four, err_is, some_to_flush, no_flushes, one_flushed, one_flushed_but}
+use Rattle.pool_commit.proofs.Made.{call_stale, none_made, one_made, one_failed_before, flush_due, flush_made, flush_lost, below_four, err_is, some_to_flush, no_flushes, one_flushed, one_flushed_but}
 use Rattle.pool_commit.proofs.SlotWrites.{flush_keeps}
 use Rattle.model_disk.specs.Runs.{no_write}
 use Rattle.model_disk.proofs.RunLemmas.{Makes-none}
@@ -36,6 +36,7 @@ returns-in-Err-clause-failed g c =
     (sym (err_is c.flush.result c.in-Err.failed (λ (f : FailedDisk). f.disk ≡ c.in-Some.disk) c.in-Err.is c.flush.ensures.failed))
     (λ phase flushes.
     let lost = flush_lost c.flush.result c.loop.store c.flush.new.self phase c.in-Some.disk flushes (ap is_ok c.in-Err.is) c.flush.ensures.starts c.flush.ensures.spaces
+    (call_stale c.flush.result (λ (f : FailedDisk). c.in-Some.disk) c.loop.store c.flush.new.self c.flush.ensures.spans c.flush.ensures.gone)
     c.flush.ensures.plans c.flush.ensures.call in
     one_failed_before c.args.store.now c.loop.store c.flush.new.self (flushes_left phase c.args.flushes.now.items) (flushes_left phase c.pop_front.new.self.items) phase c.loop.counter
     (flush_due phase c.in-Some.disk) (flush_call c.flush.result)
@@ -57,6 +58,7 @@ pub loop-preserved : goal.loop-preserved
 loop-preserved g c = (
   λ phase flushes.
       let made = flush_made c.flush.result c.loop.store c.flush.new.self phase c.in-Some.disk flushes (ap is_ok c.in_default-flush.is) c.flush.ensures.starts c.flush.ensures.spaces
+      (call_stale c.flush.result (λ (f : FailedDisk). c.in-Some.disk) c.loop.store c.flush.new.self c.flush.ensures.spans c.flush.ensures.gone)
       c.flush.ensures.plans c.flush.ensures.call in
       one_made c.args.store.now c.loop.store c.flush.new.self (flushes_left phase c.args.flushes.now.items) (flushes_left phase c.pop_front.new.self.items) phase c.loop.counter
       (flush_due phase c.in-Some.disk) (flush_call c.flush.result)

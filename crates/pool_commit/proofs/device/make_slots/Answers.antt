@@ -59,7 +59,7 @@ returns-in-Err-clause-failed g c =
     let number : ℕ = so.0 c.in-Some.write.disk in
     let at : ℕ = place_of c.loop.store.disks.starts c.in-Some.write c.args.uberblock.now.group in
     let lost = slot_lost c.write_slot.result c.loop.store c.write_slot.new.store c.in-Some.write number at (slot_bytes c.args.uberblock.now) (ap is_ok c.in-Err.is) c.write_slot.ensures.starts
-    c.write_slot.ensures.spaces c.write_slot.ensures.plans c.write_slot.ensures.call in
+    c.write_slot.ensures.spaces c.write_slot.ensures.stale c.write_slot.ensures.plans c.write_slot.ensures.call in
     let failed = one_failed_before c.args.store.now c.loop.store c.write_slot.new.store (slots_left counts c.args.slots.now.items) (slots_left (counted_on so.0 c.in-Some.write.disk) c.pop_front.new.self.items)
     phases.Slots c.loop.counter (due_slot c.in-Some.write number) (write_call c.write_slot.result at (slot_bytes c.args.uberblock.now))
     (subst (λ (left : List SlotWrite). MadeCalls c.args.store.now c.loop.store (slots_left counts c.args.slots.now.items) (slots_left so.0 left) phases.Slots c.loop.counter) c.in-Some.ensures.items so.1)
@@ -84,7 +84,7 @@ loop-preserved g c =
           let number : ℕ = so.0 c.in-Some.write.disk in
           let at : ℕ = place_of c.loop.store.disks.starts c.in-Some.write c.args.uberblock.now.group in
           let made = slot_made c.write_slot.result c.loop.store c.write_slot.new.store c.in-Some.write number at (slot_bytes c.args.uberblock.now) (ap is_ok c.in_default-write_slot.is) c.write_slot.ensures.starts
-          c.write_slot.ensures.spaces c.write_slot.ensures.plans c.write_slot.ensures.call in (
+          c.write_slot.ensures.spaces c.write_slot.ensures.stale c.write_slot.ensures.plans c.write_slot.ensures.call in (
             counted_on so.0 c.in-Some.write.disk,
             one_made c.args.store.now c.loop.store c.write_slot.new.store (slots_left counts c.args.slots.now.items) (slots_left (counted_on so.0 c.in-Some.write.disk) c.pop_front.new.self.items)
                 phases.Slots c.loop.counter (due_slot c.in-Some.write number) (write_call c.write_slot.result at (slot_bytes c.args.uberblock.now))

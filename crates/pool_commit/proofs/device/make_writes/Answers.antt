@@ -7,7 +7,7 @@ use Rattle.pool_model.specs.declared.step.Phase.TheVariants as phases
 use Rattle.pool_model.specs.Flow.{counted_on}
 use Rattle.pool_model.specs.Machine.{due_write}
 use Rattle.pool_commit.specs.Making.{writes_left, MadeCalls, FailedCall}
-use Rattle.pool_commit.proofs.Made.{none_made, one_made, one_failed, write_made, write_lost, below_four, left_some, err_is, writes_count}
+use Rattle.pool_commit.proofs.Made.{call_stale, none_made, one_made, one_failed, write_made, write_lost, below_four, left_some, err_is, writes_count}
 use Rattle.model_disk.proofs.RunLemmas.{Makes-none}
 use Rattle.pool_commit.specs.Writing.{IsDueWrite}
 use Rattle.pool_commit.proofs.Writing.{rest_first, rest_next, write_next_makes}
@@ -36,6 +36,7 @@ returns-in-Err-clause-failed g c counts =
     let number : ℕ = so.0 call.0.disk in
     let few = below_four (length c.args.store.now.due) c.min-end.result c.loop.counter (c.min-end.ensures ∙ ap (λ n. min n 4) c.due_count.ensures) c.loop-test.true in
     let lost = write_lost c.write_next.result c.loop.store c.write_next.new.self call.0 number (ap is_ok c.in-Err.is) c.write_next.ensures.starts c.write_next.ensures.spaces
+    (call_stale c.write_next.result (λ (f : FailedDisk). f.disk) c.loop.store c.write_next.new.self c.write_next.ensures.spans c.write_next.ensures.gone)
     c.write_next.ensures.plans call.2 in
     let failed = one_failed c.args.store.now c.loop.store c.write_next.new.self (writes_left counts c.args.store.now.due) (writes_left (counted_on so.0 call.0.disk) c.write_next.new.self.due) phases.Blocks c.loop.counter
     (due_write call.0.disk number) (write_call c.write_next.result call.0.offset call.0.bytes)
@@ -51,6 +52,7 @@ loop-preserved g c =
           let so = c.loop.invariant.0 counts in
           let number : ℕ = so.0 call.0.disk in
           let made = write_made c.write_next.result c.loop.store c.write_next.new.self call.0 number (ap is_ok c.in_default.is) c.write_next.ensures.starts c.write_next.ensures.spaces
+          (call_stale c.write_next.result (λ (f : FailedDisk). f.disk) c.loop.store c.write_next.new.self c.write_next.ensures.spans c.write_next.ensures.gone)
           c.write_next.ensures.plans call.2 in (
             counted_on so.0 call.0.disk,
             one_made c.args.store.now c.loop.store c.write_next.new.self (writes_left counts c.args.store.now.due) (writes_left (counted_on so.0 call.0.disk) c.write_next.new.self.due) phases.Blocks c.loop.counter

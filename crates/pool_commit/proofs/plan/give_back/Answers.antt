@@ -4,6 +4,7 @@ use Rattle.std.proofs.lemmas.Result.{IfErr-weaker}
 use Rattle.block_store.specs.declared.refusal.Refusal.{Refusal as StoreRefusal}
 use Rattle.block_store.specs.declared.refusal.Refusal.TheVariants as store
 use Rattle.block_store.specs.Places.{filled as filled_marks}
+use Rattle.block_store.specs.Store.{Spans}
 use Rattle.block_store.proofs.Planning.{same_marks}
 use Rattle.pool_commit.proofs.plan.give_back.Goals as goal
 
@@ -13,6 +14,7 @@ returns-then-lacks_memory-clause-gives g c =
     record {
       disks = is.disks;
       out = is.out;
+      stale = ap (λ (s : Spans). s.stale) is.spans;
       due = is.due;
       shapes = is.shapes;
       filled_stays = is.filled;
@@ -29,6 +31,7 @@ returns-clause-gives g c =
     record {
       disks = is.disks;
       out = is.out;
+      stale = ap (λ (s : Spans). s.stale) is.spans;
       due = is.due;
       shapes = is.shapes;
       filled_stays = is.filled;
@@ -55,6 +58,7 @@ pub returns-then-has_strays-clause-gives : goal.returns-then-has_strays-clause-g
 returns-then-has_strays-clause-gives g c = record {
   disks = refl;
   out = refl;
+  stale = refl;
   due = refl;
   shapes = refl;
   filled_stays = same_marks _ filled_marks;

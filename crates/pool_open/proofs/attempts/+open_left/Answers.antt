@@ -1,4 +1,4 @@
-use Rattle.std.proofs.Common.{◌∙◌, ℕ, Bool, List, All, length, ap, sym, subst, arith}
+use Rattle.std.proofs.Common.{◌∙◌, Bool, List, ap, sym, subst, arith}
 use Rattle.std.proofs.lemmas.Result.{IfErr-weaker, IfOk-weaker}
 use Rattle.block_store.specs.Store.{is_out}
 use Rattle.pool_model.specs.View.{is_tolerable}
@@ -7,7 +7,7 @@ use Rattle.pool_core.specs.StateOf.{state_of}
 use Rattle.pool_open.specs.Opening.{IsOpenedOver}
 use Rattle.pool_open.specs.Retried.{IsAttempt, IsFailedClaim, IsNotOpenedAtLast, IsOpenedAtLast}
 use Rattle.pool_open.specs.Words.{vdevs_in}
-use Rattle.pool_open.proofs.Retried.{count_left, fewer_left, labels_left, laid_left, may_left, opened_first, opened_next, refused_first, refused_next, refused_with_few}
+use Rattle.pool_open.proofs.Retried.{fewer_left, labels_left, laid_left, may_left, opened_first, opened_next, refused_first, refused_next, refused_with_few}
 use Rattle.pool_open.proofs.attempts.+open_left.Goals as goal
 
 pub returns-in_err-pool-clause-refused : goal.returns-in_err-pool-clause-refused

@@ -1,6 +1,4 @@
-use Rattle.std.proofs.Common.{List, inr, sym, subst}
-use Rattle.pool_labels.specs.Choices.{HasLabelAt, IsValidAt}
-use Rattle.pool_labels.specs.declared.scanned.ScannedLabel.{ScannedLabel}
+use Rattle.std.proofs.Common.{inr}
 use Rattle.pool_slots.proofs.Results.{if_err_is}
 use Rattle.pool_open.specs.Finding.{LayoutRefuses}
 use Rattle.pool_open.proofs.Layouts.{laid_out}

@@ -1,5 +1,6 @@
 use Rattle.std.proofs.Common.{◌≡◌, ◌++◌, rules, false, true, refl, ap, ◌∙◌}
-use Rattle.block_store.specs.Store.{Store, outs}
+use Rattle.block_store.specs.Store.{Store, missed, outs}
+use Rattle.std.proofs.lemmas.List.Elements.{Contains-append_left, Contains-append_right}
 use Rattle.std.proofs.lemmas.Result.{IfErr-weaker}
 use Rattle.block_store.specs.Reading.{IsReadable}
 use Rattle.block_store.proofs.Causes.{read_is_caused}
@@ -29,13 +30,15 @@ returns g c =
     } in
     let is : IsBlockRead c.args.self.now c.read_places.new.self c.args.missing.now c.args.block.now c.read_places.result =
     block_read c.args.self.now c.read_places.new.self c.args.missing.now c.args.block.now c.read_places.result c.as_slice-2.result.now c.as_slice.result.now
-    (c.as_slice-2.ensures.value ∙ c.in_ok-absent.ensures ∙ ap (λ (s : Store). outs s ++ c.args.missing.now) c.self.view_is) (c.as_slice.ensures.value ∙ c.places_of-places.ensures) c.read_places.ensures.rest
+    (c.as_slice-2.ensures.value ∙ c.in_ok-absent.ensures) (c.as_slice.ensures.value ∙ c.places_of-places.ensures) c.read_places.ensures.rest
     c.read_places.ensures.read in
     let kept = is_kept laws c.args.self.now c.read_places.new.self c.args.missing.now c.args.block.now c.read_places.result is in
+    let away = untouched c.args.self.now c.read_places.new.self c.args.missing.now c.args.block.now c.read_places.result is in
     record {
       rest = c.read_places.ensures.rest;
       reads = reads c.args.self.now c.read_places.new.self c.args.missing.now c.args.block.now c.read_places.result is;
-      untouched = untouched c.args.self.now c.read_places.new.self c.args.missing.now c.args.block.now c.read_places.result is;
+      untouched = λ disk held. away disk (Contains-append_left (outs c.args.self.now ++ c.args.missing.now) (missed c.args.self.now c.args.block.now.birth) disk held);
+      stale = λ disk held. away disk (Contains-append_right (outs c.args.self.now ++ c.args.missing.now) (missed c.args.self.now c.args.block.now.birth) disk held);
       keeps = keeps laws.kept laws.more_absent c.args.self.now c.read_places.new.self kept;
       stores = stores_same c.args.self.now c.read_places.new.self kept.spaces (keeps laws.kept laws.more_absent c.args.self.now c.read_places.new.self kept);
       plans = keeps_plans laws.kept laws.more_absent c.args.self.now c.read_places.new.self kept;

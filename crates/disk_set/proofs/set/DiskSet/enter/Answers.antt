@@ -6,7 +6,7 @@ use Rattle.disk_set.proofs.set.DiskSet.enter.Goals as goal
 
 pub invariant_of-self : goal.invariant_of-self
 invariant_of-self g c =
-    let spans : Spans = record { since = c.self.inside.since.items; group = c.self.inside.group } in
+    let spans : Spans = record { since = c.self.inside.since.items; group = c.self.inside.group; stale = c.self.inside.stale.items } in
     record {
       marks = c.self.invariant.marks;
       spans = ap length c.lower.ensures ∙ length_in spans c.args.group ∙ c.self.invariant.spans;

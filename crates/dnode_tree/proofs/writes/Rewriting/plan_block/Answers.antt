@@ -69,4 +69,6 @@ returns-clause-place g c =
 
 pub returns-in_err-planned-clause-caused : goal.returns-in_err-planned-clause-caused
 returns-in_err-planned-clause-caused g c =
-    λ missing. passed_on _ _ _ c.from_residual.ensures.1 (plan_is_caused c.args.store.now c.plan_write.new.self missing _ _ _ c.in_err-planned.ensures.refused)
+    λ missing. passed_on _ _ _ c.from_residual.ensures.1
+    (plan_is_caused c.args.store.now c.plan_write.new.self missing c.property_at.result c.at.result _
+    (subst FitsProperty (sym c.property_at.ensures) (property_fits c.args.self.node.now c.args.level c.requires.node c.requires.low)) c.in_err-planned.ensures.refused)

@@ -2,6 +2,7 @@ use Rattle.std.proofs.Common.{◌≡◌, [], Some, None, refl, sym, ap, ◌∙�
 use Rattle.std.specs.Prelude.{IsTrue}
 use Rattle.model_disk.specs.Joint.{Disks}
 use Rattle.block_store.specs.Places.{filled, planned}
+use Rattle.block_store.specs.Store.{Spans}
 use Rattle.pool_commit.proofs.Holding.{marks_then}
 use Rattle.pool_commit.proofs.Labels.{labels_still}
 use Rattle.pool_commit.proofs.Progressing.{no_length}
@@ -17,6 +18,7 @@ returns g c =
       record {
         disks = c.drop_plan.ensures.disks ∙ c.finish_plan.ensures.disks;
         out = c.drop_plan.ensures.out ∙ c.finish_plan.ensures.out;
+        stale = ap (λ (s : Spans). s.stale) c.drop_plan.ensures.spans ∙ ap (λ (s : Spans). s.stale) c.finish_plan.ensures.spans;
         shapes = c.drop_plan.ensures.shapes ∙ c.finish_plan.ensures.shapes;
         filled_by = marks_then c.args.self.now.store.spaces c.finish_plan.new.self.spaces c.drop_plan.new.self.spaces planned filled filled
             c.finish_plan.ensures.shapes c.finish_plan.ensures.filled c.drop_plan.ensures.filled;

@@ -1,5 +1,6 @@
 use Rattle.std.proofs.Common.{rules, ◌≡◌, ℕ, List, Some, length, ap, inl, inr, refl, sym, ◌∙◌, subst, arith}
 use Rattle.model_disk.specs.Joint.{Disks}
+use Rattle.block_store.specs.Store.{Spans}
 use Rattle.pool_commit.specs.declared.kept.Planned.{Planned}
 use Rattle.pool_commit.specs.HasDisks.{HasDisks, IsPlannedOn}
 use Rattle.pool_commit.proofs.GoingOut.{there_still}
@@ -26,6 +27,7 @@ returns-then-due_count-gt0 g c = inl (
   record {
     disks = c.drop_plan.ensures.disks;
     out = c.drop_plan.ensures.out;
+    stale = ap (λ (s : Spans). s.stale) c.drop_plan.ensures.spans;
     shapes = c.drop_plan.ensures.shapes;
     filled_by = c.drop_plan.ensures.filled;
     plans = λ stored planned plans. c.drop_plan.ensures.plans stored (record { held = plans.held; placed = plans.stored_placed });

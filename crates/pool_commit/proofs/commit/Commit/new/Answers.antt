@@ -11,7 +11,7 @@ use Rattle.pool_commit.proofs.commit.Commit.new.Goals as goal
 
 pub returns-clause-backs : goal.returns-clause-backs
 returns-clause-backs g c =
-    starts c.in-Ok.store c.new-3.result c.in_ok-stamp.stamp c.args.vdevs.now c.in-Ok.ensures.shapes c.in-Ok.ensures.out c.in-Ok.ensures.plans c.in-Ok.ensures.empty (record {
+    starts c.in-Ok.store c.new-3.result c.in_ok-stamp.stamp c.args.vdevs.now c.in-Ok.ensures.shapes c.in-Ok.ensures.out c.in-Ok.ensures.stale c.in-Ok.ensures.plans c.in-Ok.ensures.empty (record {
       committed = c.new-3.ensures.committed;
       root = ap (λ (kept : KeptGroup). kept.root) c.new-3.ensures.last;
       directory = ap (λ (kept : KeptGroup). kept.directory.value) c.new-3.ensures.last ∙ c.in_ok-no_directory.ensures;

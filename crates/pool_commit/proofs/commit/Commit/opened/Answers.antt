@@ -2,14 +2,12 @@ use Rattle.std.proofs.Common.{◌∙◌, Bool, List, ap, inl, inr, refl, subst, 
 use Rattle.block_pointer.specs.declared.block.Block.{Block}
 use Rattle.block_store.specs.Opened.{CannotTakeIn}
 use Rattle.block_store.specs.Releases.{copies_of_all}
-use Rattle.block_store.specs.Store.{Store}
+use Rattle.block_store.specs.Store.{Spans, Store}
 use Rattle.model_disk.specs.Joint.{Disks}
 use Rattle.dataset_snapshots.proofs.MapsOpened.{empty_is_free}
 use Rattle.pool_commit.specs.Causes.{of_store}
-use Rattle.pool_commit.specs.Spans.{HasSpansOpened}
-use Rattle.pool_commit.specs.declared.kept.KeptGroup.{KeptGroup}
 use Rattle.pool_commit.proofs.Labels.{labels_still}
-use Rattle.pool_commit.proofs.Reopened.{AreTaken, backs_opened}
+use Rattle.pool_commit.proofs.Reopened.{AreTaken, backs_opened, no_spans}
 use Rattle.pool_commit.proofs.commit.Commit.opened.Goals as goal
 
 pub of_group-requires-clause-labels : goal.of_group-requires-clause-labels
@@ -28,6 +26,7 @@ returns-in-Ok-group_of-clause-backs g c stored pool =
       released = loads.released;
       loaded = loads.value;
       out = taken.out;
+      stale = ap (λ (s : Spans). s.stale) taken.spans;
       shapes = taken.shapes;
       fills = taken.filled;
       fills_planned = taken.planned;
@@ -37,7 +36,7 @@ returns-in-Ok-group_of-clause-backs g c stored pool =
     let of_blocks : AreTaken c.args.store c.load_maps.new.store c.take_in.new.self c.args.contents.maps.items c.args.contents.blocks.items =
     subst (λ (blocks : List Block). AreTaken c.args.store c.load_maps.new.store c.take_in.new.self c.args.contents.maps.items blocks) c.deref.ensures.value of_slice in
     backs_opened c.found_in_use_are_stored.ensures c.args.store c.load_maps.new.store c.take_in.new.self c.args.stamp c.args.group c.args.root c.args.contents
-    c.in-Ok-group_of.last _ of_blocks c.args.config.value c.in-Ok-group_of.ensures.is c.in-Ok-group_of.ensures.table c.of_group.ensures c.requires.plans c.requires.empty stored pool
+    c.in-Ok-group_of.last _ of_blocks c.args.known.config.value c.in-Ok-group_of.ensures.is c.in-Ok-group_of.ensures.table c.of_group.ensures c.requires.plans c.requires.empty stored pool
 
 pub returns-then-not-load_maps-clause-refused : goal.returns-then-not-load_maps-clause-refused
 returns-then-not-load_maps-clause-refused g c =
@@ -58,8 +57,7 @@ returns-in-Err-clause-refused g c =
       )
     ]
 
-pub returns-in-Ok-group_of-clause-spans : goal.returns-in-Ok-group_of-clause-spans
-returns-in-Ok-group_of-clause-spans g c =
-    subst (λ (last : KeptGroup). HasSpansOpened c.args.store.out c.args.group last) (sym c.of_group.ensures.last_is)
-    (subst (λ (out : List Bool). HasSpansOpened out c.args.group c.in-Ok-group_of.last)
-    (c.deref-2.ensures.value ∙ c.in-Ok-marks_of.ensures ∙ c.in-Ok.ensures.out ∙ ap (λ (s : Store). s.out) c.if-not-load_maps.ensures.loads.rest) c.in-Ok-group_of.ensures.spans)
+pub returns-in-Ok-group_of-clause-untouched : goal.returns-in-Ok-group_of-clause-untouched
+returns-in-Ok-group_of-clause-untouched g c table known =
+    no_spans c.take_in.new.self c.args.stamp c.args.group c.in-Ok-group_of.last _ c.of_group.ensures
+    (record { table = c.in-Ok-group_of.ensures.table ∙ table; known = c.in-Ok-group_of.ensures.spans ∙ known })

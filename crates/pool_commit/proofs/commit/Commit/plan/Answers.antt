@@ -28,7 +28,7 @@ use Rattle.pool_commit.proofs.Suspending.{still}
 use Rattle.pool_commit.proofs.Unread.{lost_for_plan}
 use Rattle.block_store.proofs.Planning.{marks_by_map}
 use Rattle.block_store.specs.Places.{filled as filled_marks}
-use Rattle.block_store.specs.Store.{Store}
+use Rattle.block_store.specs.Store.{Spans, Store}
 use Rattle.block_store.specs.Steps.{OnlyReadsAndPlans}
 use Rattle.block_store.specs.Places.{shapes_of}
 use Rattle.block_store.specs.Store.{is_out}
@@ -44,42 +44,42 @@ pub returns-in_err-begin_plan-clause-unplanned : goal.returns-in_err-begin_plan-
 returns-in_err-begin_plan-clause-unplanned g c = at_error c.from_residual.result _ (λ v backs none.
     unplanned_still (record { store = c.begin_plan.new.self; kept = c.args.self.now.kept; planned = None; stamp = c.args.self.now.stamp }) c.args.self.now.planned v c.requires.unplanned
     (backs_begun (state_of c.args.self.now) c.begin_plan.new.self c.saturating_add-group.result v c.begin_plan.ensures.out c.begin_plan.ensures.shapes
-    (record { free = c.begin_plan.ensures.free; stays = c.begin_plan.ensures.stays; plans = c.begin_plan.ensures.plans; some = c.begin_plan.ensures.some })
+    (record { free = c.begin_plan.ensures.free; stays = c.begin_plan.ensures.stays; plans = c.begin_plan.ensures.plans; some = c.begin_plan.ensures.some; stale = ap (λ (s : Spans). s.stale) c.begin_plan.ensures.spans })
     (let same = c.committed.ensures in omega arith) v.sync none backs))
 
 pub returns-in_err-begin_plan-clause-dropped : goal.returns-in_err-begin_plan-clause-dropped
 returns-in_err-begin_plan-clause-dropped g c = at_error c.from_residual.result _ (λ v backs.
     unplanned_still (record { store = c.begin_plan.new.self; kept = c.args.self.now.kept; planned = None; stamp = c.args.self.now.stamp }) c.args.self.now.planned (record v { sync = Unplanned }) c.requires.unplanned
     (backs_begun (state_of c.args.self.now) c.begin_plan.new.self c.saturating_add-group.result v c.begin_plan.ensures.out c.begin_plan.ensures.shapes
-    (record { free = c.begin_plan.ensures.free; stays = c.begin_plan.ensures.stays; plans = c.begin_plan.ensures.plans; some = c.begin_plan.ensures.some })
+    (record { free = c.begin_plan.ensures.free; stays = c.begin_plan.ensures.stays; plans = c.begin_plan.ensures.plans; some = c.begin_plan.ensures.some; stale = ap (λ (s : Spans). s.stale) c.begin_plan.ensures.spans })
     (let same = c.committed.ensures in omega arith) Unplanned refl backs))
 
 pub returns-in_err-behind-clause-unplanned : goal.returns-in_err-behind-clause-unplanned
 returns-in_err-behind-clause-unplanned g c = at_error c.from_residual-in_err-behind.result _ (λ v backs none.
     unplanned_still (record { store = c.begin_plan.new.self; kept = c.args.self.now.kept; planned = None; stamp = c.args.self.now.stamp }) c.args.self.now.planned v c.requires.unplanned
     (backs_begun (state_of c.args.self.now) c.begin_plan.new.self c.saturating_add-group.result v c.begin_plan.ensures.out c.begin_plan.ensures.shapes
-    (record { free = c.begin_plan.ensures.free; stays = c.begin_plan.ensures.stays; plans = c.begin_plan.ensures.plans; some = c.begin_plan.ensures.some })
+    (record { free = c.begin_plan.ensures.free; stays = c.begin_plan.ensures.stays; plans = c.begin_plan.ensures.plans; some = c.begin_plan.ensures.some; stale = ap (λ (s : Spans). s.stale) c.begin_plan.ensures.spans })
     (let same = c.committed.ensures in omega arith) v.sync none backs))
 
 pub returns-in_err-behind-clause-dropped : goal.returns-in_err-behind-clause-dropped
 returns-in_err-behind-clause-dropped g c = at_error c.from_residual-in_err-behind.result _ (λ v backs.
     unplanned_still (record { store = c.begin_plan.new.self; kept = c.args.self.now.kept; planned = None; stamp = c.args.self.now.stamp }) c.args.self.now.planned (record v { sync = Unplanned }) c.requires.unplanned
     (backs_begun (state_of c.args.self.now) c.begin_plan.new.self c.saturating_add-group.result v c.begin_plan.ensures.out c.begin_plan.ensures.shapes
-    (record { free = c.begin_plan.ensures.free; stays = c.begin_plan.ensures.stays; plans = c.begin_plan.ensures.plans; some = c.begin_plan.ensures.some })
+    (record { free = c.begin_plan.ensures.free; stays = c.begin_plan.ensures.stays; plans = c.begin_plan.ensures.plans; some = c.begin_plan.ensures.some; stale = ap (λ (s : Spans). s.stale) c.begin_plan.ensures.spans })
     (let same = c.committed.ensures in omega arith) Unplanned refl backs))
 
 pub returns-then-not-makes_good_volumes-clause-unplanned : goal.returns-then-not-makes_good_volumes-clause-unplanned
 returns-then-not-makes_good_volumes-clause-unplanned g c = λ v backs none.
     unplanned_still (record { store = c.begin_plan.new.self; kept = c.args.self.now.kept; planned = None; stamp = c.args.self.now.stamp }) c.args.self.now.planned v c.requires.unplanned
     (backs_begun (state_of c.args.self.now) c.begin_plan.new.self c.saturating_add-group.result v c.begin_plan.ensures.out c.begin_plan.ensures.shapes
-    (record { free = c.begin_plan.ensures.free; stays = c.begin_plan.ensures.stays; plans = c.begin_plan.ensures.plans; some = c.begin_plan.ensures.some })
+    (record { free = c.begin_plan.ensures.free; stays = c.begin_plan.ensures.stays; plans = c.begin_plan.ensures.plans; some = c.begin_plan.ensures.some; stale = ap (λ (s : Spans). s.stale) c.begin_plan.ensures.spans })
     (let same = c.committed.ensures in omega arith) v.sync none backs)
 
 pub returns-then-not-makes_good_volumes-clause-dropped : goal.returns-then-not-makes_good_volumes-clause-dropped
 returns-then-not-makes_good_volumes-clause-dropped g c = λ v backs.
     unplanned_still (record { store = c.begin_plan.new.self; kept = c.args.self.now.kept; planned = None; stamp = c.args.self.now.stamp }) c.args.self.now.planned (record v { sync = Unplanned }) c.requires.unplanned
     (backs_begun (state_of c.args.self.now) c.begin_plan.new.self c.saturating_add-group.result v c.begin_plan.ensures.out c.begin_plan.ensures.shapes
-    (record { free = c.begin_plan.ensures.free; stays = c.begin_plan.ensures.stays; plans = c.begin_plan.ensures.plans; some = c.begin_plan.ensures.some })
+    (record { free = c.begin_plan.ensures.free; stays = c.begin_plan.ensures.stays; plans = c.begin_plan.ensures.plans; some = c.begin_plan.ensures.some; stale = ap (λ (s : Spans). s.stale) c.begin_plan.ensures.spans })
     (let same = c.committed.ensures in omega arith) Unplanned refl backs)
 
 pub returns-then-is_err-clause-untouched : goal.returns-then-is_err-clause-untouched
@@ -90,20 +90,20 @@ returns-then-is_err-clause-untouched g c =
 pub returns-then-is_err-clause-unplanned : goal.returns-then-is_err-clause-unplanned
 returns-then-is_err-clause-unplanned g c = λ v backs none.
     let begun = backs_begun (state_of c.args.self.now) c.begin_plan.new.self c.saturating_add-group.result v c.begin_plan.ensures.out c.begin_plan.ensures.shapes
-    (record { free = c.begin_plan.ensures.free; stays = c.begin_plan.ensures.stays; plans = c.begin_plan.ensures.plans; some = c.begin_plan.ensures.some })
+    (record { free = c.begin_plan.ensures.free; stays = c.begin_plan.ensures.stays; plans = c.begin_plan.ensures.plans; some = c.begin_plan.ensures.some; stale = ap (λ (s : Spans). s.stale) c.begin_plan.ensures.spans })
     (let same = c.committed.ensures in omega arith) v.sync none backs in
     unplanned_still (record { store = c.drop_plan.new.self; kept = c.args.self.now.kept; planned = None; stamp = c.args.self.now.stamp }) c.args.self.now.planned v c.requires.unplanned
     (backs_dropped (record { store = c.begin_plan.new.self; kept = c.args.self.now.kept; planned = None; stamp = c.args.self.now.stamp }) c.group_after.new.store c.give_back.new.store c.drop_plan.new.self c.deref.result.now c.saturating_add-group.result v refl c.in-Ok.ensures.steps
-    c.give_back.ensures.gives c.drop_plan.ensures.out c.drop_plan.ensures.shapes c.drop_plan.ensures.filled c.drop_plan.ensures.plans begun)
+    c.give_back.ensures.gives c.drop_plan.ensures.out (ap (λ (s : Spans). s.stale) c.drop_plan.ensures.spans) c.drop_plan.ensures.shapes c.drop_plan.ensures.filled c.drop_plan.ensures.plans begun)
 
 pub returns-then-is_err-clause-dropped : goal.returns-then-is_err-clause-dropped
 returns-then-is_err-clause-dropped g c = λ v backs.
     let begun = backs_begun (state_of c.args.self.now) c.begin_plan.new.self c.saturating_add-group.result v c.begin_plan.ensures.out c.begin_plan.ensures.shapes
-    (record { free = c.begin_plan.ensures.free; stays = c.begin_plan.ensures.stays; plans = c.begin_plan.ensures.plans; some = c.begin_plan.ensures.some })
+    (record { free = c.begin_plan.ensures.free; stays = c.begin_plan.ensures.stays; plans = c.begin_plan.ensures.plans; some = c.begin_plan.ensures.some; stale = ap (λ (s : Spans). s.stale) c.begin_plan.ensures.spans })
     (let same = c.committed.ensures in omega arith) Unplanned refl backs in
     unplanned_still (record { store = c.drop_plan.new.self; kept = c.args.self.now.kept; planned = None; stamp = c.args.self.now.stamp }) c.args.self.now.planned (record v { sync = Unplanned }) c.requires.unplanned
     (backs_dropped (record { store = c.begin_plan.new.self; kept = c.args.self.now.kept; planned = None; stamp = c.args.self.now.stamp }) c.group_after.new.store c.give_back.new.store c.drop_plan.new.self c.deref.result.now c.saturating_add-group.result (record v { sync = Unplanned }) refl
-    c.in-Ok.ensures.steps c.give_back.ensures.gives c.drop_plan.ensures.out c.drop_plan.ensures.shapes c.drop_plan.ensures.filled c.drop_plan.ensures.plans begun)
+    c.in-Ok.ensures.steps c.give_back.ensures.gives c.drop_plan.ensures.out (ap (λ (s : Spans). s.stale) c.drop_plan.ensures.spans) c.drop_plan.ensures.shapes c.drop_plan.ensures.filled c.drop_plan.ensures.plans begun)
 
 -- the disks of the plan are there
 planned_there : (count now : ℕ) (plan : Planned) → now ≡ count → AreDueOn count plan.behind → HasSpelling plan.uberblock → HasDisks now (Some plan)
@@ -136,7 +136,7 @@ returns-else-is_err-clause-untouched g c =
 pub returns-else-is_err-clause-planned : goal.returns-else-is_err-clause-planned
 returns-else-is_err-clause-planned g c = λ v backs none few items effects honest.
     let begins : Begins c.args.self.now.store c.begin_plan.new.self c.saturating_add-group.result =
-    record { free = c.begin_plan.ensures.free; stays = c.begin_plan.ensures.stays; plans = c.begin_plan.ensures.plans; some = c.begin_plan.ensures.some } in
+    record { free = c.begin_plan.ensures.free; stays = c.begin_plan.ensures.stays; plans = c.begin_plan.ensures.plans; some = c.begin_plan.ensures.some; stale = ap (λ (s : Spans). s.stale) c.begin_plan.ensures.spans } in
     let below : c.saturating_add-group.result ≤ suc c.args.self.now.kept.committed = let same = c.committed.ensures in omega arith in
     let begun = backs_begun (state_of c.args.self.now) c.begin_plan.new.self c.saturating_add-group.result v c.begin_plan.ensures.out c.begin_plan.ensures.shapes begins below v.sync none backs in
     let s : State = record { store = c.begin_plan.new.self; kept = c.args.self.now.kept; planned = None; stamp = c.args.self.now.stamp } in
@@ -159,7 +159,7 @@ returns-else-is_err-clause-planned g c = λ v backs none few items effects hones
 pub returns-in-Err-clause-unplanned : goal.returns-in-Err-clause-unplanned
 returns-in-Err-clause-unplanned g c = λ v backs none.
     let begun = backs_begun (state_of c.args.self.now) c.begin_plan.new.self c.saturating_add-group.result v c.begin_plan.ensures.out c.begin_plan.ensures.shapes
-    (record { free = c.begin_plan.ensures.free; stays = c.begin_plan.ensures.stays; plans = c.begin_plan.ensures.plans; some = c.begin_plan.ensures.some })
+    (record { free = c.begin_plan.ensures.free; stays = c.begin_plan.ensures.stays; plans = c.begin_plan.ensures.plans; some = c.begin_plan.ensures.some; stale = ap (λ (s : Spans). s.stale) c.begin_plan.ensures.spans })
     (let same = c.committed.ensures in omega arith) v.sync none backs in
     let s : State = record { store = c.begin_plan.new.self; kept = c.args.self.now.kept; planned = None; stamp = c.args.self.now.stamp } in
     unplanned_still (record s { store = c.group_after.new.store }) c.args.self.now.planned v c.requires.unplanned (backs_still s c.group_after.new.store v refl c.in-Err.ensures.steps begun)
@@ -167,7 +167,7 @@ returns-in-Err-clause-unplanned g c = λ v backs none.
 pub returns-in-Err-clause-dropped : goal.returns-in-Err-clause-dropped
 returns-in-Err-clause-dropped g c = λ v backs.
     let begun = backs_begun (state_of c.args.self.now) c.begin_plan.new.self c.saturating_add-group.result v c.begin_plan.ensures.out c.begin_plan.ensures.shapes
-    (record { free = c.begin_plan.ensures.free; stays = c.begin_plan.ensures.stays; plans = c.begin_plan.ensures.plans; some = c.begin_plan.ensures.some })
+    (record { free = c.begin_plan.ensures.free; stays = c.begin_plan.ensures.stays; plans = c.begin_plan.ensures.plans; some = c.begin_plan.ensures.some; stale = ap (λ (s : Spans). s.stale) c.begin_plan.ensures.spans })
     (let same = c.committed.ensures in omega arith) Unplanned refl backs in
     let s : State = record { store = c.begin_plan.new.self; kept = c.args.self.now.kept; planned = None; stamp = c.args.self.now.stamp } in
     unplanned_still (record s { store = c.group_after.new.store }) c.args.self.now.planned (record v { sync = Unplanned }) c.requires.unplanned
@@ -181,8 +181,8 @@ returns-in-Err-clause-untouched g c =
 refused : (g : given.Over) (c : goal.After-drop-behind-in-Err-3 g) → IsPlanRefused (state_of c.args.self.now) c.group_after.new.store c.args.items.now c.in-Err.refusal
 refused g c = record {
   begun = c.begin_plan.new.self;
-  is_begun = is_begun c.args.self.now.store c.begin_plan.new.self c.saturating_add-group.result c.begin_plan.ensures.disks c.begin_plan.ensures.out c.begin_plan.ensures.shapes
-      c.in_ok-begin_plan.ensures.settled c.begin_plan.ensures.free;
+  is_begun = is_begun c.args.self.now.store c.begin_plan.new.self c.saturating_add-group.result c.begin_plan.ensures.disks c.begin_plan.ensures.out
+      (ap (λ (s : Spans). s.stale) c.begin_plan.ensures.spans) c.begin_plan.ensures.shapes c.in_ok-begin_plan.ensures.settled c.begin_plan.ensures.free;
   group = c.saturating_add-group.result;
   is_next = λ few. let same = c.committed.ensures in omega arith;
   why = subst (λ (kept : KeptGroup). IsGroupRefusedBehind c.begin_plan.new.self c.group_after.new.store kept c.saturating_add-group.result c.args.items.now c.in-Err.refusal)
@@ -202,7 +202,7 @@ pub returns-in-Err-clause-refused : goal.returns-in-Err-clause-refused
 unfolding refused
 returns-in-Err-clause-refused g c = λ v backs none few items good effects.
     let begun = backs_begun (state_of c.args.self.now) c.begin_plan.new.self c.saturating_add-group.result v c.begin_plan.ensures.out c.begin_plan.ensures.shapes
-    (record { free = c.begin_plan.ensures.free; stays = c.begin_plan.ensures.stays; plans = c.begin_plan.ensures.plans; some = c.begin_plan.ensures.some })
+    (record { free = c.begin_plan.ensures.free; stays = c.begin_plan.ensures.stays; plans = c.begin_plan.ensures.plans; some = c.begin_plan.ensures.some; stale = ap (λ (s : Spans). s.stale) c.begin_plan.ensures.spans })
     (let same = c.committed.ensures in omega arith) v.sync none backs in
     let s : State = record { store = c.begin_plan.new.self; kept = c.args.self.now.kept; planned = None; stamp = c.args.self.now.stamp } in
     let new : State = record { store = c.group_after.new.store; kept = c.args.self.now.kept; planned = c.args.self.now.planned; stamp = c.args.self.now.stamp } in

@@ -10,7 +10,7 @@ use Rattle.pool_commit.specs.Progress.{with_plan}
 use Rattle.pool_commit.specs.State.{State}
 use Rattle.pool_commit.specs.StateOf.{state_of}
 use Rattle.pool_commit.proofs.GoingOut.{leaves_backs, leaves_takes, unplanned_backs}
-use Rattle.pool_commit.proofs.Made.{GrewTo-none}
+use Rattle.pool_commit.proofs.Made.{GrewTo-none, gone_stale}
 use Rattle.pool_commit.proofs.commit.Commit.take_out.Goals as goal
 
 with_it : (s : State) (plan : Planned) (v : View) → Some plan ≡ s.planned → Backs s v → Backs (record s { planned = Some plan }) v
@@ -32,6 +32,7 @@ returns-in-Some-clause-backs g c v backs =
     (record {
       spaces = c.put_out.ensures.spaces;
       grew = subst (λ (d : Disks). GrewTo c.args.self.now.store.disks d) (sym c.put_out.ensures.disks) (GrewTo-none c.args.self.now.store.disks);
+      stale = gone_stale c.args.self.now.store c.args.disk c.put_out.new.self c.put_out.ensures.gone;
       plans = c.put_out.ensures.plans;
     })
     c.put_out.ensures.disks c.put_out.ensures.due c.put_out.ensures.out
@@ -47,6 +48,7 @@ returns-in_default-clause-backs g c v backs =
     (record {
       spaces = c.put_out.ensures.spaces;
       grew = subst (λ (d : Disks). GrewTo c.args.self.now.store.disks d) (sym c.put_out.ensures.disks) (GrewTo-none c.args.self.now.store.disks);
+      stale = gone_stale c.args.self.now.store c.args.disk c.put_out.new.self c.put_out.ensures.gone;
       plans = c.put_out.ensures.plans;
     })
     c.put_out.ensures.out)
