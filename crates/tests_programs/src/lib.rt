@@ -3,6 +3,8 @@
 #![tactic(auto)]
 
 #[cfg(test)]
+mod away;
+#[cfg(test)]
 mod programs_tests;
 #[cfg(test)]
 mod random_schedules;

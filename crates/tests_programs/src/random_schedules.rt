@@ -54,12 +54,12 @@ const BLOCK_SIZES: [u64; 6] = [512, 1024, 512, 1024, 768, 256];
 
 /// A linear congruential generator.
 #[derive(Drop)]
-struct Dice {
-    state: u64,
+pub(crate) struct Dice {
+    pub(crate) state: u64,
 }
 
 impl Dice {
-    fn below(&mut self, bound: u64) -> u64
+    pub(crate) fn below(&mut self, bound: u64) -> u64
         requires { 0 < bound }
         ensures { result < bound }
     {

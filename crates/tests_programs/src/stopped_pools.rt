@@ -232,7 +232,7 @@ fn claims_are_stopped_and_groups_gone_back(rt: HostRuntime) -> Result<(), Fail> 
 fn workers_plan_what_one_thread_plans(rt: HostRuntime) -> Result<(), Fail> {
     for workers in [1, 2, 4] {
         let planner = Workers::new(&rt, workers);
-        for schedules in [&STOPPED_COMMITS, &STOPPED_CLAIMS] {
+        for schedules in [&STOPPED_COMMITS[..], &STOPPED_CLAIMS[..]] {
             let others = planned_otherwise::<PoolOnDisks, _>(&planner, rt.alloc(), schedules);
             expect_none(&rt, others)?;
         }
