@@ -36,7 +36,7 @@ struct Life {
 impl Life {
     fn new(alloc: Global, seed: u64) -> Result<Life, Fail> {
         let mut dice = Dice { state: seed };
-        let first = dice.below(4);
+        let first = dice.below(3);
         let second = first.saturating_add(1);
         let mut rows = String::new(alloc);
         rows.push_str(FIRST_ROWS)?;
@@ -178,7 +178,7 @@ fn lived_otherwise(alloc: Global, seed: u64) -> Result<String, Fail> {
 
 #[test]
 fn reads_are_right_while_two_disks_come_and_go(rt: HostRuntime) -> Result<(), Fail> {
-    for seed in 1..25 {
+    for seed in 1..61 {
         expect_none(&rt, lived_otherwise(rt.alloc(), seed))?;
     }
     Ok(())
