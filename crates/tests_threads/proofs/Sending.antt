@@ -14,6 +14,7 @@ use Rattle.model_disk.specs.contracts.memory.MemDiskDisk.TheImpl.{ghosts as memo
 use Rattle.model_disk.specs.contracts.fault.FaultDiskDisk.TheImpl.{ghosts as fault_ghosts}
 use Rattle.disk_set.specs.contracts.set.DiskSet.TheInside as set
 use Rattle.disk_set.specs.contracts.set.DiskSet.{the_row as set_row}
+use Rattle.disk_set.proofs.stale.GroupSpan.TheSendSync as groups
 use Rattle.block_store.specs.contracts.store.BlockStore.TheInside as store
 use Rattle.block_store.specs.contracts.store.BlockStore.{the_row as store_row}
 use Rattle.block_store.proofs.space.VdevMetaslabs.TheSendSync as metaslabs
@@ -35,7 +36,8 @@ array_goes D g d = search (sendable, inside_array)
 inside_set : (D : RattleType) (g : Ghosts D.Denot) → IsSend D → IsSend (set.the_row D g)
 inside_set D g d =
     row_send (set.the_field D g).row _ _ (set.the_type D g).to_one
-    (struct_send (shape (set.the_type D g)) (array_goes D g d, (search (sendable, Vec-send) depth 16, (search (sendable, Vec-send) depth 16, (search sendable, (search (sendable, writes.the_send, Deque-send, Vec-send) depth 20, tt))))))
+    (struct_send (shape (set.the_type D g)) (array_goes D g d, (search (sendable, Vec-send) depth 16, (search (sendable, Vec-send) depth 16, (search sendable, (search (sendable, groups.the_send, Vec-send) depth 20,
+    (search (sendable, writes.the_send, Deque-send, Vec-send) depth 20, tt)))))))
 
 set_goes : (D : RattleType) (g : Ghosts D.Denot) → IsSend D → IsSend (set_row D g)
 set_goes D g d = search (sendable, inside_set)
