@@ -36,8 +36,22 @@ array_goes D g d = search (sendable, inside_array)
 inside_set : (D : RattleType) (g : Ghosts D.Denot) → IsSend D → IsSend (set.the_row D g)
 inside_set D g d =
     row_send (set.the_field D g).row _ _ (set.the_type D g).to_one
-    (struct_send (shape (set.the_type D g)) (array_goes D g d, (search (sendable, Vec-send) depth 16, (search (sendable, Vec-send) depth 16, (search sendable, (search (sendable, groups.the_send, Vec-send) depth 20,
-    (search (sendable, writes.the_send, Deque-send, Vec-send) depth 20, tt)))))))
+    (struct_send (shape (set.the_type D g)) (
+      array_goes D g d,
+      (
+        search (sendable, Vec-send) depth 16,
+        (
+          search (sendable, Vec-send) depth 16,
+          (
+            search sendable,
+            (
+              search (sendable, groups.the_send, Vec-send) depth 20,
+              (search (sendable, writes.the_send, Deque-send, Vec-send) depth 20, tt),
+            ),
+          ),
+        ),
+      ),
+    ))
 
 set_goes : (D : RattleType) (g : Ghosts D.Denot) → IsSend D → IsSend (set_row D g)
 set_goes D g d = search (sendable, inside_set)
