@@ -159,8 +159,9 @@ impl<D: Disk + Drop> BlockStore<D> {
         }
     }
 
-    /// Of each disk, from the first on, the transaction groups that it missed, if any: of blocks that were born in them none of its columns
-    /// is read from then on. Disks behind the last one missed none. It takes the place of what was said before.
+    /// Of each disk, from the first on, the transaction groups that it missed, if any: of blocks that were born in them
+    /// none of its columns is read from then on. Disks behind the last one missed none. It takes the place of what was
+    /// said before.
     pub fn mark_stale(&mut self, stale: Vec<Option<GroupSpan>>)
         ensures marked { self.new ≡ record self.old {
           spans = record self.old.spans { stale = stale.items };

@@ -9,6 +9,7 @@ use Rattle.block_store.specs.Places.{shapes_of}
 use Rattle.block_store.specs.Store.{is_out}
 use Rattle.block_store.specs.declared.shape.VdevShape.{VdevShape}
 use Rattle.uberblock_ring.specs.declared.uberblock.Uberblock.{Uberblock}
+use Rattle.stale_disks.specs.Rules.{guids_in}
 use Rattle.vdev_label.specs.Limits.{IsAllowed, IsAllowedVdev}
 use Rattle.vdev_label.specs.Plain.{PlainVdev, config_view}
 use Rattle.vdev_label.specs.declared.label.Config.{Config}
@@ -235,10 +236,11 @@ module _ {D : Type 0} (g : disk.Ghosts D) (laws : Laws g) (pool : PoolIdentity) 
   kept_refused : (disks back : List D) (rewind : ℕ) (refusal : Refusal) → (it : IsUnopened g disks rewind back refusal) → AnswerTruly it.array it.new
       → IsKeptThrough it.out rewind it.array it.new
   kept_refused disks back rewind refusal it truly =
-      let once = laws.refused_once it.array it.shapes it.out rewind it.new refusal it.refused truly.none_failed in
+      let guids = guids_in (config_view it.ordered.config) in
+      let once = laws.refused_once guids it.array it.shapes it.out rewind it.new refusal it.refused truly.none_failed in
       let may = laws.found disks rewind it.array it.shapes it.out it.ordered in
       subst (λ (them : List Bool). IsKeptThrough them rewind it.array it.new)
-      (none_went_out it.array it.shapes it.out rewind it.new refusal once may.flags truly.none_failed) once.kept
+      (none_went_out guids it.array it.shapes it.out rewind it.new refusal once may.flags truly.none_failed) once.kept
 
   stops_opening : (images left : List (List ℕ)) (p : _) (pools : Uberblock → _) (rewind : ℕ) → IsDown pool vdevs digest images p pools
       → IsOpenStopped g images rewind left → GoesOn pool vdevs digest (Resting p pools) (StopsOpening rewind) (Down left)

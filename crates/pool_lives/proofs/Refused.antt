@@ -58,9 +58,9 @@ surveyed_first old new out later it = record {
   calls = it.blocks.only.calls;
 }
 
-was_surveyed : (old : Disks) (shapes : List VdevShape) (out : List Bool) (rewind : ℕ) (new : Disks) (refusal : Refusal)
-    → (is : IsNotOpenedOver old shapes out rewind new refusal) → WasSurveyed old new out is.later
-was_surveyed old shapes out rewind new refusal is = ⊎_elim
+was_surveyed : (guids : List ℕ) (old : Disks) (shapes : List VdevShape) (out : List Bool) (rewind : ℕ) (new : Disks) (refusal : Refusal)
+    → (is : IsNotOpenedOver guids old shapes out rewind new refusal) → WasSurveyed old new out is.later
+was_surveyed guids old shapes out rewind new refusal is = ⊎_elim
     (λ (through, cause). surveyed_first old new out is.later through)
     (λ (claimed, through, gives, cause).
     let first = surveyed_first old through.read out is.later through.before in
@@ -73,10 +73,10 @@ was_surveyed old shapes out rewind new refusal is = ⊎_elim
     })
     is.cause
 
-pub none_went_out : (old : Disks) (shapes : List VdevShape) (out : List Bool) (rewind : ℕ) (new : Disks) (refusal : Refusal)
-    → (is : IsNotOpenedOver old shapes out rewind new refusal) → length out ≡ length old.starts → ((disk : ℕ) → ¬ HasFailedOn old new disk) → is.later ≡ out
-none_went_out old shapes out rewind new refusal is count none =
-    let it = was_surveyed old shapes out rewind new refusal is in
+pub none_went_out : (guids : List ℕ) (old : Disks) (shapes : List VdevShape) (out : List Bool) (rewind : ℕ) (new : Disks) (refusal : Refusal)
+    → (is : IsNotOpenedOver guids old shapes out rewind new refusal) → length out ≡ length old.starts → ((disk : ℕ) → ¬ HasFailedOn old new disk) → is.later ≡ out
+none_went_out guids old shapes out rewind new refusal is count none =
+    let it = was_surveyed guids old shapes out rewind new refusal is in
     same_use out is.later (is.count ∙ sym count) (λ which. it.absent.stay which) (λ which used. ⊎_elim
     (λ still. still)
     (λ unused. absurd (none which (subst (λ (calls : List JointCall). Contains (failed_since (length old.calls) calls) which) (sym it.calls)

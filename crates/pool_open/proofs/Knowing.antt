@@ -31,7 +31,7 @@ use Rattle.vdev_label.specs.declared.label.Config.{Config}
 use Rattle.pool_open.specs.Known.{IsKnownBy}
 use Rattle.pool_open.specs.declared.known.KnownRoot.{KnownRoot}
 use Rattle.pool_open.specs.Held.{HoldOver, IsStoreOver}
-use Rattle.pool_open.specs.Roots.{AreReadBeside, IsKnownRoot, IsReadOfRoot, IsRefusedAgain}
+use Rattle.pool_open.specs.Roots.{AreMissedBy, AreReadBeside, IsKnownRoot, IsReadOfRoot, IsRefusedAgain}
 use Rattle.pool_open.proofs.Holding.{held_on}
 use Rattle.pool_open.proofs.Through.{block_reads_made}
 
@@ -108,10 +108,10 @@ told_none old new shapes out group root contents read stored pool hold is none h
     are.spans ∙ empty_once (are.is.objects 3) are.is.stale (subst (λ (objects : ℕ → Option Object). HasStaleSpans (objects 3) []) same empty) are.is.spans
 
 -- so its root isn't refused once more
-pub never_again : (old new : Disks) (shapes : List VdevShape) (out : List Bool) (group : ℕ) (root : Block) (most : ℕ) (refusal : Refusal)
-    → IsRefusedAgain old new shapes out group root most refusal → (stored : Contents) (pool : PlainPool) → HoldOver old shapes out [] stored
+pub never_again : (guids : List ℕ) (old new : Disks) (shapes : List VdevShape) (out : List Bool) (group : ℕ) (root : Block) (most : ℕ) (refusal : Refusal)
+    → IsRefusedAgain guids old new shapes out group root most refusal → (stored : Contents) (pool : PlainPool) → HoldOver old shapes out [] stored
     → (is : SpellsPool stored group root pool) → is.stale ≡ [] → IsHonestSince old new → ⊥
-never_again old new shapes out group root most refusal again stored pool hold is none honest =
+never_again guids old new shapes out group root most refusal again stored pool hold is none honest =
     again.tells.some (told_none old again.mid shapes out group root again.first again.tells.read stored pool hold is none
     (first_honest old again.mid new again.after.only honest))
 
@@ -133,6 +133,24 @@ known_spans out group root config table same table_is spans stale = record {
 -- no spans come of a table without rows
 none_opened : (guids : List ℕ) (out : List Bool) (group : ℕ) → AreSpansOpened guids out group [] []
 none_opened guids out group span = (λ held. absurd (omega (arith, held.1)), λ it. absurd (omega (arith, it.1.1)))
+
+-- so the groups that disks missed are those of its table
+pub missed_by : (out : List Bool) (group : ℕ) (root : KnownRoot) (config : Config) → root.disks.config.value ≡ config → IsKnownBy out group root
+    → AreMissedBy (guids_in (config_view config)) out group root.contents.spans root.stale.items
+missed_by out group root config same known =
+    subst (λ (c : Config). AreMissedBy (guids_in (config_view c)) out group root.contents.spans root.stale.items) same
+    (record { spans = root.disks.spans; opened = known.spans; same = known.stale })
+
+-- of another configuration that is the same
+pub missed_of : (out : List Bool) (group : ℕ) (table spans : List StaleSpan) (stale others : List (Option GroupSpan)) (config other : Config) → config ≡ other → others ≡ stale
+    → AreSpansOpened (guids_in (config_view config)) out group table spans → stale ≡ stale_groups spans (guids_in (config_view config))
+    → AreMissedBy (guids_in (config_view other)) out group table others
+missed_of out group table spans stale others config other same again opened is =
+    subst (λ (c : Config). AreMissedBy (guids_in (config_view c)) out group table others) same (record {
+      spans = spans;
+      opened = opened;
+      same = λ disk birth. ap (λ (them : List (Option GroupSpan)). is_stale them disk birth) (again ∙ is);
+    })
 
 -- where the table has no rows none is known, and no disk missed a group
 pub known_none : (out : List Bool) (group : ℕ) (root : KnownRoot) → root.contents.spans ≡ [] → root.disks.spans ≡ [] → root.stale.items ≡ [] → IsKnownBy out group root

@@ -73,14 +73,14 @@ pub opened_first : (old : Disks) (shapes : List VdevShape) (out : List Bool) (re
     → IsOpenedAtLast old shapes out rewind claimed core
 opened_first old shapes out rewind claimed core is = record { claims = 0; mid = old; left = out; failed = (refl, refl); last = is }
 
-pub refused_first : (old : Disks) (shapes : List VdevShape) (out : List Bool) (rewind : ℕ) (new : Disks) (refusal : Refusal) → IsNotOpenedOver old shapes out rewind new refusal
-    → IsNotOpenedAtLast old shapes out rewind new refusal
-refused_first old shapes out rewind new refusal is = record { claims = 0; mid = old; left = out; failed = (refl, refl); why = inl is }
+pub refused_first : (guids : List ℕ) (old : Disks) (shapes : List VdevShape) (out : List Bool) (rewind : ℕ) (new : Disks) (refusal : Refusal) → IsNotOpenedOver guids old shapes out rewind new refusal
+    → IsNotOpenedAtLast guids old shapes out rewind new refusal
+refused_first guids old shapes out rewind new refusal is = record { claims = 0; mid = old; left = out; failed = (refl, refl); why = inl is }
 
 -- no other attempt is made where too few disks are left
-pub refused_with_few : (old : Disks) (shapes : List VdevShape) (out : List Bool) (rewind : ℕ) (next : Disks) (fewer : List Bool) → IsFailedClaim old shapes out rewind next fewer
-    → is_tolerable (vdevs_in shapes) (is_out fewer) ≡ false → IsNotOpenedAtLast old shapes out rewind next TooManyMissing
-refused_with_few old shapes out rewind next fewer it few = record {
+pub refused_with_few : (guids : List ℕ) (old : Disks) (shapes : List VdevShape) (out : List Bool) (rewind : ℕ) (next : Disks) (fewer : List Bool) → IsFailedClaim old shapes out rewind next fewer
+    → is_tolerable (vdevs_in shapes) (is_out fewer) ≡ false → IsNotOpenedAtLast guids old shapes out rewind next TooManyMissing
+refused_with_few guids old shapes out rewind next fewer it few = record {
   claims = 1;
   mid = next;
   left = fewer;
@@ -94,9 +94,9 @@ pub opened_next : (old : Disks) (shapes : List VdevShape) (out : List Bool) (rew
 opened_next old shapes out rewind next fewer claimed core it is =
     record { claims = suc is.claims; mid = is.mid; left = is.left; failed = (next, fewer, it, is.failed); last = is.last }
 
-pub refused_next : (old : Disks) (shapes : List VdevShape) (out : List Bool) (rewind : ℕ) (next : Disks) (fewer : List Bool) (new : Disks) (refusal : Refusal)
-    → IsFailedClaim old shapes out rewind next fewer → IsNotOpenedAtLast next shapes fewer rewind new refusal → IsNotOpenedAtLast old shapes out rewind new refusal
-refused_next old shapes out rewind next fewer new refusal it is = record {
+pub refused_next : (guids : List ℕ) (old : Disks) (shapes : List VdevShape) (out : List Bool) (rewind : ℕ) (next : Disks) (fewer : List Bool) (new : Disks) (refusal : Refusal)
+    → IsFailedClaim old shapes out rewind next fewer → IsNotOpenedAtLast guids next shapes fewer rewind new refusal → IsNotOpenedAtLast guids old shapes out rewind new refusal
+refused_next guids old shapes out rewind next fewer new refusal it is = record {
   claims = suc is.claims;
   mid = is.mid;
   left = is.left;
@@ -168,16 +168,16 @@ claims_further zero old shapes out rewind mid left are = record { newer = []; ca
 claims_further (suc claims) old shapes out rewind mid left are =
     further_on old are.0 mid (claim_further old shapes out rewind are.0 are.1 are.2) (claims_further claims are.0 shapes are.1 rewind mid left are.3)
 
-refused_further : (old : Disks) (shapes : List VdevShape) (out : List Bool) (rewind : ℕ) (new : Disks) (refusal : Refusal) → IsNotOpenedOver old shapes out rewind new refusal → IsFurther old new
-refused_further old shapes out rewind new refusal is = elim is.cause [
+refused_further : (guids : List ℕ) (old : Disks) (shapes : List VdevShape) (out : List Bool) (rewind : ℕ) (new : Disks) (refusal : Refusal) → IsNotOpenedOver guids old shapes out rewind new refusal → IsFurther old new
+refused_further guids old shapes out rewind new refusal is = elim is.cause [
   | inl it ↦ made_further no_write old new (through_made out is.later old new it.0)
   | inr it ↦ claimed_further out is.later it.0 old new it.1
 ]
 
-ended_further : (claims : ℕ) (mid : Disks) (shapes : List VdevShape) (left : List Bool) (rewind : ℕ) (new : Disks) (refusal : Refusal)
-    → IsNotOpenedOver mid shapes left rewind new refusal ⊎ AreTooFewLeft claims mid shapes left new refusal → IsFurther mid new
-ended_further claims mid shapes left rewind new refusal (inl it) = refused_further mid shapes left rewind new refusal it
-ended_further claims mid shapes left rewind new refusal (inr it) = record { newer = []; calls = ap (λ (d : Disks). d.calls) it.same }
+ended_further : (guids : List ℕ) (claims : ℕ) (mid : Disks) (shapes : List VdevShape) (left : List Bool) (rewind : ℕ) (new : Disks) (refusal : Refusal)
+    → IsNotOpenedOver guids mid shapes left rewind new refusal ⊎ AreTooFewLeft claims mid shapes left new refusal → IsFurther mid new
+ended_further guids claims mid shapes left rewind new refusal (inl it) = refused_further guids mid shapes left rewind new refusal it
+ended_further guids claims mid shapes left rewind new refusal (inr it) = record { newer = []; calls = ap (λ (d : Disks). d.calls) it.same }
 
 -- the call that failed in a claim did since the old disks
 claim_failed : (old : Disks) (shapes : List VdevShape) (out : List Bool) (rewind : ℕ) (next : Disks) (fewer : List Bool) (new : Disks)
@@ -186,17 +186,17 @@ claim_failed old shapes out rewind next fewer new it further =
     let since = fails_later no_write old it.through.read it.ended (through_made out it.later old it.through.read it.through.before) it.which it.failed in
     fails_further old it.ended new it.which (further_on it.ended next new (made_further no_write it.ended next it.settles.flushes.makes) further) since
 
-refused_once : (claims : ℕ) (old : Disks) (shapes : List VdevShape) (out : List Bool) (rewind : ℕ) (mid : Disks) (left : List Bool) (new : Disks) (refusal : Refusal)
+refused_once : (guids : List ℕ) (claims : ℕ) (old : Disks) (shapes : List VdevShape) (out : List Bool) (rewind : ℕ) (mid : Disks) (left : List Bool) (new : Disks) (refusal : Refusal)
     → AreFailedClaims claims old shapes out rewind mid left
-    → IsNotOpenedOver mid shapes left rewind new refusal ⊎ AreTooFewLeft claims mid shapes left new refusal → ((disk : ℕ) → ¬ HasFailedOn old new disk)
-    → IsNotOpenedOver old shapes out rewind new refusal
-refused_once zero old shapes out rewind mid left new refusal are (inl it) none =
-    let P : Disks × List Bool → Type 0 = λ x. IsNotOpenedOver x.0 shapes x.1 rewind new refusal in
+    → IsNotOpenedOver guids mid shapes left rewind new refusal ⊎ AreTooFewLeft claims mid shapes left new refusal → ((disk : ℕ) → ¬ HasFailedOn old new disk)
+    → IsNotOpenedOver guids old shapes out rewind new refusal
+refused_once guids zero old shapes out rewind mid left new refusal are (inl it) none =
+    let P : Disks × List Bool → Type 0 = λ x. IsNotOpenedOver guids x.0 shapes x.1 rewind new refusal in
     subst P (λ j. (are.0 j, are.1 j)) it
-refused_once zero old shapes out rewind mid left new refusal are (inr few) none = absurd (omega (arith, few.some))
-refused_once (suc claims) old shapes out rewind mid left new refusal are why none =
-    let rest = further_on are.0 mid new (claims_further claims are.0 shapes are.1 rewind mid left are.3) (ended_further (suc claims) mid shapes left rewind new refusal why) in
+refused_once guids zero old shapes out rewind mid left new refusal are (inr few) none = absurd (omega (arith, few.some))
+refused_once guids (suc claims) old shapes out rewind mid left new refusal are why none =
+    let rest = further_on are.0 mid new (claims_further claims are.0 shapes are.1 rewind mid left are.3) (ended_further guids (suc claims) mid shapes left rewind new refusal why) in
     absurd (none are.2.which (claim_failed old shapes out rewind are.0 are.1 new are.2 rest))
 
 pub unfailing_opens_claim_once : UnfailingOpensClaimOnce
-unfailing_opens_claim_once old shapes out rewind new refusal is none = refused_once is.claims old shapes out rewind is.mid is.left new refusal is.failed is.why none
+unfailing_opens_claim_once guids old shapes out rewind new refusal is none = refused_once guids is.claims old shapes out rewind is.mid is.left new refusal is.failed is.why none

@@ -37,7 +37,7 @@ use Rattle.pool_open.specs.Held.{IsLaidOver, IsStoreOver}
 use Rattle.pool_open.specs.Opening.{AreClaimedThrough, AreMisplacedOver, AreReadThrough, IsCauseOfReading, IsKeptThrough, IsNotOpenedOver, IsOpenedOver, IsSurveyRefused}
 use Rattle.pool_open.specs.Retried.{IsFailedClaim, IsPoolRead}
 use Rattle.pool_open.specs.Known.{IsKnownBy}
-use Rattle.pool_open.specs.Roots.{AreReadBeside, IsKnownRoot, IsReadOfRoot, RootIsUnknown}
+use Rattle.pool_open.specs.Roots.{AreMissedBy, AreReadBeside, IsKnownRoot, IsReadOfRoot, RootIsUnknown}
 use Rattle.pool_open.specs.declared.known.KnownRoot.{KnownRoot}
 use Rattle.pool_open.specs.Settling.{AreSettledWithout}
 use Rattle.pool_open.specs.Words.{most_blocks, stamp_of, vdevs_in}
@@ -80,9 +80,9 @@ none_beside out disks = record { only = record { starts = refl; newer = []; call
 through_survey : (out later : List Bool) (old new : Disks) → GoOut out later old new → AreReadThrough out later old new
 through_survey out later old new absent = record { surveyed = new; absent = absent; blocks = none_beside later new }
 
-pub refused_at_once : (out : List Bool) (rewind : ℕ) (disks : Disks) (shapes : List VdevShape) (refusal : Refusal) → length out ≡ length disks.starts
-    → (refusal ≡ NoMemory) ⊎ ((refusal ≡ BadConfig) × ¬ MayBeOpened disks.starts shapes out) → IsNotOpenedOver disks shapes out rewind disks refusal
-refused_at_once out rewind disks shapes refusal count why =
+pub refused_at_once : (guids : List ℕ) (out : List Bool) (rewind : ℕ) (disks : Disks) (shapes : List VdevShape) (refusal : Refusal) → length out ≡ length disks.starts
+    → (refusal ≡ NoMemory) ⊎ ((refusal ≡ BadConfig) × ¬ MayBeOpened disks.starts shapes out) → IsNotOpenedOver guids disks shapes out rewind disks refusal
+refused_at_once guids out rewind disks shapes refusal count why =
     let through = through_survey out out disks disks (none_goes out disks) in
     record {
       later = out;
@@ -93,9 +93,9 @@ refused_at_once out rewind disks shapes refusal count why =
 
 -- ---- disks are only read
 
-pub refused_by_survey : (out later : List Bool) (rewind : ℕ) (old new : Disks) (shapes : List VdevShape) (refusal : Refusal) → GoOut out later old new
-    → length later ≡ length old.starts → IsSurveyRefused shapes later rewind old new refusal → IsNotOpenedOver old shapes out rewind new refusal
-refused_by_survey out later rewind old new shapes refusal absent count why =
+pub refused_by_survey : (guids : List ℕ) (out later : List Bool) (rewind : ℕ) (old new : Disks) (shapes : List VdevShape) (refusal : Refusal) → GoOut out later old new
+    → length later ≡ length old.starts → IsSurveyRefused shapes later rewind old new refusal → IsNotOpenedOver guids old shapes out rewind new refusal
+refused_by_survey guids out later rewind old new shapes refusal absent count why =
     let through = through_survey out later old new absent in
     record { later = later; count = count; kept = kept_by_reads out later rewind old new through count; cause = inl (through, inr (inr (inl why))) }
 
@@ -111,21 +111,21 @@ pub surveyed_of : (old : Disks) (shapes : List VdevShape) (out later : List Bool
     → (it : IsPoolRead old shapes out later rewind s contents stale new) → AreSurveyed out later rewind old it.surveyed s
 surveyed_of old shapes out later rewind s contents stale new it = record { absent = it.absent; count = it.count; whole = it.whole; is = it.is }
 
-root_cause : (out later : List Bool) (rewind : ℕ) (old surveyed new : Disks) (shapes : List VdevShape) (s : Surveyed) (cause : RootRefusal) → IsSurveyed later rewind old surveyed s
-    → (cause ≡ root.NoMemory) ⊎ RootIsUnknown surveyed new shapes later s.claimed.group s.claimed.root (most_blocks shapes) cause → IsCauseOfReading old surveyed new shapes out later rewind (of_root cause)
-root_cause out later rewind old surveyed new shapes s cause is (inl memory) = inl (ap of_root memory)
-root_cause out later rewind old surveyed new shapes s cause is (inr why) = inr (inr (inr (record { s = s; is = is; cause = cause; same = refl; why = why })))
+root_cause : (guids : List ℕ) (out later : List Bool) (rewind : ℕ) (old surveyed new : Disks) (shapes : List VdevShape) (s : Surveyed) (cause : RootRefusal) → IsSurveyed later rewind old surveyed s
+    → (cause ≡ root.NoMemory) ⊎ RootIsUnknown guids surveyed new shapes later s.claimed.group s.claimed.root (most_blocks shapes) cause → IsCauseOfReading guids old surveyed new shapes out later rewind (of_root cause)
+root_cause guids out later rewind old surveyed new shapes s cause is (inl memory) = inl (ap of_root memory)
+root_cause guids out later rewind old surveyed new shapes s cause is (inr why) = inr (inr (inr (record { s = s; is = is; cause = cause; same = refl; why = why })))
 
-pub refused_by_root : (out later : List Bool) (rewind : ℕ) (old surveyed new : Disks) (shapes : List VdevShape) (s : Surveyed) (cause : RootRefusal) → AreSurveyed out later rewind old surveyed s
-    → AreReadBeside later surveyed new → (cause ≡ root.NoMemory) ⊎ RootIsUnknown surveyed new shapes later s.claimed.group s.claimed.root (most_blocks shapes) cause
-    → IsNotOpenedOver old shapes out rewind new (of_root cause)
-refused_by_root out later rewind old surveyed new shapes s cause are blocks why =
+pub refused_by_root : (guids : List ℕ) (out later : List Bool) (rewind : ℕ) (old surveyed new : Disks) (shapes : List VdevShape) (s : Surveyed) (cause : RootRefusal) → AreSurveyed out later rewind old surveyed s
+    → AreReadBeside later surveyed new → (cause ≡ root.NoMemory) ⊎ RootIsUnknown guids surveyed new shapes later s.claimed.group s.claimed.root (most_blocks shapes) cause
+    → IsNotOpenedOver guids old shapes out rewind new (of_root cause)
+refused_by_root guids out later rewind old surveyed new shapes s cause are blocks why =
     let through : AreReadThrough out later old new = record { surveyed = surveyed; absent = are.absent; blocks = blocks } in
     record {
       later = later;
       count = are.count;
       kept = kept_by_reads out later rewind old new through are.count;
-      cause = inl (through, root_cause out later rewind old surveyed new shapes s cause are.is why);
+      cause = inl (through, root_cause guids out later rewind old surveyed new shapes s cause are.is why);
     }
 
 -- ---- a claim is begun
@@ -186,12 +186,12 @@ claim_fails out later left rewind old surveyed read ended new shapes s which few
   settles = settles;
 }
 
-pub refused_by_core : (out later : List Bool) (rewind : ℕ) (old surveyed read new : Disks) (shapes : List VdevShape) (s : Surveyed) (contents : RootContents) (stale : List (Option GroupSpan)) (refusal : Refusal) → rewind < 3
+pub refused_by_core : (guids : List ℕ) (out later : List Bool) (rewind : ℕ) (old surveyed read new : Disks) (shapes : List VdevShape) (s : Surveyed) (contents : RootContents) (stale : List (Option GroupSpan)) (refusal : Refusal) → rewind < 3
     → AreSurveyed out later rewind old surveyed s → AreReadBeside later surveyed read → AreBegun later s read new
     → OfSurveyed later s read (λ rewind first. OpenGives later rewind first s.claimed new)
-    → IsKnownRoot surveyed read shapes later s.claimed.group s.claimed.root contents stale
-    → (refusal ≡ NoMemory) ⊎ ((refusal ≡ BadPointer) × AreMisplacedOver new shapes later stale contents) → IsNotOpenedOver old shapes out rewind new refusal
-refused_by_core out later rewind old surveyed read new shapes s contents stale refusal few are blocks begun gives root why = record {
+    → IsKnownRoot surveyed read shapes later s.claimed.group s.claimed.root contents stale → AreMissedBy guids later s.claimed.group contents.spans stale
+    → (refusal ≡ NoMemory) ⊎ ((refusal ≡ BadPointer) × AreMisplacedOver new shapes later stale contents) → IsNotOpenedOver guids old shapes out rewind new refusal
+refused_by_core guids out later rewind old surveyed read new shapes s contents stale refusal few are blocks begun gives root missed why = record {
   later = later;
   count = are.count;
   kept = kept_by_claim later rewind old read new s few (still out later rewind old surveyed read s are blocks) begun;
@@ -201,7 +201,7 @@ refused_by_core out later rewind old surveyed read new shapes s contents stale r
     gives rewind old few (still out later rewind old surveyed read s are blocks),
     elim why [
       | inl memory ↦ inl memory
-      | inr it ↦ inr (it.0, record { s = s; is = are.is; contents = contents; stale = stale; reads = root; why = it.1 })
+      | inr it ↦ inr (it.0, record { s = s; is = are.is; contents = contents; stale = stale; missed = missed; reads = root; why = it.1 })
     ],
   );
 }

@@ -30,7 +30,7 @@ use Rattle.uberblock_ring.specs.declared.uberblock.Uberblock.{Uberblock}
 use Rattle.volume_rules.specs.NowMoves.{IsMadeBy}
 use Rattle.pool_open.specs.Causes.{of_root, of_slots}
 use Rattle.pool_open.specs.Held.{HoldOver, IsStoreOver}
-use Rattle.pool_open.specs.Roots.{AreReadBeside, IsKnownRoot, RootIsUnknown}
+use Rattle.pool_open.specs.Roots.{AreMissedBy, AreReadBeside, IsKnownRoot, RootIsUnknown}
 use Rattle.pool_open.specs.Trees.{IsConfiguredFor, NamesConfigOf, OpensPossible}
 use Rattle.pool_open.specs.Words.{most_blocks, stamp_of, vdevs_in}
 use Rattle.pool_open.specs.declared.refusal.Refusal.{Refusal}
@@ -104,12 +104,12 @@ IsSurveyRefused shapes later rewind old new refusal =
     ⊎ ((refusal ≡ TooManyMissing) × (is_tolerable (vdevs_in shapes) (is_out later) ≡ false)))
 
 -- what was surveyed has a root that was refused
-pub record IsRootUnread (old surveyed new : Disks) (shapes : List VdevShape) (later : List Bool) (rewind : ℕ) (refusal : Refusal) : Type 0 where
+pub record IsRootUnread (guids : List ℕ) (old surveyed new : Disks) (shapes : List VdevShape) (later : List Bool) (rewind : ℕ) (refusal : Refusal) : Type 0 where
   pub s : Surveyed
   pub is : IsSurveyed later rewind old surveyed s
   pub cause : RootRefusal
   pub same : refusal ≡ of_root cause
-  pub why : RootIsUnknown surveyed new shapes later s.claimed.group s.claimed.root (most_blocks shapes) cause
+  pub why : RootIsUnknown guids surveyed new shapes later s.claimed.group s.claimed.root (most_blocks shapes) cause
 
 -- what was read of a root has no place on the vdevs
 pub record AreMisplacedOver (disks : Disks) (shapes : List VdevShape) (later : List Bool) (stale : List (Option GroupSpan)) (contents : RootContents)
@@ -120,37 +120,38 @@ pub record AreMisplacedOver (disks : Disks) (shapes : List VdevShape) (later : L
   pub misplaced : AreMisplaced store.spaces contents
 
 -- of what was read of the root that was surveyed
-pub record IsReadMisplaced (old surveyed read new : Disks) (shapes : List VdevShape) (later : List Bool) (rewind : ℕ) : Type 0 where
+pub record IsReadMisplaced (guids : List ℕ) (old surveyed read new : Disks) (shapes : List VdevShape) (later : List Bool) (rewind : ℕ) : Type 0 where
   pub s : Surveyed
   pub is : IsSurveyed later rewind old surveyed s
   pub contents : RootContents
   pub stale : List (Option GroupSpan)
+  pub missed : AreMissedBy guids later s.claimed.group contents.spans stale
   pub reads : IsKnownRoot surveyed read shapes later s.claimed.group s.claimed.root contents stale
   pub why : AreMisplacedOver new shapes later stale contents
 
 -- Before anything was written: want of memory; the vdevs don't lie on the disks; slots, labels or absent disks; the root.
-abbrev pub IsCauseOfReading : Disks → Disks → Disks → List VdevShape → List Bool → List Bool → ℕ → Refusal → Type 0
-IsCauseOfReading old surveyed new shapes out later rewind refusal =
+abbrev pub IsCauseOfReading : List ℕ → Disks → Disks → Disks → List VdevShape → List Bool → List Bool → ℕ → Refusal → Type 0
+IsCauseOfReading guids old surveyed new shapes out later rewind refusal =
     (refusal ≡ NoMemory)
     ⊎ (((refusal ≡ BadConfig) × ¬ MayBeOpened old.starts shapes out)
     ⊎ (IsSurveyRefused shapes later rewind old new refusal
-    ⊎ IsRootUnread old surveyed new shapes later rewind refusal))
+    ⊎ IsRootUnread guids old surveyed new shapes later rewind refusal))
 
 -- Once a claim was done: want of memory; a space map or a block has no place of its own.
-abbrev pub IsCauseOfClaim : Disks → Disks → Disks → Disks → List VdevShape → List Bool → ℕ → Refusal → Type 0
-IsCauseOfClaim old surveyed read new shapes later rewind refusal =
-    (refusal ≡ NoMemory) ⊎ ((refusal ≡ BadPointer) × IsReadMisplaced old surveyed read new shapes later rewind)
+abbrev pub IsCauseOfClaim : List ℕ → Disks → Disks → Disks → Disks → List VdevShape → List Bool → ℕ → Refusal → Type 0
+IsCauseOfClaim guids old surveyed read new shapes later rewind refusal =
+    (refusal ≡ NoMemory) ⊎ ((refusal ≡ BadPointer) × IsReadMisplaced guids old surveyed read new shapes later rewind)
 
 -- one of these; and once a claim was done the disks lead to it alone, with nothing unflushed
-abbrev pub IsOpenCause : Disks → Disks → List VdevShape → List Bool → List Bool → ℕ → Refusal → Type 0
-IsOpenCause old new shapes out later rewind refusal =
-    ((through : AreReadThrough out later old new) × IsCauseOfReading old through.surveyed new shapes out later rewind refusal)
+abbrev pub IsOpenCause : List ℕ → Disks → Disks → List VdevShape → List Bool → List Bool → ℕ → Refusal → Type 0
+IsOpenCause guids old new shapes out later rewind refusal =
+    ((through : AreReadThrough out later old new) × IsCauseOfReading guids old through.surveyed new shapes out later rewind refusal)
     ⊎ ((claimed : Uberblock) × (through : AreClaimedThrough out later claimed old new) × OpenGives later rewind old claimed new
-    × IsCauseOfClaim old through.before.surveyed through.read new shapes later rewind refusal)
+    × IsCauseOfClaim guids old through.before.surveyed through.read new shapes later rewind refusal)
 
 -- The new disks are as a stop in the open might leave the old ones, and there is a cause.
-pub record IsNotOpenedOver (old : Disks) (shapes : List VdevShape) (out : List Bool) (rewind : ℕ) (new : Disks) (refusal : Refusal) : Type 0 where
+pub record IsNotOpenedOver (guids : List ℕ) (old : Disks) (shapes : List VdevShape) (out : List Bool) (rewind : ℕ) (new : Disks) (refusal : Refusal) : Type 0 where
   pub later : List Bool
   pub count : length later ≡ length old.starts
   pub kept : IsKeptThrough later rewind old new
-  pub cause : IsOpenCause old new shapes out later rewind refusal
+  pub cause : IsOpenCause guids old new shapes out later rewind refusal

@@ -8,6 +8,8 @@ use Rattle.block_store.specs.declared.shape.VdevShape.{VdevShape}
 use Rattle.pool_core.specs.State.{CoreState, config_of}
 use Rattle.pool_labels.specs.declared.refusal.Refusal.{Refusal as LabelsRefusal}
 use Rattle.uberblock_ring.specs.declared.uberblock.Uberblock.{Uberblock}
+use Rattle.stale_disks.specs.Rules.{guids_in}
+use Rattle.vdev_label.specs.Plain.{config_view}
 use Rattle.vdev_label.specs.declared.label.Config.{Config}
 use Rattle.pool_open.specs.Causes.{of_labels}
 use Rattle.pool_members.specs.HandedIn.{AreHandedIn}
@@ -55,7 +57,7 @@ module _ {D : Type 0} where
     pub out : List Bool
     pub ordered : AreInOrder g disks rewind array shapes out
     pub new : Disks
-    pub refused : IsNotOpenedAtLast array shapes out rewind new refusal
+    pub refused : IsNotOpenedAtLast (guids_in (config_view ordered.config)) array shapes out rewind new refusal
     pub given : AreBack g new ordered.places back
 
   -- why it was not

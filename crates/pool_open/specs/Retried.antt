@@ -90,12 +90,12 @@ pub record AreTooFewLeft (claims : ℕ) (mid : Disks) (shapes : List VdevShape) 
   pub same : new ≡ mid
 
 -- Some claims failed, or none did, and then no attempt opened the disks that were left, which are the new ones now.
-pub record IsNotOpenedAtLast (old : Disks) (shapes : List VdevShape) (out : List Bool) (rewind : ℕ) (new : Disks) (refusal : Refusal) : Type 0 where
+pub record IsNotOpenedAtLast (guids : List ℕ) (old : Disks) (shapes : List VdevShape) (out : List Bool) (rewind : ℕ) (new : Disks) (refusal : Refusal) : Type 0 where
   pub claims : ℕ
   pub mid : Disks
   pub left : List Bool
   pub failed : AreFailedClaims claims old shapes out rewind mid left
-  pub why : IsNotOpenedOver mid shapes left rewind new refusal ⊎ AreTooFewLeft claims mid shapes left new refusal
+  pub why : IsNotOpenedOver guids mid shapes left rewind new refusal ⊎ AreTooFewLeft claims mid shapes left new refusal
 
 -- ---- laws
 
@@ -109,5 +109,5 @@ UndiminishedOpensClaimOnce =
 -- and so is one that was refused, if no call failed
 abbrev pub UnfailingOpensClaimOnce : Type 0
 UnfailingOpensClaimOnce =
-    (old : Disks) (shapes : List VdevShape) (out : List Bool) (rewind : ℕ) (new : Disks) (refusal : Refusal) → IsNotOpenedAtLast old shapes out rewind new refusal
-    → ((disk : ℕ) → ¬ HasFailedOn old new disk) → IsNotOpenedOver old shapes out rewind new refusal
+    (guids : List ℕ) (old : Disks) (shapes : List VdevShape) (out : List Bool) (rewind : ℕ) (new : Disks) (refusal : Refusal) → IsNotOpenedAtLast guids old shapes out rewind new refusal
+    → ((disk : ℕ) → ¬ HasFailedOn old new disk) → IsNotOpenedOver guids old shapes out rewind new refusal

@@ -1,5 +1,6 @@
 -- What is read of a root, over disks that no store holds yet.
-use Rattle.std.specs.Prelude.{ℕ, ◌≡◌, ◌≢◌, ◌≤◌, ◌⊎◌, Bool, Option, List, [], length}
+use Rattle.std.specs.List.{list_any}
+use Rattle.std.specs.Prelude.{ℕ, ◌≡◌, ◌≢◌, ◌≤◌, ◌⊎◌, ◌&&◌, Bool, true, false, Option, List, [], length, if◌then◌else◌}
 use Rattle.disk_set.specs.declared.stale.GroupSpan.{GroupSpan}
 use Rattle.model_disk.specs.Joint.{Disks}
 use Rattle.raidz_io.specs.Reads.{OnlyReads, AreUntouched, IsHonestSince}
@@ -8,8 +9,8 @@ use Rattle.block_store.specs.Blocks.{Contents}
 use Rattle.block_store.specs.Opened.{MayBeOpened}
 use Rattle.block_store.specs.Places.{shapes_of}
 use Rattle.block_store.specs.Spaces.{VdevSpace}
-use Rattle.block_store.specs.Store.{Store, outs_from}
-use Rattle.block_store.specs.declared.refusal.Refusal.TheVariants.{BadConfig, BadDigest}
+use Rattle.block_store.specs.Store.{Store, is_stale, outs_from}
+use Rattle.block_store.specs.declared.refusal.Refusal.TheVariants.{BadConfig, BadDigest, DiskFault}
 use Rattle.block_store.specs.declared.shape.VdevShape.{VdevShape}
 use Rattle.pool_core.specs.Contents.{AreContentsOf, AreContentsRefused}
 use Rattle.pool_core.specs.Mapped.{HasItsMapsOver}
@@ -18,9 +19,11 @@ use Rattle.pool_core.specs.Reach.{meta_blocks_of}
 use Rattle.pool_core.specs.RootContents.{RootContents}
 use Rattle.pool_core.specs.Loads.{AreSetsOf}
 use Rattle.pool_model.specs.Pools.{PlainPool}
+use Rattle.meta_objset.specs.declared.stale_spans.StaleSpan.{StaleSpan}
 use Rattle.space_map_objects.specs.Maps.{IsForLossOf}
 use Rattle.space_map_objects.specs.declared.refusal.Refusal.{Refusal}
 use Rattle.space_map_objects.specs.declared.refusal.Refusal.TheVariants.{NoMemory, Unread}
+use Rattle.stale_disks.specs.Rules.{AreSpansOpened, stale_groups}
 use Rattle.pool_open.specs.Held.{HoldOver, IsStoreOver}
 
 -- the disks were only read, and none of those that are out was
@@ -73,6 +76,29 @@ pub record IsRootNotRead (old new : Disks) (shapes : List VdevShape) (out : List
   pub only : AreReadBeside out old new
   pub why : (refusal ≡ NoMemory) ⊎ RootRefuses old new shapes out stale group root most refusal
 
+-- ---- a root of which nothing is known
+
+-- whether bytes of it were wrong
+abbrev pub are_wrong : Refusal → Bool
+are_wrong (Unread BadDigest) = true
+are_wrong refusal = false
+
+-- What is told of it that was refused for this cause. Where bytes are wrong while a disk is out it lacks that disk, since another one may have missed
+-- its group.
+abbrev pub told_as : List Bool → Refusal → Refusal
+told_as out cause = if are_wrong cause && list_any (λ is. is) out then Unread DiskFault else cause
+
+-- why it was not read, with nothing known of groups that disks missed
+pub record IsRefusedAtOnce (old new : Disks) (shapes : List VdevShape) (out : List Bool) (group : ℕ) (root : Block) (most : ℕ) (refusal : Refusal) : Type 0 where
+  pub cause : Refusal
+  pub refused : RootRefuses old new shapes out [] group root most cause
+  pub told : refusal ≡ told_as out cause
+
+-- the disks were only read until then
+pub record IsNotReadAtOnce (old new : Disks) (shapes : List VdevShape) (out : List Bool) (group : ℕ) (root : Block) (most : ℕ) (refusal : Refusal) : Type 0 where
+  pub only : AreReadBeside out old new
+  pub why : (refusal ≡ NoMemory) ⊎ IsRefusedAtOnce old new shapes out group root most refusal
+
 -- ---- a root that is read once more where disks missed groups
 
 -- It was read with nothing known of groups that disks missed, and its table has spans.
@@ -94,27 +120,34 @@ pub record HasAnotherTable (old new : Disks) (shapes : List VdevShape) (out : Li
   pub read : IsReadOfRoot old new shapes out stale group root again
   pub other : again.spans ≢ first.spans
 
--- why it was not read once more: want of memory; it was refused then, or has another table
-abbrev pub IsNotReadAgain : Disks → Disks → List VdevShape → List Bool → ℕ → Block → ℕ → RootContents → Refusal → Type 0
-IsNotReadAgain old new shapes out group root most first refusal =
-    (refusal ≡ NoMemory) ⊎ ((stale : List (Option GroupSpan)) × (RootRefuses old new shapes out stale group root most refusal
+-- the groups that disks of these guids missed by a table, as its group is opened
+pub record AreMissedBy (guids : List ℕ) (out : List Bool) (group : ℕ) (table : List StaleSpan) (stale : List (Option GroupSpan)) : Type 0 where
+  pub spans : List StaleSpan
+  pub opened : AreSpansOpened guids out group table spans
+  pub same : (disk birth : ℕ) → is_stale stale disk birth ≡ is_stale (stale_groups spans guids) disk birth
+
+-- why it was not read once more, by what its table says that disks missed: want of memory; it was refused then, or has another table
+abbrev pub IsNotReadAgain : List ℕ → Disks → Disks → List VdevShape → List Bool → ℕ → Block → ℕ → RootContents → Refusal → Type 0
+IsNotReadAgain guids old new shapes out group root most first refusal =
+    (refusal ≡ NoMemory) ⊎ ((stale : List (Option GroupSpan)) × AreMissedBy guids out group first.spans stale
+    × (RootRefuses old new shapes out stale group root most refusal
     ⊎ ((refusal ≡ Unread BadDigest) × HasAnotherTable old new shapes out stale group root first)))
 
 -- Its table has spans, and it was not read once more.
-pub record IsRefusedAgain (old new : Disks) (shapes : List VdevShape) (out : List Bool) (group : ℕ) (root : Block) (most : ℕ) (refusal : Refusal) : Type 0 where
+pub record IsRefusedAgain (guids : List ℕ) (old new : Disks) (shapes : List VdevShape) (out : List Bool) (group : ℕ) (root : Block) (most : ℕ) (refusal : Refusal) : Type 0 where
   pub mid : Disks
   pub before : AreReadBeside out old mid
   pub after : AreReadBeside out mid new
   pub first : RootContents
   pub tells : TellsSpans old mid shapes out group root first
-  pub why : IsNotReadAgain mid new shapes out group root most first refusal
+  pub why : IsNotReadAgain guids mid new shapes out group root most first refusal
 
 -- why nothing is known of a root: it was refused at once, or once more
-abbrev pub RootIsUnknown : Disks → Disks → List VdevShape → List Bool → ℕ → Block → ℕ → Refusal → Type 0
-RootIsUnknown old new shapes out group root most refusal =
-    RootRefuses old new shapes out [] group root most refusal ⊎ IsRefusedAgain old new shapes out group root most refusal
+abbrev pub RootIsUnknown : List ℕ → Disks → Disks → List VdevShape → List Bool → ℕ → Block → ℕ → Refusal → Type 0
+RootIsUnknown guids old new shapes out group root most refusal =
+    IsRefusedAtOnce old new shapes out group root most refusal ⊎ IsRefusedAgain guids old new shapes out group root most refusal
 
 -- the disks were only read until then
-pub record IsRootNotKnown (old new : Disks) (shapes : List VdevShape) (out : List Bool) (group : ℕ) (root : Block) (most : ℕ) (refusal : Refusal) : Type 0 where
+pub record IsRootNotKnown (guids : List ℕ) (old new : Disks) (shapes : List VdevShape) (out : List Bool) (group : ℕ) (root : Block) (most : ℕ) (refusal : Refusal) : Type 0 where
   pub only : AreReadBeside out old new
-  pub why : (refusal ≡ NoMemory) ⊎ RootIsUnknown old new shapes out group root most refusal
+  pub why : (refusal ≡ NoMemory) ⊎ RootIsUnknown guids old new shapes out group root most refusal

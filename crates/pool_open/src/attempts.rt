@@ -8,6 +8,8 @@ ghost use Rattle.pool_open.specs.Known.{IsKnownBy};
 ghost use Rattle.pool_open.specs.Opening.{IsNotOpenedOver};
 ghost use Rattle.pool_open.specs.Retried.{IsAttempt, IsNotOpenedAtLast, IsOpenedAtLast, IsPoolRead, KeepsConfig};
 ghost use Rattle.pool_slots.specs.Slots.{HaveLabels};
+ghost use Rattle.stale_disks.specs.Rules.{guids_in};
+ghost use Rattle.vdev_label.specs.Plain.{config_view};
 
 use crate::known::{KnownRoot, read_known};
 use crate::opening::{OpenedPool, core_over, fitting, survey_disks};
@@ -56,7 +58,8 @@ fn read_pool<D: Disk + Drop>(
     ensures config { IfOk result (λ read.
         read.root.disks.config.value ≡ config.now.value) }
     ensures refused { IfErr result (λ failed.
-        IsNotOpenedOver disks shapes.now out.items rewind failed.1 failed.0) }
+        IsNotOpenedOver (guids_in (config_view config.now.value))
+        disks shapes.now out.items rewind failed.1 failed.0) }
 {
     let mut out = out;
     let mut disks = disks;
@@ -92,7 +95,8 @@ fn open_once<D: Disk + Drop>(
     ensures attempted { IfOk result (IsAttempt D.Disk disks shapes.now out.items rewind) }
     ensures config { IfOk result (KeepsConfig D.Disk config.now.value) }
     ensures refused { IfErr result (λ failed.
-        IsNotOpenedOver disks shapes.now out.items rewind failed.1 failed.0) }
+        IsNotOpenedOver (guids_in (config_view config.now.value))
+        disks shapes.now out.items rewind failed.1 failed.0) }
 {
     writes_elsewhere_keep();
     let read = read_pool(alloc, disks, shapes, out, rewind, config)?;
@@ -134,7 +138,8 @@ fn open_left<D: Disk + Drop>(
         IsOpenedAtLast disks shapes.now out.items rewind pool.uberblock (state_of pool.core)) }
     ensures config { IfOk result (λ pool. config_of (state_of pool.core) ≡ config.now.value) }
     ensures refused { IfErr result (λ failed.
-        IsNotOpenedAtLast disks shapes.now out.items rewind failed.1 failed.0) }
+        IsNotOpenedAtLast (guids_in (config_view config.now.value))
+        disks shapes.now out.items rewind failed.1 failed.0) }
 {
     match open_once(alloc, disks, shapes, out, rewind, config)? {
         Attempt::Opened(pool) => Ok(pool),
@@ -173,7 +178,8 @@ pub fn open_over<D: Disk + Drop>(
         IsOpenedAtLast disks shapes.now out.items rewind pool.uberblock (state_of pool.core)) }
     ensures config { IfOk result (λ pool. config_of (state_of pool.core) ≡ config.now.value) }
     ensures refused { IfErr result (λ failed.
-        IsNotOpenedAtLast disks shapes.now out.items rewind failed.1 failed.0) }
+        IsNotOpenedAtLast (guids_in (config_view config.now.value))
+        disks shapes.now out.items rewind failed.1 failed.0) }
 {
     let disks = fitting(alloc, disks, shapes, &out)?;
     open_left(alloc, disks, shapes, out, rewind, config)

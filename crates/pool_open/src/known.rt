@@ -1,14 +1,14 @@
 //! What is known of the root of a pool before it is claimed: what it has, and which groups its disks missed.
-ghost use Rattle.std.specs.Prelude.{◌≡◌, IfErr, IfOk};
+ghost use Rattle.std.specs.Prelude.{◌≡◌, [], IfErr, IfOk};
 ghost use Rattle.pool_open.specs.Known.{IsKnownBy};
 ghost use Rattle.pool_open.specs.Roots.{AreReadBeside, IsKnownRoot, IsNotReadAgain, IsReadOfRoot};
-ghost use Rattle.pool_open.specs.Roots.{IsRootNotKnown};
+ghost use Rattle.pool_open.specs.Roots.{IsNotReadAtOnce, IsRootNotKnown, are_wrong, told_as};
 ghost use Rattle.pool_open.specs.Words.{most_blocks};
 ghost use Rattle.stale_disks.specs.Rules.{AreSpansOpened, guids_in, stale_groups};
 ghost use Rattle.vdev_label.specs.Plain.{config_view};
 
 use crate::roots::{ReadRoot, read_root, read_stale};
-use crate::tolerance::count_sectors;
+use crate::tolerance::{count_sectors, is_any_out};
 use block_store::{VdevShape, writes_elsewhere_keep};
 use disk_set::GroupSpan;
 use meta_objset::StaleSpans;
@@ -70,11 +70,51 @@ fn groups_missed(
     })
 }
 
+/// Whether a root was refused since bytes of it are wrong.
+fn are_wrong(cause: Refusal) -> bool
+    ensures { result ≡ are_wrong cause }
+{
+    matches!(cause, Refusal::Unread(block_store::Refusal::BadDigest))
+}
+
+/// What is told of a root that was refused for this cause with nothing known of groups that disks missed. Where bytes of it are
+/// wrong while a disk is out, it lacks that disk: another one may have missed its group.
+fn told_as(cause: Refusal, out: &[bool]) -> Refusal
+    ensures { result ≡ told_as out.now cause }
+{
+    if are_wrong(cause) && is_any_out(out) {
+        Refusal::Unread(block_store::Refusal::DiskFault)
+    } else {
+        cause
+    }
+}
+
+/// Reads a root with nothing known of groups that disks missed.
+fn read_first<D: Disk + Drop>(
+    alloc: Global,
+    disks: DiskArray<D>,
+    shapes: &[VdevShape],
+    out: &[bool],
+    taken: &Uberblock,
+) -> Result<ReadRoot<D>, (Refusal, DiskArray<D>)>
+    ensures only { IfOk result (λ read. AreReadBeside out.now disks read.disks) }
+    ensures contents { IfOk result (λ read. IsReadOfRoot disks read.disks shapes.now out.now []
+        taken.now.group taken.now.root read.contents) }
+    ensures refused { IfErr result (λ failed. IsNotReadAtOnce disks failed.1 shapes.now out.now
+        taken.now.group taken.now.root (most_blocks shapes.now) failed.0) }
+{
+    let left = count_sectors(shapes);
+    match read_root(alloc, disks, shapes, out, &taken.root, taken.group, left) {
+        Ok(read) => Ok(read),
+        Err((cause, disks)) => Err((told_as(cause, out), disks)),
+    }
+}
+
 /// Reads the root of what is taken, with these disks out. Where its table says that disks missed groups, it is read once more, and then of
 /// blocks that were born in these nothing is read of such a disk.
 ///
-/// It is refused as `read_root` says, and `BadDigest` also where the table is another one as it is read once more. After an error the
-/// disks come back.
+/// It is refused as `read_root` says, but `DiskFault` where bytes are wrong at the first read while a disk is out; and `BadDigest`
+/// also where the table is another one as it is read once more. After an error the disks come back.
 pub(crate) fn read_known<D: Disk + Drop>(
     alloc: Global,
     disks: DiskArray<D>,
@@ -90,15 +130,15 @@ pub(crate) fn read_known<D: Disk + Drop>(
         known.root.disks.config.value ≡ config.now.value) }
     ensures known { IfOk result (λ known.
         IsKnownBy out.now taken.now.group known.root) }
-    ensures refused { IfErr result (λ failed. IsRootNotKnown disks failed.1 shapes.now out.now
+    ensures refused { IfErr result (λ failed. IsRootNotKnown (guids_in (config_view
+        config.now.value)) disks failed.1 shapes.now out.now
         taken.now.group taken.now.root (most_blocks shapes.now) failed.0) }
 {
     writes_elsewhere_keep();
     let Ok(config) = Arc::try_clone(config) else {
         return Err((Refusal::NoMemory, disks));
     };
-    let left = count_sectors(shapes);
-    let first = read_root(alloc, disks, shapes, out, &taken.root, taken.group, left)?;
+    let first = read_first(alloc, disks, shapes, out, taken)?;
     if first.contents.spans.rows().is_empty() {
         let spans = StaleSpans::new(alloc);
         return Ok(ReadKnown {
@@ -129,8 +169,9 @@ fn read_again<D: Disk + Drop>(
     ensures known { IfOk result (λ known.
         IsKnownBy out.now taken.now.group known.root) }
     ensures refused { IfErr result (λ failed. AreReadBeside out.now first.disks failed.1
-        × IsNotReadAgain first.disks failed.1 shapes.now out.now taken.now.group
-        taken.now.root (most_blocks shapes.now) first.contents failed.0) }
+        × IsNotReadAgain (guids_in (config_view config.value)) first.disks failed.1
+        shapes.now out.now taken.now.group taken.now.root (most_blocks shapes.now)
+        first.contents failed.0) }
 {
     let ReadRoot { disks, contents } = first;
     let Ok(it) = groups_missed(alloc, &contents.spans, config.as_ref(), out, taken.group) else {

@@ -1,4 +1,5 @@
 //! Whether a pool bears that disks are out, and how large it is.
+ghost use Rattle.std.specs.List.{list_any};
 ghost use Rattle.std.specs.Prelude.{◌≡◌, ◌+◌, ◌-◌, ◌^◌, min};
 ghost use Rattle.block_store.specs.Store.{is_out};
 ghost use Rattle.pool_model.specs.View.{is_tolerable, lost_in};
@@ -39,6 +40,13 @@ pub(crate) fn are_tolerable(shapes: &[VdevShape], out: &[bool]) -> bool
         }
     }
     true
+}
+
+/// Whether some disk is out.
+pub(crate) fn is_any_out(out: &[bool]) -> bool
+    ensures { result ≡ list_any (λ is. is) out.now }
+{
+    out.iter().any(|is| *is)
 }
 
 /// How many sectors the vdevs have, or the greatest number where they have more.

@@ -11,6 +11,7 @@ use Rattle.block_store.specs.declared.shape.VdevShape.{VdevShape}
 use Rattle.uberblock_ring.specs.declared.uberblock.Uberblock.{Uberblock}
 use Rattle.raidz_io.proofs.Written.{slice_get_some}
 use Rattle.sha2.specs.Sha256.{sha256}
+use Rattle.stale_disks.specs.Rules.{guids_in}
 use Rattle.vdev_label.specs.Config.{config_bytes}
 use Rattle.vdev_label.specs.Plain.{PlainVdev, config_view}
 use Rattle.pool_create.specs.Slots.{IsStampOf}
@@ -214,15 +215,15 @@ module _ {images : List (List ℕ)} {shapes : List VdevShape} {out : List Bool} 
 
 -- ---- an open of them
 
-memory_alone : UnhinderedOpensAreDone → (images : List (List ℕ)) (shapes : List VdevShape) (out : List Bool) (p : Possible) (pools : Uberblock → PlainPool)
+memory_alone : UnhinderedOpensAreDone → (guids : List ℕ) (images : List (List ℕ)) (shapes : List VdevShape) (out : List Bool) (p : Possible) (pools : Uberblock → PlainPool)
     (array : Disks) (its_shapes : List VdevShape) (its_out : List Bool) (refusal : Refusal) → IsArranged images shapes out array its_shapes its_out
     → LeadToWholePools (fresh images) shapes out p pools → AreAllThere images shapes out → HaveLeft out (fresh images)
-    → (back : Disks) → IsNotOpenedOver array its_shapes its_out 0 back refusal → AnswerTruly array back → refusal ≡ NoMemory
-memory_alone law images shapes out p pools array its_shapes its_out refusal are led there left =
-    let P : List VdevShape × List Bool → Type 0 = λ x. (back : Disks) → IsNotOpenedOver array x.0 x.1 0 back refusal → AnswerTruly array back → refusal ≡ NoMemory in
+    → (back : Disks) → IsNotOpenedOver guids array its_shapes its_out 0 back refusal → AnswerTruly array back → refusal ≡ NoMemory
+memory_alone law guids images shapes out p pools array its_shapes its_out refusal are led there left =
+    let P : List VdevShape × List Bool → Type 0 = λ x. (back : Disks) → IsNotOpenedOver guids array x.0 x.1 0 back refusal → AnswerTruly array back → refusal ≡ NoMemory in
     subst P (λ j. (sym are.shapes_are j, sym are.out_is j))
     (λ back is truly.
-    law array shapes out p pools refusal (lead_so p pools are led) (all_there_so are there) back is (record {
+    law guids array shapes out p pools refusal (lead_so p pools are led) (all_there_so are there) back is (record {
       left = record {
         groups = λ u read. left.groups u (read_back are u read);
         claims = λ u top used. left.claims u (highest_back are u top) (used_up_back are u used);
@@ -242,11 +243,11 @@ claimed_grew out later claimed old new it =
     }
 
 -- Where one is refused by no call that failed, nothing is unflushed: the disks were only read, or a claim was done.
-unopened_at : (images : List (List ℕ)) (shapes : List VdevShape) (out : List Bool) (p : Possible) (pools : Uberblock → PlainPool) (array : Disks)
+unopened_at : (guids : List ℕ) (images : List (List ℕ)) (shapes : List VdevShape) (out : List Bool) (p : Possible) (pools : Uberblock → PlainPool) (array : Disks)
     (its_shapes : List VdevShape) (its_out : List Bool) (rewind : ℕ) (new : Disks) (refusal : Refusal) → IsArranged images shapes out array its_shapes its_out
-    → LeadToWholePools (fresh images) shapes out p pools → AreAllThere images shapes out → IsNotOpenedOver array shapes out rewind new refusal
+    → LeadToWholePools (fresh images) shapes out p pools → AreAllThere images shapes out → IsNotOpenedOver guids array shapes out rewind new refusal
     → AnswerTruly array new → GrewFromKnown array new × AreSettled new
-unopened_at images shapes out p pools array its_shapes its_out rewind new refusal are led there is truly =
+unopened_at guids images shapes out p pools array its_shapes its_out rewind new refusal are led there is truly =
     let known : (which : ℕ) → IsKnown array which = λ which. known_so are which in
     let flags : length out ≡ length array.starts = there.may.flags ∙ sym (count_so are) in
     ⊎_elim
@@ -266,13 +267,13 @@ unopened_at images shapes out p pools array its_shapes its_out rewind new refusa
     ))
     is.cause
 
-unopened_so : (images : List (List ℕ)) (shapes : List VdevShape) (out : List Bool) (p : Possible) (pools : Uberblock → PlainPool) (array : Disks)
+unopened_so : (guids : List ℕ) (images : List (List ℕ)) (shapes : List VdevShape) (out : List Bool) (p : Possible) (pools : Uberblock → PlainPool) (array : Disks)
     (its_shapes : List VdevShape) (its_out : List Bool) (rewind : ℕ) (new : Disks) (refusal : Refusal) → IsArranged images shapes out array its_shapes its_out
-    → LeadToWholePools (fresh images) shapes out p pools → AreAllThere images shapes out → IsNotOpenedOver array its_shapes its_out rewind new refusal
+    → LeadToWholePools (fresh images) shapes out p pools → AreAllThere images shapes out → IsNotOpenedOver guids array its_shapes its_out rewind new refusal
     → AnswerTruly array new → GrewFromKnown array new × AreSettled new
-unopened_so images shapes out p pools array its_shapes its_out rewind new refusal are led there is truly =
-    let P : List VdevShape × List Bool → Type 0 = λ x. IsNotOpenedOver array x.0 x.1 rewind new refusal in
-    unopened_at images shapes out p pools array its_shapes its_out rewind new refusal are led there (subst P (λ j. (are.shapes_are j, are.out_is j)) is) truly
+unopened_so guids images shapes out p pools array its_shapes its_out rewind new refusal are led there is truly =
+    let P : List VdevShape × List Bool → Type 0 = λ x. IsNotOpenedOver guids array x.0 x.1 rewind new refusal in
+    unopened_at guids images shapes out p pools array its_shapes its_out rewind new refusal are led there (subst P (λ j. (are.shapes_are j, are.out_is j)) is) truly
 
 -- an open of them claims an uberblock that names the configuration of its core, if that is the pool's
 names_own : (pool : PoolIdentity) (vdevs : List PlainVdev) (digest : List ℕ) (images : List (List ℕ)) (shapes : List VdevShape) (out : List Bool) (p : Possible)
@@ -340,8 +341,9 @@ module _ {D : Type 0} where
       (show_highest pool vdevs digest images shapes out p pools it left) returned.handed_in
       (still_holding g images disks order found.old returned found.read.before) truly found.cause)
   refused_so law g pool vdevs digest images shapes out p pools disks order (Refused refusal back) it returned left found truly =
-      let once = unfailing_opens_claim_once found.array found.shapes found.out 0 found.new refusal found.refused truly.1.none_failed in
-      memory_alone law images shapes out p pools found.array found.shapes found.out refusal
+      let guids = guids_in (config_view found.ordered.config) in
+      let once = unfailing_opens_claim_once guids found.array found.shapes found.out 0 found.new refusal found.refused truly.1.none_failed in
+      memory_alone law guids images shapes out p pools found.array found.shapes found.out refusal
       (is_arranged g pool vdevs images shapes out disks order 0 found.array found.shapes found.out it.are returned found.ordered truly.0)
       it.led it.are.there left found.new once truly.1
 
@@ -362,8 +364,9 @@ module _ {D : Type 0} where
         (is_arranged g pool vdevs images shapes out disks order rewind array its_shapes its_out it.are returned ordered truly) few by_group honest kept leaves untorn;
     unopened = λ disks back order rewind refusal returned is found truly.
         let are = is_arranged g pool vdevs images shapes out disks order rewind is.array is.shapes is.out it.are returned is.ordered found in
-        let once = unfailing_opens_claim_once is.array is.shapes is.out rewind is.new refusal is.refused truly.none_failed in
-        unopened_so images shapes out p pools is.array is.shapes is.out rewind is.new refusal are it.led it.are.there once truly;
+        let guids = guids_in (config_view is.ordered.config) in
+        let once = unfailing_opens_claim_once guids is.array is.shapes is.out rewind is.new refusal is.refused truly.none_failed in
+        unopened_so guids images shapes out p pools is.array is.shapes is.out rewind is.new refusal are it.led it.are.there once truly;
     back = λ disks back order rewind array new its_shapes its_out returned ordered truly starts given count safe.
         let are = is_arranged g pool vdevs images shapes out disks order rewind array its_shapes its_out it.are returned ordered truly in
         let many : length new.starts ≡ length images = ap length starts ∙ count_so are in

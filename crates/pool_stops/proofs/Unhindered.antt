@@ -1,5 +1,6 @@
 -- Opens that nothing hinders are refused for want of memory alone.
-use Rattle.std.proofs.Common.{ℕ, zero, suc, ◌≡◌, ◌⊎◌, inl, inr, ⊎_elim, ◌+◌, ◌<◌, ◌≤◌, Bool, true, false, List, [], ◌∷◌, length, map, Contains, Option, refl, sym, ap, subst, ◌∙◌, arith, true≢false, if◌then◌else◌, nat_le, ◌&&◌}
+use Rattle.std.proofs.Common.{ℕ, zero, suc, ◌≡◌, ◌⊎◌, inl, inr, ⊎_elim, ◌+◌, ◌<◌, ◌≤◌, Bool, true, false, List, [], ◌∷◌, length, map, Contains, Option, refl, sym, ap, subst, ◌∙◌, arith, true≢false, if◌then◌else◌, nat_le, ◌&&◌, ◌||◌}
+use Rattle.std.specs.List.{list_any}
 use Rattle.pool_model.specs.Refusals.{greatest}
 use Rattle.std.proofs.lemmas.Bool.Decides.{nat_tests}
 use Rattle.model_disk.specs.Joint.{Disks, JointCall, content, failed_since}
@@ -14,6 +15,7 @@ use Rattle.block_store.specs.Releases.{copies_of_all}
 use Rattle.block_store.specs.Spaces.{VdevSpace}
 use Rattle.block_store.specs.Store.{is_out}
 use Rattle.disk_set.specs.declared.stale.GroupSpan.{GroupSpan}
+use Rattle.block_store.specs.declared.refusal.Refusal.TheVariants.{DiskFault}
 use Rattle.block_store.specs.declared.shape.VdevShape.{VdevShape}
 use Rattle.block_pointer.specs.declared.block.Block.{Block}
 use Rattle.pool_create.proofs.SnapshotsReadings.{roots_spell_one_pool}
@@ -28,7 +30,7 @@ use Rattle.pool_create.specs.Reopened.{AreMisplaced}
 use Rattle.pool_create.specs.OpenCauses.{of_root}
 use Rattle.pool_create.specs.Held.{HoldOver}
 use Rattle.pool_create.specs.OpenOpening.{AreClaimedThrough, AreReadThrough, IsCauseOfClaim, IsCauseOfReading, IsReadMisplaced, IsRootUnread, IsSurveyRefused}
-use Rattle.pool_create.specs.Roots.{IsRefusedAgain, IsRootRefused, IsSmallRoot, RootRefuses}
+use Rattle.pool_create.specs.Roots.{IsRefusedAgain, IsRefusedAtOnce, IsRootRefused, IsSmallRoot, RootRefuses, are_wrong, told_as}
 use Rattle.pool_create.specs.Trees.{IsTreeOf}
 use Rattle.pool_create.specs.Words.{most_blocks, vdevs_in}
 use Rattle.pool_create.specs.OpenRefusal.{Refusal}
@@ -48,6 +50,8 @@ use Rattle.pool_slots.proofs.OpenSteps.{cause_of, found_on}
 use Rattle.model_disk.proofs.RunLemmas.{Makes-none}
 use Rattle.pool_slots.proofs.Phases.{none_same}
 use Rattle.pool_slots.proofs.ReadRuns.{reads_made}
+use Rattle.space_map_objects.specs.declared.refusal.Refusal.{Refusal as RootRefusal}
+use Rattle.space_map_objects.specs.declared.refusal.Refusal.TheVariants.{Unread}
 use Rattle.uberblock_ring.proofs.Ranks.{ranks_through}
 use Rattle.uberblock_ring.specs.Ranking.{IsRewound, RanksUpTo}
 use Rattle.uberblock_ring.specs.declared.uberblock.Uberblock.{Uberblock}
@@ -197,6 +201,19 @@ survey_case old new shapes out p pools refusal led free (inl (slots.UsedUp, same
 
 -- ---- the root
 
+none_is_any : (out : List Bool) → ((disk : ℕ) → is_out out disk ≡ false) → list_any (λ (is : Bool). is) out ≡ false
+none_is_any [] none = refl
+none_is_any (flag ∷ out) none = ap (λ (first : Bool). first || list_any (λ (is : Bool). is) out) (none 0) ∙ none_is_any out (λ disk. none (suc disk))
+
+-- with no disk out a root is refused for its own cause
+told_itself : (out : List Bool) (cause : RootRefusal) → ((disk : ℕ) → is_out out disk ≡ false) → told_as out cause ≡ cause
+told_itself out cause none = told (are_wrong cause) (list_any (λ (is : Bool). is) out) (none_is_any out none)
+  where
+    told : (wrong any : Bool) → any ≡ false → (if wrong && any then Unread DiskFault else cause) ≡ cause
+    told true true away = absurd (true≢false away)
+    told true false away = refl
+    told false any away = refl
+
 -- what the root of an uberblock leads to, over these disks
 record AtRoot (disks : Disks) (shapes : List VdevShape) (out : List Bool) (pool : PlainPool) (u : Uberblock) : Type 0 where
   pub stored : Contents
@@ -226,15 +243,15 @@ at_root old surveyed new shapes out p pools s led free makes honest is =
     } in
     subst (λ (u : Uberblock). AtRoot surveyed shapes out (pools s.taken) u) (sym says.claimed) here
 
-root_case : LossesAreNotTolerable → (old surveyed new : Disks) (shapes : List VdevShape) (out : List Bool) (p : Possible) (pools : Uberblock → PlainPool) (refusal : Refusal)
+root_case : LossesAreNotTolerable → (guids : List ℕ) (old surveyed new : Disks) (shapes : List VdevShape) (out : List Bool) (p : Possible) (pools : Uberblock → PlainPool) (refusal : Refusal)
     → LeadToWholePools old shapes out p pools → IsFree old new shapes out → Makes no_write old surveyed → Makes no_write surveyed new
-    → IsRootUnread old surveyed new shapes out 0 refusal → refusal ≡ NoMemory
-root_case law old surveyed new shapes out p pools refusal led free makes reads unread =
+    → IsRootUnread guids old surveyed new shapes out 0 refusal → refusal ≡ NoMemory
+root_case law guids old surveyed new shapes out p pools refusal led free makes reads unread =
     let honest : IsHonestSince old surveyed = honest_within no_write old old surveyed new (Makes-none no_write old) reads free.honest in
     let later : IsHonestSince surveyed new = honest_within no_write old surveyed new new makes (Makes-none no_write new) free.honest in
     let at = at_root old surveyed new shapes out p pools unread.s led free makes honest unread.is in
     let u : Uberblock = unread.s.claimed in
-    let at_once : RootRefuses surveyed new shapes out [] u.group u.root (most_blocks shapes) unread.cause → of_root unread.cause ≡ NoMemory = λ refuses. ⊎_elim
+    let at_once : IsRefusedAtOnce surveyed new shapes out u.group u.root (most_blocks shapes) unread.cause → of_root unread.cause ≡ NoMemory = λ told. ⊎_elim
     (λ (bad, not). absurd (not (subst (λ (starts : List (List ℕ)). MayBeOpened starts shapes out) (sym makes.starts) free.may)))
     (λ (it : IsRootRefused surveyed new shapes out [] u.group u.root (most_blocks shapes) unread.cause).
     let small : IsSmallRoot at.stored shapes u.group u.root (pools unread.s.taken) (most_blocks shapes) = record {
@@ -250,21 +267,22 @@ root_case law old surveyed new shapes out p pools refusal led free makes reads u
     let here : HasFailedOn surveyed new disk = subst (λ (b : Disks). P surveyed b) it.now (subst (λ (a : Disks). P a it.later.disks) it.over.disks_are failed) in
     free.none_failed disk (fails_later no_write old surveyed new makes disk here))
     (it.whole at.stored (pools unread.s.taken) at.hold small later))
-    refuses in
+    (subst (λ (cause : RootRefusal). RootRefuses surveyed new shapes out [] u.group u.root (most_blocks shapes) cause) (sym (told.told ∙ told_itself out told.cause free.none))
+    told.refused) in
     let memory : of_root unread.cause ≡ NoMemory = ⊎_elim at_once
-    (λ (again : IsRefusedAgain surveyed new shapes out u.group u.root (most_blocks shapes) unread.cause).
-    absurd (never_again surveyed new shapes out u.group u.root (most_blocks shapes) unread.cause again at.stored (pools unread.s.taken) at.hold at.spells at.untouched later))
+    (λ (again : IsRefusedAgain guids surveyed new shapes out u.group u.root (most_blocks shapes) unread.cause).
+    absurd (never_again guids surveyed new shapes out u.group u.root (most_blocks shapes) unread.cause again at.stored (pools unread.s.taken) at.hold at.spells at.untouched later))
     unread.why in
     unread.same ∙ memory
 
-reading_case : LossesAreNotTolerable → (old new : Disks) (shapes : List VdevShape) (out : List Bool) (p : Possible) (pools : Uberblock → PlainPool) (refusal : Refusal)
+reading_case : LossesAreNotTolerable → (guids : List ℕ) (old new : Disks) (shapes : List VdevShape) (out : List Bool) (p : Possible) (pools : Uberblock → PlainPool) (refusal : Refusal)
     → LeadToWholePools old shapes out p pools → IsFree old new shapes out → (through : AreReadThrough out out old new)
-    → IsCauseOfReading old through.surveyed new shapes out out 0 refusal → refusal ≡ NoMemory
-reading_case law old new shapes out p pools refusal led free through (inl memory) = memory
-reading_case law old new shapes out p pools refusal led free through (inr (inl (bad, not))) = absurd (not free.may)
-reading_case law old new shapes out p pools refusal led free through (inr (inr (inl survey))) = survey_case old new shapes out p pools refusal led free survey
-reading_case law old new shapes out p pools refusal led free through (inr (inr (inr unread))) =
-    root_case law old through.surveyed new shapes out p pools refusal led free (reads_made through.absent.only) (block_reads_made through.surveyed new through.blocks.only) unread
+    → IsCauseOfReading guids old through.surveyed new shapes out out 0 refusal → refusal ≡ NoMemory
+reading_case law guids old new shapes out p pools refusal led free through (inl memory) = memory
+reading_case law guids old new shapes out p pools refusal led free through (inr (inl (bad, not))) = absurd (not free.may)
+reading_case law guids old new shapes out p pools refusal led free through (inr (inr (inl survey))) = survey_case old new shapes out p pools refusal led free survey
+reading_case law guids old new shapes out p pools refusal led free through (inr (inr (inr unread))) =
+    root_case law guids old through.surveyed new shapes out p pools refusal led free (reads_made through.absent.only) (block_reads_made through.surveyed new through.blocks.only) unread
 
 -- ---- the claim
 
@@ -280,10 +298,10 @@ never_misplaced spaces shapes stored group root pool contents same empty are map
     can_take_in spaces it.mid it.after shapes contents.maps.items (meta_blocks_of are.is) same empty sets (it.loaded sets.apart)
     (first_apart shapes (meta_blocks_of are.is) (volume_blocks_of are.is) apart) mapped.copied.meta cannot
 
-misplaced_case : (old surveyed read new : Disks) (shapes : List VdevShape) (out : List Bool) (p : Possible) (pools : Uberblock → PlainPool) (may : ℕ → ℕ → List ℕ → Type 0)
+misplaced_case : (guids : List ℕ) (old surveyed read new : Disks) (shapes : List VdevShape) (out : List Bool) (p : Possible) (pools : Uberblock → PlainPool) (may : ℕ → ℕ → List ℕ → Type 0)
     → LeadToWholePools old shapes out p pools → IsFree old new shapes out → Makes no_write old surveyed → Makes no_write surveyed read → Makes may read new
-    → IsReadMisplaced old surveyed read new shapes out 0 → ⊥
-misplaced_case old surveyed read new shapes out p pools may led free makes reads claims it =
+    → IsReadMisplaced guids old surveyed read new shapes out 0 → ⊥
+misplaced_case guids old surveyed read new shapes out p pools may led free makes reads claims it =
     let all : IsHonestSince old read = honest_within may old old read new (Makes-none no_write old) claims free.honest in
     let honest : IsHonestSince old surveyed = honest_within no_write old old surveyed read (Makes-none no_write old) reads all in
     let later : IsHonestSince surveyed read = honest_within may old surveyed read new makes claims free.honest in
@@ -299,18 +317,18 @@ misplaced_case old surveyed read new shapes out p pools may led free makes reads
     never_misplaced spaces shapes at.stored u.group u.root pool it.contents same it.why.empty are (one.3 spaces (at.mapped spaces same))
     (subst (λ (them : List Block). LieApart shapes them) one.1 at.apart) it.why.misplaced
 
-claim_case : (old new : Disks) (shapes : List VdevShape) (out : List Bool) (p : Possible) (pools : Uberblock → PlainPool) (claimed : Uberblock) (refusal : Refusal)
+claim_case : (guids : List ℕ) (old new : Disks) (shapes : List VdevShape) (out : List Bool) (p : Possible) (pools : Uberblock → PlainPool) (claimed : Uberblock) (refusal : Refusal)
     → LeadToWholePools old shapes out p pools → IsFree old new shapes out → (through : AreClaimedThrough out out claimed old new)
-    → IsCauseOfClaim old through.before.surveyed through.read new shapes out 0 refusal → refusal ≡ NoMemory
-claim_case old new shapes out p pools claimed refusal led free through (inl memory) = memory
-claim_case old new shapes out p pools claimed refusal led free through (inr (bad, misplaced)) =
-    absurd (misplaced_case old through.before.surveyed through.read new shapes out p pools _ led free (reads_made through.before.absent.only)
+    → IsCauseOfClaim guids old through.before.surveyed through.read new shapes out 0 refusal → refusal ≡ NoMemory
+claim_case guids old new shapes out p pools claimed refusal led free through (inl memory) = memory
+claim_case guids old new shapes out p pools claimed refusal led free through (inr (bad, misplaced)) =
+    absurd (misplaced_case guids old through.before.surveyed through.read new shapes out p pools _ led free (reads_made through.before.absent.only)
     (block_reads_made through.before.surveyed through.read through.before.blocks.only) through.claims.makes misplaced)
 
 -- ---- the law
 
 pub unhindered_opens_are_done : LossesAreNotTolerable → UnhinderedOpensAreDone
-unhindered_opens_are_done law old shapes out p pools refusal led there new is unhindered =
+unhindered_opens_are_done law guids old shapes out p pools refusal led there new is unhindered =
     let free : IsFree old new shapes out = record {
       none = there.none;
       may = there.may;
@@ -320,17 +338,17 @@ unhindered_opens_are_done law old shapes out p pools refusal led there new is un
       none_failed = unhindered.truly.none_failed;
     } in
     let count : length is.later ≡ length out = is.count ∙ sym free.may.flags in
-    let R : List Bool → Type 0 = λ later. (through : AreReadThrough out later old new) × IsCauseOfReading old through.surveyed new shapes out later 0 refusal in
+    let R : List Bool → Type 0 = λ later. (through : AreReadThrough out later old new) × IsCauseOfReading guids old through.surveyed new shapes out later 0 refusal in
     let C : List Bool → Type 0 = λ later. (claimed : Uberblock) × (through : AreClaimedThrough out later claimed old new) × OpenGives later 0 old claimed new
-    × IsCauseOfClaim old through.before.surveyed through.read new shapes later 0 refusal in
+    × IsCauseOfClaim guids old through.before.surveyed through.read new shapes later 0 refusal in
     ⊎_elim
     (λ (it : R is.later).
     let all = all_stay out is.later old it.0.surveyed new no_write count free.none free.none_failed it.0.absent (block_reads_made it.0.surveyed new it.0.blocks.only) in
     let at : R out = subst R all it in
-    reading_case law old new shapes out p pools refusal led free at.0 at.1)
+    reading_case law guids old new shapes out p pools refusal led free at.0 at.1)
     (λ (it : C is.later).
     let through = it.1 in
     let all = none_goes_out old new out is.later it.0 count free.none free.none_failed through in
     let at : C out = subst C all it in
-    claim_case old new shapes out p pools at.0 refusal led free at.1 at.3)
+    claim_case guids old new shapes out p pools at.0 refusal led free at.1 at.3)
     is.cause

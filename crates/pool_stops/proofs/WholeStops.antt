@@ -192,23 +192,23 @@ all_there starts calls images shapes out left there = record {
 }
 
 pub stopped_runs_reopen : RunsStopAs → StoppedRunsLeadWhole → UnhinderedOpensAreDone → StoppedRunsReopen
-stopped_runs_reopen stop lead done old mid new v between w steps replies step reply last before digest images refusal runs end none leaves back is free =
+stopped_runs_reopen stop lead done old mid new v between w steps replies step reply last before digest images refusal runs end none leaves guids back is free =
     let stops : RunStopsAs digest mid between new w = stop old mid new v between w steps replies step reply last before digest runs end none in
     let s : State = mid.commit in
     let there : AreAllThere images (shapes_of s.store.spaces) s.store.out =
     all_there s.store.disks.starts leaves.calls images (shapes_of s.store.spaces) s.store.out leaves.left (record { none = stops.at.runs.whole.none; may = stops.lies }) in
-    done (fresh images) (shapes_of s.store.spaces) s.store.out stops.at.steps.stops.p (pool_of between) refusal
+    done guids (fresh images) (shapes_of s.store.spaces) s.store.out stops.at.steps.stops.p (pool_of between) refusal
     (lead digest mid between new w images stops leaves) there back is free
 
 pub stopped_opens_reopen : StoppedOpensLeadWhole → UnhinderedOpensAreDone → StoppedOpensReopen
-stopped_opens_reopen lead done digest old new shapes out rewind p pools images refusal few all by_group one led bound four kept honest leaves back is free =
+stopped_opens_reopen lead done digest old new shapes out rewind p pools images refusal few all by_group one led bound four kept honest leaves guids back is free =
     let it = lead digest old new shapes out rewind p pools images few all.may.flags by_group one led bound four kept honest leaves in
-    done (fresh images) shapes out it.0 pools refusal it.2 (all_there old.starts leaves.calls images shapes out leaves.left all) back is free
+    done guids (fresh images) shapes out it.0 pools refusal it.2 (all_there old.starts leaves.calls images shapes out leaves.left all) back is free
 
 pub stopped_exports_reopen : StoppedExportsLeadWhole → UnhinderedOpensAreDone → StoppedExportsReopen
-stopped_exports_reopen lead done digest core v last before exported new images refusal running begun leaves back is free =
+stopped_exports_reopen lead done digest core v last before exported new images refusal running begun leaves guids back is free =
     let s : State = core.commit in
     let there : AreAllThere images (shapes_of s.store.spaces) s.store.out =
     all_there s.store.disks.starts leaves.calls images (shapes_of s.store.spaces) s.store.out leaves.left (record { none = running.runs.whole.none; may = running.lies }) in
-    done (fresh images) (shapes_of s.store.spaces) s.store.out (only_last last before) (pool_of v) refusal
+    done guids (fresh images) (shapes_of s.store.spaces) s.store.out (only_last last before) (pool_of v) refusal
     (lead digest core v last before exported new images running begun leaves) there back is free

@@ -54,6 +54,6 @@ pub record IsUnhindered (old new : Disks) (out : List Bool) : Type 0 where
 -- Such an open of disks that are all there and lead to whole pools, if it doesn't go back, is refused for want of memory alone.
 abbrev pub UnhinderedOpensAreDone : Type 0
 UnhinderedOpensAreDone =
-    (old : Disks) (shapes : List VdevShape) (out : List Bool) (p : Possible) (pools : Uberblock → PlainPool) (refusal : Refusal)
+    (guids : List ℕ) (old : Disks) (shapes : List VdevShape) (out : List Bool) (p : Possible) (pools : Uberblock → PlainPool) (refusal : Refusal)
     → LeadToWholePools old shapes out p pools → AreAllThere old.starts shapes out
-    → (back : Disks) → IsNotOpenedOver old shapes out 0 back refusal → IsUnhindered old back out → refusal ≡ NoMemory
+    → (back : Disks) → IsNotOpenedOver guids old shapes out 0 back refusal → IsUnhindered old back out → refusal ≡ NoMemory

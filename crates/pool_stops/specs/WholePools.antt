@@ -54,7 +54,7 @@ StoppedRunsReopen =
     (before : List Uberblock) (digest : List ℕ) (images : List (List ℕ)) (refusal : Refusal) → IsRunningAs digest old v last before
     → IsLastStep old mid new v between w steps replies step reply → NoneIsOut new.commit
     → LeavesImages mid.commit.store.out (disks_of mid) (disks_of new) images
-    → (back : Disks) → IsNotOpenedOver (fresh images) (shapes_of mid.commit.store.spaces) mid.commit.store.out 0 back refusal
+    → (guids : List ℕ) (back : Disks) → IsNotOpenedOver guids (fresh images) (shapes_of mid.commit.store.spaces) mid.commit.store.out 0 back refusal
     → IsUnhindered (fresh images) back mid.commit.store.out → refusal ≡ NoMemory
 
 -- So it is wherever an open of such disks is stopped,
@@ -64,7 +64,7 @@ StoppedOpensReopen =
     (images : List (List ℕ)) (refusal : Refusal) → rewind < 3 → AreAllThere old.starts shapes out → AreByGroup pools → AreOfConfig digest p
     → LeadToWholePools old shapes out p pools → LeavesConfigured out old.starts digest old.calls → AreNotFour out old
     → IsKeptThrough out rewind old new → IsHonestSince old new → LeavesImages out old new images
-    → (back : Disks) → IsNotOpenedOver (fresh images) shapes out 0 back refusal → IsUnhindered (fresh images) back out → refusal ≡ NoMemory
+    → (guids : List ℕ) (back : Disks) → IsNotOpenedOver guids (fresh images) shapes out 0 back refusal → IsUnhindered (fresh images) back out → refusal ≡ NoMemory
 
 -- and wherever an export is stopped, and once it is done.
 abbrev pub StoppedExportsReopen : Type 0
@@ -72,5 +72,5 @@ StoppedExportsReopen =
     (digest : List ℕ) (core : CoreState) (v : View) (last : Uberblock) (before : List Uberblock) (exported : Uberblock) (new : Disks) (images : List (List ℕ))
     (refusal : Refusal) → IsRunningAs digest core v last before → IsExportBegun core exported new
     → LeavesImages core.commit.store.out (disks_of core) new images
-    → (back : Disks) → IsNotOpenedOver (fresh images) (shapes_of core.commit.store.spaces) core.commit.store.out 0 back refusal
+    → (guids : List ℕ) (back : Disks) → IsNotOpenedOver guids (fresh images) (shapes_of core.commit.store.spaces) core.commit.store.out 0 back refusal
     → IsUnhindered (fresh images) back core.commit.store.out → refusal ≡ NoMemory

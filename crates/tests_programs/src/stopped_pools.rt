@@ -180,15 +180,19 @@ release 1 -> released
 sync -> committed 5
 reopen 0 -> opened 5 claim 3
 read v 0 4096 -> 0bx4096
+reopen 0 1 -> refused 2 DiskFault
+reopen 0 2 -> refused 2 DiskFault
+reopen 0 -> opened 5 claim 4
 sync -> committed 6
-reopen 0 -> opened 6 claim 4
+reopen 0 -> opened 6 claim 5
 read v 0 4096 -> 0bx4096
 out 1 -> out
 read v 0 4096 -> refused 2 DiskFault
-reopen 0 0 -> opened 6 claim 5
+reopen 0 0 -> opened 6 claim 6
 read v 0 4096 -> 0bx4096
+reopen 0 1 -> refused 2 DiskFault
 reopen 0 2 -> refused 2 DiskFault
-reopen 0 -> opened 6 claim 6
+reopen 0 -> opened 6 claim 7
 read v 0 4096 -> 0bx4096";
 
 /// Behind a pool at group 8, rows that stop commits.

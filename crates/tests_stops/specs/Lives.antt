@@ -46,9 +46,9 @@ OpensWell old shapes out claimed core =
     → ((disk : ℕ) → is_out out disk ≡ false) → NamesConfigOf claimed core → AreSound old (disks_of core) → IsOpenedWell p pools shapes out 0 claimed core
 
 -- one that was not, and that nothing hindered, lacked memory, if its disks led to whole pools
-abbrev pub IsRefusedWell : Disks → List VdevShape → List Bool → Disks → Refusal → Type 0
-IsRefusedWell old shapes out back refusal =
-    IsNotOpenedAtLast old shapes out 0 back refusal × ((p : Possible) (pools : Uberblock → PlainPool) → LeadToWholePools old shapes out p pools
+abbrev pub IsRefusedWell : List ℕ → Disks → List VdevShape → List Bool → Disks → Refusal → Type 0
+IsRefusedWell guids old shapes out back refusal =
+    IsNotOpenedAtLast guids old shapes out 0 back refusal × ((p : Possible) (pools : Uberblock → PlainPool) → LeadToWholePools old shapes out p pools
     → AreAllThere old.starts shapes out → IsUnhindered old back out → refusal ≡ NoMemory)
 
 -- where a pool was found on the disks, a store may be opened over them

@@ -1,6 +1,8 @@
 //! Pools that run, by what the calls promise that make and open them.
 ghost use Rattle.std.specs.Prelude.{◌≡◌, length, IfErr, IfOk};
 ghost use Rattle.pool_create.specs.CoreStateOf.{state_of};
+ghost use Rattle.stale_disks.specs.Rules.{guids_in};
+ghost use Rattle.vdev_label.specs.Plain.{config_view};
 ghost use Rattle.tests_stops.specs.Lives.{IsRefusedAgain, IsRefusedWell, OpensWell, RunsAtFirst};
 
 use crate::pools::{DISK_BYTES, config};
@@ -47,7 +49,8 @@ fn reopened(
     ensures opened { IfOk result (λ opened.
         OpensWell disks shapes.now out.items opened.uberblock (state_of opened.core)) }
     ensures refused { IfErr result (λ failed.
-        IsRefusedWell disks shapes.now out.items failed.1 failed.0) }
+        IsRefusedWell (guids_in (config_view config.now.value))
+        disks shapes.now out.items failed.1 failed.0) }
 {
     unfailing_opens_claim_once();
     led_disks_open();

@@ -7,14 +7,16 @@ use Rattle.pool_core.specs.StateOf.{state_of}
 use Rattle.pool_open.specs.Opening.{IsOpenedOver}
 use Rattle.pool_open.specs.Retried.{IsAttempt, IsFailedClaim, IsNotOpenedAtLast, IsOpenedAtLast}
 use Rattle.pool_open.specs.Words.{vdevs_in}
+use Rattle.stale_disks.specs.Rules.{guids_in}
+use Rattle.vdev_label.specs.Plain.{config_view}
 use Rattle.pool_open.proofs.Retried.{fewer_left, labels_left, laid_left, may_left, opened_first, opened_next, refused_first, refused_next, refused_with_few}
 use Rattle.pool_open.proofs.attempts.+open_left.Goals as goal
 
 pub returns-in_err-pool-clause-refused : goal.returns-in_err-pool-clause-refused
 returns-in_err-pool-clause-refused g t c =
     let failed = c.in_err-pool.field-0.0 in
-    if_err_is c.from_residual.result failed (λ f. IsNotOpenedAtLast c.args.disks c.args.shapes.now c.args.out.items c.args.rewind f.1 f.0) c.from_residual.ensures.1
-    (refused_first c.args.disks c.args.shapes.now c.args.out.items c.args.rewind failed.1 failed.0 c.in_err-pool.ensures.refused)
+    if_err_is c.from_residual.result failed (λ f. IsNotOpenedAtLast (guids_in (config_view c.args.config.now.value)) c.args.disks c.args.shapes.now c.args.out.items c.args.rewind f.1 f.0) c.from_residual.ensures.1
+    (refused_first (guids_in (config_view c.args.config.now.value)) c.args.disks c.args.shapes.now c.args.out.items c.args.rewind failed.1 failed.0 c.in_err-pool.ensures.refused)
 
 pub returns-in-Opened-clause-opened : goal.returns-in-Opened-clause-opened
 returns-in-Opened-clause-opened g t c =
@@ -26,7 +28,7 @@ pub returns-then-not-are_tolerable-clause-refused : goal.returns-then-not-are_to
 returns-then-not-are_tolerable-clause-refused g t c =
     let it : IsFailedClaim c.args.disks c.args.shapes.now c.args.out.items c.args.rewind c.in-ClaimFailed.disks c.in-ClaimFailed.out.items =
     subst (IsAttempt g.D.Disk c.args.disks c.args.shapes.now c.args.out.items c.args.rewind) c.in-ClaimFailed.is c.in_ok-pool.ensures.attempted in
-    refused_with_few c.args.disks c.args.shapes.now c.args.out.items c.args.rewind c.in-ClaimFailed.disks c.in-ClaimFailed.out.items it
+    refused_with_few (guids_in (config_view c.args.config.now.value)) c.args.disks c.args.shapes.now c.args.out.items c.args.rewind c.in-ClaimFailed.disks c.in-ClaimFailed.out.items it
     (ap (λ (xs : List Bool). is_tolerable (vdevs_in c.args.shapes.now) (is_out xs)) (sym c.deref.ensures.value) ∙ sym c.are_tolerable.ensures ∙ c.if-not-are_tolerable.true)
 
 pub open_left-requires : goal.open_left-requires
@@ -49,7 +51,7 @@ pub returns-else-not-are_tolerable-clause-refused : goal.returns-else-not-are_to
 returns-else-not-are_tolerable-clause-refused g t c =
     let it : IsFailedClaim c.args.disks c.args.shapes.now c.args.out.items c.args.rewind c.in-ClaimFailed.disks c.in-ClaimFailed.out.items =
     subst (IsAttempt g.D.Disk c.args.disks c.args.shapes.now c.args.out.items c.args.rewind) c.in-ClaimFailed.is c.in_ok-pool.ensures.attempted in
-    IfErr-weaker c.open_left.result (λ failed. IsNotOpenedAtLast c.in-ClaimFailed.disks c.args.shapes.now c.in-ClaimFailed.out.items c.args.rewind failed.1 failed.0)
-    (λ failed. IsNotOpenedAtLast c.args.disks c.args.shapes.now c.args.out.items c.args.rewind failed.1 failed.0)
-    (λ failed is. refused_next c.args.disks c.args.shapes.now c.args.out.items c.args.rewind c.in-ClaimFailed.disks c.in-ClaimFailed.out.items failed.1 failed.0 it is)
+    IfErr-weaker c.open_left.result (λ failed. IsNotOpenedAtLast (guids_in (config_view c.args.config.now.value)) c.in-ClaimFailed.disks c.args.shapes.now c.in-ClaimFailed.out.items c.args.rewind failed.1 failed.0)
+    (λ failed. IsNotOpenedAtLast (guids_in (config_view c.args.config.now.value)) c.args.disks c.args.shapes.now c.args.out.items c.args.rewind failed.1 failed.0)
+    (λ failed is. refused_next (guids_in (config_view c.args.config.now.value)) c.args.disks c.args.shapes.now c.args.out.items c.args.rewind c.in-ClaimFailed.disks c.in-ClaimFailed.out.items failed.1 failed.0 it is)
     c.open_left.ensures.refused

@@ -9,7 +9,10 @@ use Rattle.pool_slots.proofs.Results.{if_err_is}
 use Rattle.uberblock_ring.specs.declared.uberblock.Uberblock.{Uberblock}
 use Rattle.pool_open.specs.Opening.{AreMisplacedOver, IsNotOpenedOver, IsOpenedOver}
 use Rattle.pool_open.specs.declared.refusal.Refusal.TheVariants.{NoMemory, BadPointer}
+use Rattle.stale_disks.specs.Rules.{guids_in}
+use Rattle.vdev_label.specs.Plain.{config_view}
 use Rattle.pool_open.proofs.FailedCalls.{failed_in_use}
+use Rattle.pool_open.proofs.Knowing.{missed_by}
 use Rattle.pool_open.proofs.Stages.{AreBegun, AreDone, IsMadeCore, claim_fails, opened_over, refused_by_core, surveyed_of}
 use Rattle.pool_open.proofs.attempts.open_once.Goals as goal
 
@@ -36,9 +39,10 @@ returns-in_err-core-in-Ok-clause-refused g c =
     let gives = subst G c.deref.ensures.value c.in-Ok.ensures.opened in
     let W : List Bool → Type 0 = λ xs. (cause ≡ NoMemory) ⊎ ((cause ≡ BadPointer) × AreMisplacedOver new c.args.shapes.now xs root.stale.items root.contents) in
     let why = subst W c.deref-in-Ok.ensures.value c.in_err-core-in-Ok.ensures.refused in
-    if_err_is c.from_residual-in_err-core-in-Ok.result failed (λ f. IsNotOpenedOver c.args.disks c.args.shapes.now c.args.out.items c.args.rewind f.1 f.0) c.from_residual-in_err-core-in-Ok.ensures.1
-    (subst (λ (d : Disks). IsNotOpenedOver c.args.disks c.args.shapes.now c.args.out.items c.args.rewind d cause) (sym c.in_err-core-in-Ok.ensures.back)
-    (refused_by_core c.args.out.items later c.args.rewind c.args.disks it.surveyed read new c.args.shapes.now s root.contents root.stale.items cause c.requires.rewind are it.blocks begun gives it.root why))
+    if_err_is c.from_residual-in_err-core-in-Ok.result failed (λ f. IsNotOpenedOver (guids_in (config_view c.args.config.now.value)) c.args.disks c.args.shapes.now c.args.out.items c.args.rewind f.1 f.0) c.from_residual-in_err-core-in-Ok.ensures.1
+    (subst (λ (d : Disks). IsNotOpenedOver (guids_in (config_view c.args.config.now.value)) c.args.disks c.args.shapes.now c.args.out.items c.args.rewind d cause) (sym c.in_err-core-in-Ok.ensures.back)
+    (refused_by_core (guids_in (config_view c.args.config.now.value)) c.args.out.items later c.args.rewind c.args.disks it.surveyed read new c.args.shapes.now s root.contents root.stale.items cause c.requires.rewind are it.blocks begun gives it.root
+    (missed_by later s.claimed.group root c.args.config.now.value c.in_ok-read.ensures.config c.in_ok-read.ensures.known) why))
 
 pub returns-in_ok-core-in-Ok-clause-attempted : goal.returns-in_ok-core-in-Ok-clause-attempted
 returns-in_ok-core-in-Ok-clause-attempted g c =

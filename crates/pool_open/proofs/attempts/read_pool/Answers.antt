@@ -4,12 +4,14 @@ use Rattle.pool_open.specs.Opening.{IsNotOpenedOver}
 use Rattle.pool_open.specs.Known.{IsKnownBy}
 use Rattle.pool_open.specs.Roots.{AreReadBeside, IsKnownRoot, IsRootNotKnown}
 use Rattle.pool_open.specs.Words.{most_blocks}
+use Rattle.stale_disks.specs.Rules.{guids_in}
+use Rattle.vdev_label.specs.Plain.{config_view}
 use Rattle.pool_open.proofs.Stages.{AreSurveyed, refused_by_root, refused_by_survey}
 use Rattle.pool_open.proofs.attempts.read_pool.Goals as goal
 
 pub returns-in-Err-clause-refused : goal.returns-in-Err-clause-refused
 returns-in-Err-clause-refused g c =
-    refused_by_survey c.args.out.items c.survey_disks.new.out.items c.args.rewind c.args.disks c.survey_disks.new.disks c.args.shapes.now c.in-Err.refusal
+    refused_by_survey (guids_in (config_view c.args.config.now.value)) c.args.out.items c.survey_disks.new.out.items c.args.rewind c.args.disks c.survey_disks.new.disks c.args.shapes.now c.in-Err.refusal
     c.survey_disks.ensures.absent c.survey_disks.ensures.count c.in-Err.ensures.refused
 
 pub returns-in-Err-read_known-clause-refused : goal.returns-in-Err-read_known-clause-refused
@@ -25,11 +27,11 @@ returns-in-Err-read_known-clause-refused g c =
       whole = c.in-Ok.ensures.whole;
       is = c.in-Ok.ensures.surveyed;
     } in
-    let W : List Bool → Uberblock → Type 0 = λ xs u. IsRootNotKnown surveyed new c.args.shapes.now xs u.group u.root (most_blocks c.args.shapes.now) cause in
+    let W : List Bool → Uberblock → Type 0 = λ xs u. IsRootNotKnown (guids_in (config_view c.args.config.now.value)) surveyed new c.args.shapes.now xs u.group u.root (most_blocks c.args.shapes.now) cause in
     let unread = subst (λ (xs : List Bool). W xs s.claimed) c.deref.ensures.value
     (subst (λ (u : Uberblock). W c.deref.result.now u) c.claimed-taken.ensures c.in-Err-read_known.ensures.refused) in
-    subst (IsNotOpenedOver c.args.disks c.args.shapes.now c.args.out.items c.args.rewind new) (sym c.from.ensures)
-    (refused_by_root c.args.out.items later c.args.rewind c.args.disks surveyed new c.args.shapes.now s cause are unread.only unread.why)
+    subst (IsNotOpenedOver (guids_in (config_view c.args.config.now.value)) c.args.disks c.args.shapes.now c.args.out.items c.args.rewind new) (sym c.from.ensures)
+    (refused_by_root (guids_in (config_view c.args.config.now.value)) c.args.out.items later c.args.rewind c.args.disks surveyed new c.args.shapes.now s cause are unread.only unread.why)
 
 pub returns-in-Ok-read_known-clause-read : goal.returns-in-Ok-read_known-clause-read
 returns-in-Ok-read_known-clause-read g c =

@@ -2,6 +2,8 @@ use Rattle.std.proofs.Common.{List, refl, subst}
 use Rattle.block_store.specs.declared.shape.VdevShape.{VdevShape}
 use Rattle.pool_core.specs.StateOf.{state_of}
 use Rattle.pool_open.specs.Retried.{IsNotOpenedAtLast, IsOpenedAtLast}
+use Rattle.stale_disks.specs.Rules.{guids_in}
+use Rattle.vdev_label.specs.Plain.{config_view}
 use Rattle.pool_open.proofs.handed_in.open.Goals as goal
 
 pub returns-in-Ok-open_over-clause-opened : goal.returns-in-Ok-open_over-clause-opened
@@ -55,6 +57,6 @@ returns-clause-refused g c =
         handed = c.in-Ok.ensures.found.handed;
       };
       new = new;
-      refused = subst (λ (s : List VdevShape). IsNotOpenedAtLast c.new.result s found.out.items c.args.rewind new refusal) c.deref.ensures.value c.in-Err-open_over.ensures.refused;
+      refused = subst (λ (s : List VdevShape). IsNotOpenedAtLast (guids_in (config_view found.config.value)) c.new.result s found.out.items c.args.rewind new refusal) c.deref.ensures.value c.in-Err-open_over.ensures.refused;
       given = record { members = c.into_disks.result.items; starts = c.into_disks.ensures.starts; calls = c.into_disks.ensures.calls; given = c.restore.ensures };
     }

@@ -1,16 +1,31 @@
-use Rattle.std.proofs.Common.{◌≡◌, ◌∙◌, Option, List, [], ◌∷◌, length, inr, refl, subst, sym, ap, arith}
+use Rattle.std.proofs.Common.{◌≡◌, ◌∙◌, Option, List, [], ◌∷◌, length, inl, inr, refl, subst, sym, ap, arith}
 use Rattle.std.proofs.lemmas.Bool.Decides.{nat_tests}
 use Rattle.meta_objset.specs.declared.stale_spans.StaleSpan.{StaleSpan}
 use Rattle.std.proofs.lemmas.Result.{IfErr-weaker, IfOk-weaker}
 use Rattle.disk_set.specs.declared.stale.GroupSpan.{GroupSpan}
 use Rattle.raidz_io.proofs.Written.{IfOk-both}
-use Rattle.pool_open.specs.Roots.{IsKnownRoot}
+use Rattle.pool_slots.proofs.Results.{if_err_is}
+use Rattle.stale_disks.specs.Rules.{guids_in}
+use Rattle.vdev_label.specs.Plain.{config_view}
+use Rattle.vdev_label.specs.declared.label.Config.{Config}
+use Rattle.pool_open.specs.Roots.{IsKnownRoot, IsNotReadAgain, IsRootNotKnown}
+use Rattle.pool_open.specs.Words.{most_blocks}
 use Rattle.pool_open.proofs.Knowing.{beside_on, known_again, known_at_once, known_none}
 use Rattle.pool_open.proofs.known.read_known.Goals as goal
 
 no_rows : (rows : List StaleSpan) → length rows ≡ 0 → rows ≡ []
 no_rows [] none = refl
 no_rows (row ∷ rows) none = absurd (omega (arith, none))
+
+pub returns-in_err-first-clause-refused : goal.returns-in_err-first-clause-refused
+returns-in_err-first-clause-refused g c =
+    let failed = c.in_err-first.field-0.0 in
+    let it = c.in_err-first.ensures.refused in
+    if_err_is c.from_residual.result failed
+    (λ f.
+    IsRootNotKnown (guids_in (config_view c.args.config.now.value)) c.args.disks f.1 c.args.shapes.now c.args.out.now c.args.taken.now.group c.args.taken.now.root
+    (most_blocks c.args.shapes.now) f.0) c.from_residual.ensures.1
+    (record { only = it.only; why = elim it.why [ inl memory ↦ inl memory | inr once ↦ inr (inl once) ] })
 
 pub returns-clause-only : goal.returns-clause-only
 returns-clause-only g c =
@@ -39,7 +54,8 @@ returns-clause-refused g c =
         after = why.0;
         first = first.contents;
         tells = record { read = c.in_ok-first.ensures.contents; some = λ none. absurd (grind (arith, nat_tests, c.is_empty.ensures, c.if-is_empty.false, ap length (c.rows.ensures.value ∙ none))) };
-        why = why.1;
+        why = subst (λ (config : Config). IsNotReadAgain (guids_in (config_view config)) first.disks failed.1 c.args.shapes.now c.args.out.now c.args.taken.now.group
+            c.args.taken.now.root (most_blocks c.args.shapes.now) first.contents failed.0) c.in-Ok.ensures why.1;
       }));
     })
     c.read_again.ensures.refused

@@ -1,6 +1,8 @@
 use Rattle.std.proofs.Common.{◌∙◌, sym}
 use Rattle.pool_create.specs.CoreStateOf.{state_of}
 use Rattle.pool_create.specs.Retried.{IsNotOpenedAtLast, IsOpenedAtLast}
+use Rattle.stale_disks.specs.Rules.{guids_in}
+use Rattle.vdev_label.specs.Plain.{config_view}
 use Rattle.tests_stops.specs.Lives.{IsRefusedWell, OpensWell}
 use Rattle.tests_stops.proofs.Opened.{if_err, if_ok}
 use Rattle.tests_stops.proofs.lives.reopened.Goals as goal
@@ -20,11 +22,12 @@ pub returns-clause-refused : goal.returns-clause-refused
 returns-clause-refused c =
     let shapes = c.args.shapes.now in
     let out = c.args.out.items in
-    if_err c.open_over.result (λ failed. IsNotOpenedAtLast c.args.disks shapes out 0 failed.1 failed.0) (λ failed. IsRefusedWell c.args.disks shapes out failed.1 failed.0)
+    let guids = guids_in (config_view c.args.config.now.value) in
+    if_err c.open_over.result (λ failed. IsNotOpenedAtLast guids c.args.disks shapes out 0 failed.1 failed.0) (λ failed. IsRefusedWell guids c.args.disks shapes out failed.1 failed.0)
     (λ failed is. (
       is,
       λ p pools led there free.
-          let once = c.unfailing_opens_claim_once.ensures.refused c.args.disks shapes out 0 failed.1 failed.0 is free.truly.none_failed in
-          c.unhindered_opens_are_done.ensures c.args.disks shapes out p pools failed.0 led there failed.1 once free,
+          let once = c.unfailing_opens_claim_once.ensures.refused guids c.args.disks shapes out 0 failed.1 failed.0 is free.truly.none_failed in
+          c.unhindered_opens_are_done.ensures guids c.args.disks shapes out p pools failed.0 led there failed.1 once free,
     ))
     c.open_over.ensures.refused
