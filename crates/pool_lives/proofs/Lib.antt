@@ -8,3 +8,4 @@ mod Refused
 mod Rising
 mod Handing
 mod Lives
+mod Without

@@ -1,5 +1,5 @@
 -- A refused open of which no call failed had all disks in use to its end.
-use Rattle.std.proofs.Common.{◌≡◌, inl, inr, ⊎_elim, ◌⊎◌, ℕ, zero, suc, ◌&&◌, Bool, true, false, nat_le, List, [], ◌∷◌, ◌++◌, length, Contains, refl, sym, ap, subst, ◌∙◌, arith, append_assoc}
+use Rattle.std.proofs.Common.{◌≡◌, ⊎_elim, ℕ, suc, ◌&&◌, Bool, true, false, nat_le, List, [], ◌∷◌, ◌++◌, length, Contains, sym, ap, subst, ◌∙◌, arith, append_assoc}
 use Rattle.std.specs.Prelude.{if◌then◌else◌}
 use Rattle.model_disk.specs.Call.{is_failed}
 use Rattle.model_disk.specs.Joint.{Disks, JointCall, failed_since}
@@ -8,27 +8,7 @@ use Rattle.pool_create.specs.OpenOpening.{AreReadThrough, IsNotOpenedOver}
 use Rattle.pool_create.specs.OpenRefusal.{Refusal}
 use Rattle.pool_slots.specs.Failures.{HasFailedOn}
 use Rattle.pool_slots.specs.Present.{GoOut}
-use Rattle.pool_slots.specs.Slots.{InUse}
-
--- ---- flags
-
-is_used : (out : List Bool) (which : ℕ) → InUse out which ⊎ ¬ InUse out which
-is_used [] which = inr (λ used. absurd (cc used))
-is_used (true ∷ out) zero = inr (λ used. absurd (cc used))
-is_used (false ∷ out) zero = inl refl
-is_used (flag ∷ out) (suc which) = is_used out which
-
-same_use : (out later : List Bool) → length later ≡ length out → ((which : ℕ) → InUse later which → InUse out which)
-    → ((which : ℕ) → InUse out which → InUse later which) → later ≡ out
-same_use [] [] count stay still = refl
-same_use [] (b ∷ later) count stay still = absurd (cc)
-same_use (a ∷ out) [] count stay still = absurd (cc)
-same_use (true ∷ out) (false ∷ later) count stay still = let used = stay 0 refl in absurd (cc used)
-same_use (false ∷ out) (true ∷ later) count stay still = let used = still 0 refl in absurd (cc used)
-same_use (true ∷ out) (true ∷ later) count stay still =
-    ap (λ flags. true ∷ flags) (same_use out later (omega (arith, count)) (λ which. stay (suc which)) (λ which. still (suc which)))
-same_use (false ∷ out) (false ∷ later) count stay still =
-    ap (λ flags. false ∷ flags) (same_use out later (omega (arith, count)) (λ which. stay (suc which)) (λ which. still (suc which)))
+use Rattle.pool_stops.proofs.Unhindered.{is_used, same_use}
 
 -- ---- calls that failed
 

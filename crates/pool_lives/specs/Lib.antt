@@ -1,3 +1,4 @@
 pub mod Lives
 pub mod Tales
 pub mod Lasting
+pub mod Without

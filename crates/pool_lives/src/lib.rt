@@ -2,6 +2,7 @@
 #![tactic(auto)]
 
 ghost use Rattle.pool_lives.specs.Lasting.{LivesGoOn, LivesLoseNothing};
+ghost use Rattle.pool_lives.specs.Without.{LivesOpenWithout};
 
 use model_disk::Disk;
 use pool_create::unfailing_opens_claim_once;
@@ -9,7 +10,8 @@ use pool_model::headline_of_runs;
 use pool_stops::{
     created_pools_are_on_their_disks, created_pools_run_as, disks_may_be_handed_in,
     disks_may_be_handed_on, found_disks_may_be_opened, none_was_out, own_pools_open_again,
-    steps_stay_on_their_disks, stopped_exports_lead_to_own_pools, stopped_steps_lead_to_own_pools,
+    own_pools_open_without, steps_stay_on_their_disks, stopped_exports_lead_to_own_pools,
+    stopped_steps_lead_to_own_pools,
 };
 
 /// **No life of a pool loses anything that was committed.** A pool is made by `create`. Then `run` takes steps, `export` puts it away or its disks are taken back,
@@ -32,6 +34,18 @@ pub fn lives_lose_nothing<D: Disk + Drop>()
     found_disks_may_be_opened::<D>();
     own_pools_open_again::<D>();
     disks_may_be_handed_on::<D>();
+}
+
+/// **A pool opens on some of its disks too**, whatever its life was, if that ended with all of them down: an open that doesn't go back is refused for want of
+/// memory alone, where no vdev lacks more of its disks than it has parities; and one that is done serves the pool of the group that was committed or opened
+/// last, or of one of which a slot was begun to be written since. What is run from there on is told by `run`: reads give the bytes of that pool.
+///
+/// All answers are true, and no call of the open fails.
+pub fn lives_open_without<D: Disk + Drop>()
+    ensures { LivesOpenWithout D.Disk }
+{
+    lives_lose_nothing::<D>();
+    own_pools_open_without::<D>();
 }
 
 /// With whatever happens next it is a life still; and each public call, answered or refused, is something that happens, by what it ensures. It goes on with

@@ -52,7 +52,7 @@ opens_possible may old read new shapes later rewind s core few on surveyed makes
     let Untouched : Uberblock → Type 0 = λ u. (spells : SpellsWithMaps tree.stored shapes u.group u.root (pools taken)) × (spells.0.stale ≡ []) in
     let untouched : Untouched s.claimed = subst Untouched (sym it.claim.is) ((tree.spells, tree.mapped), tree.untouched) in
     let spells : SpellsWithMaps tree.stored shapes s.claimed.group s.claimed.root (pools taken) = untouched.0 in
-    let hold : HoldOver old shapes later [] tree.stored = tree.held old refl stands in
+    let hold : HoldOver old shapes later [] tree.stored = tree.held old later refl refl (λ which used. used) stands in
     let clean = fresh tree.stored (pools taken) hold spells.0 untouched.1 honest in
     let none : core.commit.store.spans.stale ≡ [] = clean.0 in
     let configured : IsConfiguredFor s.claimed tree.stored (pools taken) =

@@ -1,5 +1,5 @@
 -- Pools that disks lead to, whatever stop they come from.
-use Rattle.std.specs.Prelude.{ℕ, ◌≡◌, Bool, List, [], length, map}
+use Rattle.std.specs.Prelude.{ℕ, ◌≡◌, Bool, List, [], length}
 use Rattle.model_disk.specs.Joint.{Disks, content}
 use Rattle.raidz_io.specs.Reads.{IsHonestSince}
 use Rattle.block_store.specs.Blocks.{Contents}
@@ -16,6 +16,7 @@ use Rattle.pool_model.specs.Pools.{PlainPool}
 use Rattle.pool_model.specs.View.{none_stale, opened_as}
 use Rattle.pool_slots.specs.Opens.{CanOpen, IsClaimOf}
 use Rattle.pool_slots.specs.Possible.{Possible, IsInReach, Trees, TreeStands}
+use Rattle.pool_slots.specs.Slots.{StayOut}
 use Rattle.uberblock_ring.specs.declared.uberblock.Uberblock.{Uberblock}
 use Rattle.volume_rules.specs.NowMoves.{IsMadeBy}
 use Rattle.pool_open.specs.Held.{HoldOver}
@@ -31,7 +32,7 @@ abbrev pub NamesConfigOf : Uberblock → CoreState → Type 0
 NamesConfigOf u core = IsStampOf (config_view (config_of core)) u.claim (stamp_of u)
 
 -- The tree below the uberblock's root is that of the pool, and has its space maps, no stale spans, and the configuration that the uberblock names: where
--- it stands on disks of these sizes, the blocks that spell the pool may be read.
+-- it stands on as many disks, or on those of them that aren't away, the blocks that spell the pool may be read.
 pub record IsTreeOf (trees : Trees) (starts : List (List ℕ)) (shapes : List VdevShape) (out : List Bool) (u : Uberblock) (pool : PlainPool) : Type 0 where
   pub stored : Contents
   pub spells : SpellsPool stored u.group u.root pool
@@ -39,7 +40,8 @@ pub record IsTreeOf (trees : Trees) (starts : List (List ℕ)) (shapes : List Vd
   pub mapped : HasItsMapsOver shapes spells
   pub configured : IsConfiguredFor u stored pool
   pub made : IsMadeBy u.group pool
-  pub held : (disks : Disks) → map length disks.starts ≡ map length starts → TreeStands trees out (content disks) u.root → HoldOver disks shapes out [] stored
+  pub held : (disks : Disks) (away : List Bool) → length disks.starts ≡ length starts → length away ≡ length out → StayOut out away
+      → TreeStands trees away (content disks) u.root → HoldOver disks shapes away [] stored
 
 -- a core represents the pool of the group that was taken, and knows of no stale spans
 pub record IsOpenedFor (p : Possible) (pools : Uberblock → PlainPool) (shapes : List VdevShape) (out : List Bool) (rewind : ℕ) (claimed : Uberblock) (core : CoreState) : Type 0 where

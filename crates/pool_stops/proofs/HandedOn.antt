@@ -15,6 +15,7 @@ use Rattle.model_disk.specs.declared.disk.Disk as disk
 use Rattle.model_disk.specs.declared.member.Member.{Member}
 use Rattle.model_disk.specs.declared.member.Member.TheVariants.{Present, Absent}
 use Rattle.pool_create.specs.OpenFinding.{AreBack, IsArrayOf}
+use Rattle.pool_labels.proofs.Lists.{at_contains}
 use Rattle.pool_members.specs.HandedIn.{AreHandedIn as ArePlaced, disk_back, disks_back, place_of_disk, places_of_disks}
 use Rattle.pool_members.specs.declared.arranging.Child.{Child}
 use Rattle.pool_members.specs.declared.handed_in.Place.{Place}
@@ -23,7 +24,6 @@ use Rattle.pool_stops.specs.Found.{AreChildren}
 use Rattle.pool_stops.specs.Handed.{AllHold, AreHandedIn, AreShown, IsHolding}
 use Rattle.pool_stops.specs.OwnReopening.{AreSafe, ArraysComeBack, ComeBack, ShownImagesAreLeft}
 use Rattle.pool_stops.proofs.Arranging.{disk_at}
-use Rattle.pool_stops.proofs.Handed.{child_at}
 use Rattle.pool_stops.proofs.Lists.{below_or, same_some}
 
 -- ---- lists
@@ -335,7 +335,7 @@ module _ {D : Type 0} where
           hold = record {
             count = sym (length-map back (bytes_shown g));
             each = λ place d at.
-                let child = child_at images handed order place is (omega (arith, slice_get_within back place d at, count)) in
+                let child = at_contains order place (is.all place (omega (arith, slice_get_within back place d at, count))) in
                 let mine = it.at child.0 place child.1 in
                 let same : mine.0 ≡ d = same_some (slice_get back place) mine.0 d mine.2 at in
                 subst (λ (x : D). IsHolding g (bytes_of given place) x) same

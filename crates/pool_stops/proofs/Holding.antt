@@ -1,5 +1,5 @@
 -- Blocks stand where what is filled stands, and plans write beside it.
-use Rattle.std.proofs.Common.{ℕ, zero, suc, ◌≡◌, ◌⊎◌, inl, inr, ◌+◌, ◌<◌, ◌≤◌, Bool, true, false, List, [], ◌∷◌, length, Some, None, Contains, refl, sym, ap, subst, ◌∙◌, arith}
+use Rattle.std.proofs.Common.{ℕ, zero, suc, ◌≡◌, ◌⊎◌, inl, inr, ◌+◌, ◌<◌, ◌≤◌, Bool, true, false, List, [], ◌∷◌, length, Some, None, Contains, true≢false, refl, sym, ap, subst, ◌∙◌, arith}
 use Rattle.std.specs.List.{slice_get}
 use Rattle.model_disk.specs.Joint.{content}
 use Rattle.raidz_io.specs.Elsewhere.{IsOfExtent}
@@ -7,15 +7,16 @@ use Rattle.raidz_io.specs.Places.{disk_of, offset_of}
 use Rattle.raidz_io.specs.Stands.{all_columns}
 use Rattle.raidz_io.proofs.Written.{size_at, slice_get_some}
 use Rattle.block_store.specs.Elsewhere.{IsForBlocks}
-use Rattle.block_store.specs.Store.{Store, is_out, is_stale, lost, missed, outs}
+use Rattle.block_store.specs.Store.{Store, is_out, is_stale, lost, missed, outs, outs_from}
 use Rattle.block_store.proofs.Lost.{lost_is_out}
-use Rattle.block_store.proofs.Outs.{out_from}
+use Rattle.block_store.proofs.Outs.{in_is_out, out_from}
 use Rattle.block_store.proofs.Sectors.{lie_in_sectors}
 use Rattle.block_store.proofs.Writing.{found_at}
 use Rattle.model_disk.specs.Contents.{covers}
 use Rattle.raidz_io.proofs.Kept.{written_of}
 use Rattle.pool_create.proofs.OpenHolding.{none_missed}
 use Rattle.std.proofs.lemmas.Bool.Decides.{nat_tests}
+use Rattle.std.proofs.lemmas.Option.{get_or_from_slice_get}
 use Rattle.pool_slots.specs.Slots.{InUse}
 use Rattle.pool_stops.specs.Filled.{is_filled}
 use Rattle.pool_stops.specs.Standing.{DueWritesAreUnfilled, FilledTreesHoldBlocks}
@@ -33,10 +34,15 @@ flag_is : (flag : Bool) → (flag ≡ true) ⊎ (flag ≡ false)
 flag_is true = inl refl
 flag_is false = inr refl
 
-used : (store : Store) (disk : ℕ) → disk < length store.out → ¬ Contains (outs store) disk → InUse store.out disk
-used store disk there present = elim (flag_is (is_out store.out disk)) [
-  | inl out ↦ absurd (present (let same : 0 + disk ≡ disk = omega arith in subst (λ (n : ℕ). Contains (outs store) n) same (out_from store.out 0 disk out)))
-  | inr not ↦ get_in_use store.out disk there not
+-- one that is in use is not out
+pub not_out : (out : List Bool) (disk : ℕ) → InUse out disk → is_out out disk ≡ false
+not_out out disk used = get_or_from_slice_get out disk false false used
+
+-- a disk that is there and not among those away is in use
+pub used_but : (away : List Bool) (disk : ℕ) → disk < length away → ¬ Contains (outs_from 0 away) disk → InUse away disk
+used_but away disk there present = elim (flag_is (is_out away disk)) [
+  | inl out ↦ absurd (present (let same : 0 + disk ≡ disk = omega arith in subst (λ (n : ℕ). Contains (outs_from 0 away) n) same (out_from away 0 disk out)))
+  | inr not ↦ get_in_use away disk there not
 ]
 
 -- where no disk missed a group, one that is lost is out
@@ -50,7 +56,7 @@ lost_are_out store birth disk fresh gone = elim (lost_is_out store birth disk go
 ]
 
 pub filled_trees_hold_blocks : FilledTreesHoldBlocks
-filled_trees_hold_blocks store stored disks root lie count fresh stores tree block bytes i extent known copy =
+filled_trees_hold_blocks store stored disks away root lie count many stay fresh stores tree block bytes i extent known copy =
     let stands = stores.held.stand block bytes i extent known copy in
     let taken = stores.placed.places block bytes i copy.place known copy.is_copy in
     record {
@@ -71,11 +77,14 @@ filled_trees_hold_blocks store stored disks root lie count fresh stores tree blo
           } in
           let filled : is_filled store.spaces disk place ≡ true = blocks_are_filled store.spaces block.property.sectors copy.place extent disk place taken copy.extent_is of in
           let for_blocks : IsForBlocks store.spaces disk place = filled_bytes_are_for_blocks store.spaces disk place filled in
-          let there : disk < length store.out = omega (arith, its_disk store.disks.starts store.spaces disk place lie.laid for_blocks, count) in
+          let there : disk < length away = omega (arith, its_disk store.disks.starts store.spaces disk place lie.laid for_blocks, count, many) in
+          let used : InUse away disk = used_but away disk there present in
           let held : content store.disks disk place ≡ slice_get column_bytes j =
-          stands.stand k column column_bytes at at' (λ gone. present (lost_are_out store block.birth disk fresh gone)) j within in
+          stands.stand k column column_bytes at at'
+          (λ gone.
+          true≢false (sym (in_is_out store disk (lost_are_out store block.birth disk fresh gone)) ∙ not_out store.out disk (stay disk used))) j within in
           let value = slice_get_some column_bytes j within in
-          tree disk place value.0 (used store disk there present)
+          tree disk place value.0 used
           (if_so (is_filled store.spaces disk place) (content store.disks disk place) None filled ∙ held ∙ value.1)
           ∙ sym value.1;
     }

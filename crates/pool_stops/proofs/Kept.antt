@@ -1,5 +1,5 @@
 -- The tree below the uberblock of a kept group, and of one that is planned.
-use Rattle.std.proofs.Common.{ℕ, suc, ◌≡◌, ⊎_elim, ◌+◌, ◌++◌, ◌<◌, Bool, true, false, List, [], ◌∷◌, length, Option, Some, None, refl, sym, ap, subst, ◌∙◌, arith}
+use Rattle.std.proofs.Common.{ℕ, zero, suc, ◌≡◌, ⊎_elim, ◌+◌, ◌++◌, ◌<◌, Bool, true, false, List, [], ◌∷◌, length, Contains, Option, Some, None, refl, sym, ap, subst, ◌∙◌, arith}
 use Rattle.std.specs.Prelude.{◌==◌, if◌then◌else◌, filter, nat_le, replicate, slice_index}
 use Rattle.model_disk.specs.Joint.{Disks, content}
 use Rattle.block_pointer.specs.Copies.{dvas}
@@ -15,7 +15,8 @@ use Rattle.block_store.specs.Places.{ArePlacesIn, IsCopy, shapes_of}
 use Rattle.block_store.specs.Places.{filled as filled_marks, planned as planned_marks}
 use Rattle.block_store.specs.Plans.{Plans}
 use Rattle.block_store.specs.Spaces.{VdevSpace}
-use Rattle.block_store.specs.Store.{Store, is_out, missed, outs, outs_from}
+use Rattle.block_store.specs.Store.{Store, is_out, lost, missed, outs, outs_from}
+use Rattle.block_store.proofs.Lost.{is_lost}
 use Rattle.block_store.proofs.Planning.{arrived, is_among, placed_lies, some_or_none, stored_by}
 use Rattle.block_store.proofs.Sectors.{lie_in_sectors}
 use Rattle.pool_create.specs.Mapped.{SpellsWithMaps}
@@ -53,7 +54,7 @@ use Rattle.pool_stops.specs.Filled.{is_filled, is_for_blocks}
 use Rattle.pool_stops.specs.Running.{IsOfKept, IsWhole}
 use Rattle.pool_stops.specs.Standing.{block_trees, filled_trees}
 use Rattle.pool_stops.proofs.Filled.{filled_for_blocks, for_blocks_picked}
-use Rattle.pool_stops.proofs.Holding.{filled_trees_hold_blocks, get_in_use}
+use Rattle.pool_stops.proofs.Holding.{filled_trees_hold_blocks, used_but}
 use Rattle.pool_stops.proofs.Standing.{its_disk}
 use Rattle.pool_stops.proofs.Trees.{if_so, is_so}
 use Rattle.pool_stops.proofs.Whole.{WholeTreeOf, is_whole, led_kept, led_root}
@@ -69,21 +70,36 @@ none_from (flag ∷ out) first none =
 pub no_outs : (s : State) → NoneIsOut s → outs s.store ≡ []
 no_outs s none = none_from s.store.out 0 none
 
--- whatever store is over these disks holds what stands on all of them
-hold_over : (store : Store) (disks : Disks) (held : Contents) → outs store ≡ [] → ((block : Block) (bytes : List ℕ) → held block ≡ Some bytes → IsWrittenAs block bytes)
+zero_at : (n k : ℕ) → slice_index (replicate {A = ℕ} n 0) k ≡ 0
+zero_at zero k = refl
+zero_at (suc n) zero = refl
+zero_at (suc n) (suc k) = zero_at n k
+
+-- whatever store is over these disks, with some away, holds what stands on the others
+hold_over : (store : Store) (disks : Disks) (away : List Bool) (held : Contents)
+    → ((block : Block) (bytes : List ℕ) → held block ≡ Some bytes → IsWrittenAs block bytes)
     → ((block : Block) (bytes : List ℕ) → held block ≡ Some bytes → ArePlacesIn store.spaces block.property.sectors (dvas block.copies))
-    → ((block : Block) (bytes : List ℕ) (i : ℕ) (extent : Extent) → held block ≡ Some bytes → IsCopy store.spaces block i extent → ExtentStands (content disks) [] extent bytes)
-    → HoldOver disks (shapes_of store.spaces) store.out [] held
-hold_over store disks held none written places stand =
-    let over : Store = record store { disks = disks; spans = record { since = replicate (length disks.starts) 0; group = 0; stale = [] } } in
-    alike_stores_hold_alike disks (shapes_of store.spaces) store.out [] held over
+    → ((block : Block) (bytes : List ℕ) (i : ℕ) (extent : Extent) → held block ≡ Some bytes → IsCopy store.spaces block i extent
+    → ExtentStands (content disks) (outs_from 0 away) extent bytes)
+    → HoldOver disks (shapes_of store.spaces) away [] held
+hold_over store disks away held written places stand =
+    let over : Store = record store { disks = disks; out = away; spans = record { since = replicate (length disks.starts) 0; group = 0; stale = [] } } in
+    let gone : (birth disk : ℕ) → Contains (outs_from 0 away) disk → Contains (lost over birth) disk =
+    λ birth disk out. is_lost over birth disk out (omega (arith, zero_at (length disks.starts) disk)) in
+    alike_stores_hold_alike disks (shapes_of store.spaces) away [] held over
     (record { disks_are = refl; shapes_are = refl; out_is = refl; since = refl; stale_is = refl })
     (record {
       blocks = written;
       places = places;
       stand = λ block bytes i extent known copy.
-          subst (λ (them : List ℕ). ExtentStands (content disks) (filter (λ disk. nat_le (slice_index over.spans.since disk) block.birth) them ++ []) extent bytes) (sym none)
-          (stand block bytes i extent known copy);
+          let stands = stand block bytes i extent known copy in
+          record {
+            layout = stands.layout;
+            columns = stands.columns;
+            is_layout = stands.is_layout;
+            are_bytes = stands.are_bytes;
+            stand = λ k column column_bytes at at' present. stands.stand k column column_bytes at at' (λ out. present (gone block.birth (disk_of extent.vdev column) out));
+          };
     })
 
 -- ---- a kept group
@@ -151,7 +167,6 @@ last_at kept = grind (arith, nat_tests)
 pub kept_tree : (s : State) (v : View) (u : Uberblock) → Backs s v → IsWhole s → IsOfKept s v u
     → WholeTreeOf (filled_trees s.store.spaces s.store.disks) s.store.disks.starts (shapes_of s.store.spaces) s.store.out u (v.pools u.group)
 kept_tree s v u backs whole of =
-    let none : outs s.store ≡ [] = no_outs s whole.none in
     let stored : Contents = backs.blocks.stored in
     let stores = stored_by s.store stored backs.blocks.planned backs.blocks.plans in
     let reached = backs.blocks.reached in
@@ -170,11 +185,9 @@ kept_tree s v u backs whole of =
           (configured_kept stored u.group u.root (group_at s.kept u.group) of.kept (v.pools u.group) (is_kept v u.group) s.stamp of.is of.root (backs.blocks.kept u.group)
           (backs.stamped u.group of.kept of.is));
       made = of.made;
-      held = λ disks same tree.
-          hold_over s.store disks stored none stores.held.blocks stores.held.places
-          (λ block bytes i extent known copy.
-          subst (λ (absent : List ℕ). ExtentStands (content disks) absent extent bytes) none
-          (filled_trees_hold_blocks s.store stored disks u.root whole.lie whole.count whole.fresh stores tree block bytes i extent known copy));
+      held = λ disks away many count stay tree.
+          hold_over s.store disks away stored stores.held.blocks stores.held.places
+          (filled_trees_hold_blocks s.store stored disks away u.root whole.lie whole.count count stay whole.fresh stores tree);
     } in
     record {
       tree = tree;
@@ -184,9 +197,9 @@ kept_tree s v u backs whole of =
 -- ---- all bytes for blocks
 
 -- they are no fewer than those that are filled
-more_stand : (s : State) (disks : Disks) (root : Block) → TreeStands (block_trees s.store.spaces s.store.disks) s.store.out (content disks) root
-    → TreeStands (filled_trees s.store.spaces s.store.disks) s.store.out (content disks) root
-more_stand s disks root tree which i value used is =
+more_stand : (s : State) (disks : Disks) (away : List Bool) (root : Block) → TreeStands (block_trees s.store.spaces s.store.disks) away (content disks) root
+    → TreeStands (filled_trees s.store.spaces s.store.disks) away (content disks) root
+more_stand s disks away root tree which i value used is =
     let so = is_so (is_filled s.store.spaces which i) (content s.store.disks which i) value is in
     tree which i value used
     (if_so (is_for_blocks s.store.spaces which i) (content s.store.disks which i) None (filled_for_blocks s.store.spaces s.store.spaces which i refl so.0) ∙ so.1)
@@ -203,16 +216,17 @@ kept_tree_too s u pool it = record {
     mapped = it.tree.mapped;
     configured = it.tree.configured;
     made = it.tree.made;
-    held = λ disks same stands. it.tree.held disks same (more_stand s disks u.root stands);
+    held = λ disks away many count stay stands. it.tree.held disks away many count stay (more_stand s disks away u.root stands);
   };
   whole = record { once = it.whole.once; apart = it.whole.apart };
 }
 
 -- what stands on all disks stands wherever all bytes for blocks do
-stands_too : (s : State) (disks : Disks) (root block : Block) (bytes : List ℕ) (i : ℕ) (extent : Extent) → IsWhole s
-    → ArePlacesIn s.store.spaces block.property.sectors (dvas block.copies) → IsCopy s.store.spaces block i extent → TreeStands (block_trees s.store.spaces s.store.disks) s.store.out (content disks) root
-    → ExtentStands (content s.store.disks) [] extent bytes → ExtentStands (content disks) [] extent bytes
-stands_too s disks root block bytes i extent whole places copy tree stands = record {
+stands_too : (s : State) (disks : Disks) (away : List Bool) (root block : Block) (bytes : List ℕ) (i : ℕ) (extent : Extent) → IsWhole s → length away ≡ length s.store.out
+    → ArePlacesIn s.store.spaces block.property.sectors (dvas block.copies) → IsCopy s.store.spaces block i extent
+    → TreeStands (block_trees s.store.spaces s.store.disks) away (content disks) root → ExtentStands (content s.store.disks) [] extent bytes
+    → ExtentStands (content disks) (outs_from 0 away) extent bytes
+stands_too s disks away root block bytes i extent whole count places copy tree stands = record {
   layout = stands.layout;
   columns = stands.columns;
   is_layout = stands.is_layout;
@@ -231,10 +245,10 @@ stands_too s disks root block bytes i extent whole places copy tree stands = rec
       let for_blocks : IsForBlocks s.store.spaces disk place =
       lie_in_sectors s.store.spaces block.property.sectors copy.place extent disk place
       (places copy.place (is_among (dvas block.copies) i copy.place copy.is_copy)).is_in copy.extent_is of in
-      let there : disk < length s.store.out = omega (arith, its_disk s.store.disks.starts s.store.spaces disk place whole.lie.laid for_blocks, whole.count) in
+      let there : disk < length away = omega (arith, its_disk s.store.disks.starts s.store.spaces disk place whole.lie.laid for_blocks, whole.count, count) in
       let value = slice_get_some column_bytes j within in
-      let was : content s.store.disks disk place ≡ Some value.0 = stands.stand k column column_bytes at at' present j within ∙ value.1 in
-      tree disk place value.0 (get_in_use s.store.out disk there (whole.none disk))
+      let was : content s.store.disks disk place ≡ Some value.0 = stands.stand k column column_bytes at at' (λ held. absurd (omega (arith, held.1))) j within ∙ value.1 in
+      tree disk place value.0 (used_but away disk there present)
       (if_so (is_for_blocks s.store.spaces disk place) (content s.store.disks disk place) None (for_blocks_picked s.store.spaces disk place for_blocks) ∙ was)
       ∙ sym value.1;
 }
@@ -288,10 +302,10 @@ plan_tree s v plan backs whole is written made good =
           (subst (λ (c : Config). IsStampOf (config_view c) s.stamp.claim s.stamp) (sym has.config) (backs.stamped s.kept.committed s.kept.last (last_at s.kept))));
       made = subst (λ (u : Uberblock). IsMadeBy u.group (pool_after v)) (sym has.uberblock.is)
           (made_by_applied v.committed (v.pools v.committed) (v.ledger (suc v.committed)) made good);
-      held = λ disks same tree.
-          hold_over s.store disks planned none plans.placed.blocks places
+      held = λ disks away many count stay tree.
+          hold_over s.store disks away planned plans.placed.blocks places
           (λ block bytes i extent known copy.
-          stands_too s disks plan.uberblock.root block bytes i extent whole (places block bytes known) copy tree
+          stands_too s disks away plan.uberblock.root block bytes i extent whole count (places block bytes known) copy tree
           (planned_stand s backs.blocks.stored planned block bytes i extent none whole.fresh written plans known copy));
     } in
     record {

@@ -32,5 +32,7 @@ mod StoppedDisks
 mod Arranging
 mod HandedOn
 mod OwnReopening
+mod Enough
 mod Fitting
 mod Begun
+mod Absent

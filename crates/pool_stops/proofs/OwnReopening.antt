@@ -53,34 +53,31 @@ use Rattle.pool_stops.proofs.Arranging.{IsArranged, after_so, children_so, is_ar
 use Rattle.pool_stops.proofs.HandedOn.{AreWithin, come_back, in_place}
 use Rattle.pool_stops.proofs.Handed.{fresh_known}
 use Rattle.pool_stops.proofs.Holding.{get_in_use}
-use Rattle.pool_stops.proofs.Unhindered.{none_goes_out}
+use Rattle.pool_stops.proofs.Unhindered.{all_are_enough, none_goes_out}
 use Rattle.pool_stops.proofs.Steps.{used_below}
 use Rattle.pool_stops.proofs.FoundDisks.{own_disks_are_found}
 
 -- ---- what such disks show
 
 -- the highest uberblock that they show is one that an open may come to
-highest_reached : (pool : PoolIdentity) (vdevs : List PlainVdev) (digest : List ℕ) (images : List (List ℕ)) (shapes : List VdevShape) (out : List Bool) (p : Possible)
-    (pools : Uberblock → PlainPool) → LeadToOwnPools pool vdevs digest images shapes out p pools → (u : Uberblock) → IsHighestShown out (fresh images) u
-    → IsInReach p u
-highest_reached pool vdevs digest images shapes out p pools it u top =
-    let trees = it.led.led.trees in
-    let can = it.led.led.can in
+highest_reached : (images : List (List ℕ)) (shapes : List VdevShape) (out : List Bool) (p : Possible) (pools : Uberblock → PlainPool)
+    → LeadToWholePools (fresh images) shapes out p pools → (u : Uberblock) → IsHighestShown out (fresh images) u → IsInReach p u
+highest_reached images shapes out p pools it u top =
+    let trees = it.led.trees in
+    let can = it.led.can in
     ⊎_elim
     (λ far. absurd (not_far p.last u u 0 (omega arith) (ranks_above trees out (fresh images) p u can top) (refl, omega arith) far))
     (λ possible. possible.0)
     (is_allowed trees out (fresh images) p u can top.shown)
 
-show_highest : (pool : PoolIdentity) (vdevs : List PlainVdev) (digest : List ℕ) (images : List (List ℕ)) (shapes : List VdevShape) (out : List Bool) (p : Possible)
-    (pools : Uberblock → PlainPool) → LeadToOwnPools pool vdevs digest images shapes out p pools → HaveLeft out (fresh images)
-    → ShowHighest vdevs out (fresh images)
-show_highest pool vdevs digest images shapes out p pools it left = record {
+pub show_highest : (vdevs : List PlainVdev) (images : List (List ℕ)) (shapes : List VdevShape) (out : List Bool) (p : Possible) (pools : Uberblock → PlainPool)
+    → LeadToWholePools (fresh images) shapes out p pools → AreOfSum vdevs p → HaveLeft out (fresh images) → ShowHighest vdevs out (fresh images)
+show_highest vdevs images shapes out p pools it sums left = record {
   each = λ which used.
-      let top = (it.led.led.can.leads which used).top in
+      let top = (it.led.can.leads which used).top in
       (top.u, record { label = top.label; slot = top.slot; is_slot = top.is_slot; shows = top.shows });
-  configured = λ u top which used.
-      it.led.configured u (highest_reached pool vdevs digest images shapes out p pools it u top) which used;
-  sum = λ u top. it.sums u (highest_reached pool vdevs digest images shapes out p pools it u top);
+  configured = λ u top which used. it.configured u (highest_reached images shapes out p pools it u top) which used;
+  sum = λ u top. sums u (highest_reached images shapes out p pools it u top);
   left = left;
 }
 
@@ -104,6 +101,9 @@ module _ {images : List (List ℕ)} {shapes : List VdevShape} {out : List Bool} 
       let Q : ℕ × (ℕ → ℕ → Option ℕ) → Type 0 = λ x. P x.0 x.1 in
       subst Q (λ j. (is.sizes which j, is.contents j)) it
 
+  count_so : IsArranged images shapes out array its_shapes its_out → length array.starts ≡ length images
+  count_so is = sym (length-map array.starts length) ∙ ap length is.lengths ∙ length-map images length
+
   -- a tree is one on disks of the same sizes
   tree_so : (trees : Trees) (u : Uberblock) (pool : PlainPool) → IsArranged images shapes out array its_shapes its_out → WholeTreeOf trees images shapes out u pool
       → WholeTreeOf trees array.starts shapes out u pool
@@ -115,7 +115,7 @@ module _ {images : List (List ℕ)} {shapes : List VdevShape} {out : List Bool} 
       mapped = it.tree.mapped;
       configured = it.tree.configured;
       made = it.tree.made;
-      held = λ disks same. it.tree.held disks (same ∙ is.lengths);
+      held = λ disks away many. it.tree.held disks away (many ∙ count_so is);
     };
     whole = record { once = it.whole.once; apart = it.whole.apart };
   }
@@ -144,9 +144,6 @@ module _ {images : List (List ℕ)} {shapes : List VdevShape} {out : List Bool} 
         whole = λ u reach. (each u reach).whole;
         configured = λ u reach which used. same_of which (λ size held. IsConfigured size (held which) u.config_digest) is (it.configured u reach which used);
       }
-
-  count_so : IsArranged images shapes out array its_shapes its_out → length array.starts ≡ length images
-  count_so is = sym (length-map array.starts length) ∙ ap length is.lengths ∙ length-map images length
 
   -- the vdevs take them too
   fits_so : (shape : VdevShape) → IsArranged images shapes out array its_shapes its_out → FitsDisks images shape → FitsDisks array.starts shape
@@ -223,7 +220,7 @@ memory_alone law guids images shapes out p pools array its_shapes its_out refusa
     let P : List VdevShape × List Bool → Type 0 = λ x. (back : Disks) → IsNotOpenedOver guids array x.0 x.1 0 back refusal → AnswerTruly array back → refusal ≡ NoMemory in
     subst P (λ j. (sym are.shapes_are j, sym are.out_is j))
     (λ back is truly.
-    law guids array shapes out p pools refusal (lead_so p pools are led) (all_there_so are there) back is (record {
+    law guids array shapes out p pools refusal (lead_so p pools are led) (all_are_enough array.starts shapes out (all_there_so are there)) back is (record {
       left = record {
         groups = λ u read. left.groups u (read_back are u read);
         claims = λ u top used. left.claims u (highest_back are u top) (used_up_back are u used);
@@ -257,7 +254,7 @@ unopened_at guids images shapes out p pools array its_shapes its_out rewind new 
       λ which below. settled_still array new which reads (are.settled which),
     ))
     (λ (claimed, through, gives, cause).
-    let same : is.later ≡ out = none_goes_out array new out is.later claimed (is.count ∙ sym flags) there.none truly.none_failed through in
+    let same : is.later ≡ out = none_goes_out array new out is.later claimed (is.count ∙ sym flags) truly.none_failed through in
     let gives_all : OpenGives out rewind array claimed new = subst (λ (them : List Bool). OpenGives them rewind array claimed new) same gives in
     let lead = lead_so p pools are led in
     let done = gives_all lead.led.trees p lead.led.can truly.honest in
@@ -338,7 +335,7 @@ module _ {D : Type 0} where
       → (why : OpenRefuses g disks 0 failed) → IsRefusedTruly g disks 0 failed why → refusal_of failed ≡ NoMemory
   refused_so law g pool vdevs digest images shapes out p pools disks order (NotFound refusal back) it returned left (cause, same, found) truly =
       same ∙ ap of_labels (own_disks_are_found pool vdevs shapes out images returned.handed order found.old found.new cause it.are
-      (show_highest pool vdevs digest images shapes out p pools it left) returned.handed_in
+      (show_highest vdevs images shapes out p pools it.led it.sums left) returned.handed_in
       (still_holding g images disks order found.old returned found.read.before) truly found.cause)
   refused_so law g pool vdevs digest images shapes out p pools disks order (Refused refusal back) it returned left found truly =
       let guids = guids_in (config_view found.ordered.config) in

@@ -2,6 +2,7 @@
 use Rattle.std.proofs.Common.{ℕ, suc, ◌≡◌, ◌⊎◌, inl, inr, ⊎_elim, ◌+◌, ◌<◌, ◌≤◌, Bool, false, List, [], ◌∷◌, length, Option, Some, None, Contains, refl, sym, ap, subst, ◌∙◌, arith, true≢false}
 use Rattle.std.specs.Prelude.{◌-◌, ◌^◌, map}
 use Rattle.std.proofs.lemmas.List.Elements.{Contains-append_left, Contains-append_right}
+use Rattle.std.proofs.lemmas.List.{length-map}
 use Rattle.model_disk.specs.Joint.{JointCall, MayLeaveAll, bytes_of, content}
 use Rattle.block_store.specs.Places.{shapes_of}
 use Rattle.block_store.specs.Opened.{LieOn, MayBeOpened}
@@ -69,7 +70,7 @@ tree_on trees starts others shapes out u pool sizes tree = record {
   mapped = tree.mapped;
   configured = tree.configured;
   made = tree.made;
-  held = λ disks same stands. tree.held disks (same ∙ sizes) stands;
+  held = λ disks away many. tree.held disks away (many ∙ sym (length-map others length) ∙ ap length sizes ∙ length-map starts length);
 }
 
 off_on : (trees : Trees) (out : List Bool) (starts : List (List ℕ)) (calls : List JointCall) (images : List (List ℕ)) → length out ≡ length starts

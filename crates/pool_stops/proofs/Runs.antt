@@ -1,5 +1,5 @@
 -- Runs of a pool, of which no step puts a disk out.
-use Rattle.std.proofs.Common.{◌≡◌, ⊎_elim, ℕ, Bool, true, false, List, [], ◌∷◌, Option, Some, None, refl, sym, ap, subst, ◌∙◌, true≢false, arith}
+use Rattle.std.proofs.Common.{◌≡◌, ⊎_elim, ℕ, Bool, true, false, List, [], ◌∷◌, Option, Some, None, refl, sym, subst, ◌∙◌, true≢false, arith}
 use Rattle.std.specs.Prelude.{◌==◌, ◌||◌}
 use Rattle.std.proofs.lemmas.Bool.Decides.{nat_tests}
 use Rattle.block_store.specs.Store.{is_out}
@@ -12,6 +12,7 @@ use Rattle.pool_create.specs.Moves.{Moves}
 use Rattle.pool_create.specs.CoreRuns.{Chain}
 use Rattle.pool_create.specs.CoreState.{CoreState}
 use Rattle.pool_create.specs.CoreSteps.{Link}
+use Rattle.pool_create.proofs.CoreUntouched.{chain_keeps, keeps_no_spans}
 use Rattle.pool_model.specs.View.{Given, View}
 use Rattle.pool_model.specs.declared.step.Reply.{Reply}
 use Rattle.pool_model.specs.declared.step.Step.{Step}
@@ -79,29 +80,8 @@ steps_on laws old new v w step given reply last before runs link moves none =
 
 -- ---- disks that are out stay so
 
-not_true : (b : Bool) → ¬ (b ≡ true) → b ≡ false
-not_true true isnt = absurd (isnt refl)
-not_true false isnt = refl
-
-same_out : (old new : State) → new.store.out ≡ old.store.out → NoneIsOut new → NoneIsOut old
-same_out old new same none disk = ap (λ out. is_out out disk) (sym same) ∙ none disk
-
 pub none_was_out : (step : Step) (old new : State) → Moves step old new → NoneIsOut new → NoneIsOut old
-none_was_out (Hold x) old new moves none = same_out old new (ap (λ s. s.store.out) moves) none
-none_was_out (Write x) old new moves none = same_out old new (ap (λ s. s.store.out) moves) none
-none_was_out (Act x) old new moves none = same_out old new (ap (λ s. s.store.out) moves) none
-none_was_out (Release x) old new moves none = same_out old new (ap (λ s. s.store.out) moves) none
-none_was_out Close old new moves none = same_out old new (ap (λ s. s.store.out) moves) none
-none_was_out Quiesce old new moves none = same_out old new (ap (λ s. s.store.out) moves) none
-none_was_out (Plan t) old new moves none = ⊎_elim (λ same. same_out old new (ap (λ s. s.store.out) same) none) (λ plans. same_out old new plans.from.out none) moves
-none_was_out Device old new moves none = ⊎_elim
-    (λ same. same_out old new (ap (λ s. s.store.out) same) none)
-    (λ writes. λ disk. not_true (is_out old.store.out disk) (λ out. true≢false (sym (writes.out.still disk out) ∙ none disk))) moves
-none_was_out (DiskOut d) old new moves none = ⊎_elim
-    (λ same. same_out old new (ap (λ s. s.store.out) same) none)
-    (λ takes. absurd (taken_is_out old new d takes none)) moves
-none_was_out (Read a b c) old new moves none = same_out old new (ap (λ s. s.store.out) moves.rest) none
-none_was_out (ReadUnder g a b c) old new moves none = same_out old new (ap (λ s. s.store.out) moves.rest) none
+none_was_out step old new moves none = (keeps_no_spans step old new moves none).0
 
 -- ---- a run
 
@@ -113,10 +93,7 @@ pub record RunsTo (mid : CoreState) (between : View) : Type 0 where
 
 pub none_before : (old : CoreState) (v : View) (steps : List Step) (givens : List Given) (replies : List Reply) (mid : CoreState) (between : View)
     → Chain old v steps givens replies mid between → NoneIsOut mid.commit → NoneIsOut old.commit
-none_before old v [] [] [] mid between chain none = subst (λ (s : CoreState). NoneIsOut s.commit) (sym chain.0) none
-none_before old v (step ∷ steps) (given ∷ givens) (reply ∷ replies) mid between chain none =
-    none_was_out step old.commit chain.0.commit chain.4 (none_before chain.0 chain.1 steps givens replies mid between chain.5 none)
-none_before old v steps givens replies mid between chain none = absurd chain
+none_before old v steps givens replies mid between chain none = (chain_keeps old v steps givens replies mid between chain none).0.0
 
 chain_runs : RunningPoolsStepOn → (old : CoreState) (v : View) (steps : List Step) (givens : List Given) (replies : List Reply) (mid : CoreState) (between : View)
     (last : Uberblock) (before : List Uberblock) → IsRunning old v last before → Chain old v steps givens replies mid between → NoneIsOut mid.commit → RunsTo mid between

@@ -1,5 +1,5 @@
 -- What is scanned of a pool's own disks that were handed in.
-use Rattle.std.proofs.Common.{ℕ, zero, suc, ◌≡◌, ◌⊎◌, inl, inr, ⊎_elim, ◌+◌, ◌*◌, ◌<◌, ◌≤◌, Bool, true, false, ◌&&◌, nat_le, if◌then◌else◌, List, [], ◌∷◌, length, map, slice_get, Some, AllPairs, Contains, refl, sym, ap, subst, ◌∙◌, arith}
+use Rattle.std.proofs.Common.{ℕ, zero, suc, ◌≡◌, ◌⊎◌, inl, inr, ⊎_elim, ◌+◌, ◌*◌, ◌<◌, ◌≤◌, Bool, true, false, ◌&&◌, nat_le, if◌then◌else◌, List, [], ◌∷◌, length, map, slice_get, Option, Some, AllPairs, Contains, refl, sym, ap, subst, ◌∙◌, arith}
 use Rattle.std.specs.Prelude.{◌/◌, ◌^◌, option_map}
 use Rattle.std.proofs.lemmas.Bool.Decides.{nat_tests}
 use Rattle.std.proofs.lemmas.List.Elements.{Contains-append_cases, Contains-append_left, Contains-append_right}
@@ -31,18 +31,13 @@ use Rattle.pool_create.proofs.OpenOnce.{Differ, pairs_append, pairs_back, pairs_
 use Rattle.pool_slots.specs.Labels.{IsLabelShown, area_place}
 use Rattle.pool_slots.specs.Opens.{IsKnown, IsRead, IsReadOn, IsShownOn}
 use Rattle.pool_format.specs.declared.labeling.PoolIdentity.{PoolIdentity}
-use Rattle.pool_stops.proofs.Holding.{get_in_use}
 use Rattle.pool_stops.specs.Unhindered.{AnswerTruly}
-use Rattle.pool_stops.specs.Handed.{AreHandedIn, AreHolding}
+use Rattle.pool_stops.specs.Handed.{AreHolding, AreSomeHandedIn, away_in}
 use Rattle.pool_stops.specs.Own.{AreDisksOf, IsOwn, disk_guids}
-use Rattle.pool_stops.proofs.Handed.{as_handed, as_own, child_at, handed_known, size_handed}
+use Rattle.pool_stops.proofs.Handed.{as_handed, as_own, child_at, handed_known, size_handed, used_at}
+use Rattle.pool_stops.proofs.Lists.{found_in_map}
 
 -- ---- lists, and sizes
-
-found_in_map : {X Y : Type 0} (f : X → Y) (xs : List X) (i : ℕ) (y : Y) → slice_get (map f xs) i ≡ Some y → (x : X) × (slice_get xs i ≡ Some x) × (f x ≡ y)
-found_in_map f [] i y at = absurd (omega (arith, slice_get_within [] i y at))
-found_in_map f (x ∷ xs) zero y at = (x, refl, cc)
-found_in_map f (x ∷ xs) (suc i) y at = found_in_map f xs i y at
 
 inside_or : (disk end : ℕ) → (disk < end) ⊎ (end ≤ disk)
 inside_or disk end = grind arith
@@ -113,10 +108,10 @@ has_places starts (suc n) disk number below allowed low =
 -- ---- what was read of labels
 
 -- the disks that were handed in were scanned, truly
-pub record IsHanded (pool : PoolIdentity) (vdevs : List PlainVdev) (shapes : List VdevShape) (out : List Bool) (images handed : List (List ℕ)) (order : List ℕ)
+pub record IsHanded (pool : PoolIdentity) (vdevs : List PlainVdev) (shapes : List VdevShape) (out : List Bool) (images handed : List (List ℕ)) (order : List (Option ℕ))
     (old new : Disks) (scan : Scan) : Type 0 where
   pub are : AreDisksOf pool vdevs shapes out (fresh images)
-  pub is : AreHandedIn images handed order
+  pub is : AreSomeHandedIn images handed order
   pub holding : AreHolding handed old
   pub truly : AnswerTruly old new
   pub read : IsScanOf old new scan
@@ -131,14 +126,14 @@ read_case old new disk number l Unreadable truly sound says shown =
     absurd (truly.none_failed disk (made_failed old new disk (FailedRead (area_place (length (bytes_of old.starts disk)) number) 114688) sound refl))
 
 -- a label that says it is of the disk that is its pool's
-pub record IsOwnAt (pool : PoolIdentity) (vdevs : List PlainVdev) (order : List ℕ) (place : ℕ) (label : Label) : Type 0 where
+pub record IsOwnAt (pool : PoolIdentity) (vdevs : List PlainVdev) (order : List (Option ℕ)) (place : ℕ) (label : Label) : Type 0 where
   pub child : ℕ
-  pub at : slice_get order child ≡ Some place
+  pub at : slice_get order child ≡ Some (Some place)
   pub guid : ℕ
   pub named : slice_get (disk_guids vdevs) child ≡ Some guid
   pub own : IsOwn pool vdevs guid (label_view label)
 
-module _ {pool : PoolIdentity} {vdevs : List PlainVdev} {shapes : List VdevShape} {out : List Bool} {images handed : List (List ℕ)} {order : List ℕ}
+module _ {pool : PoolIdentity} {vdevs : List PlainVdev} {shapes : List VdevShape} {out : List Bool} {images handed : List (List ℕ)} {order : List (Option ℕ)}
     {old new : Disks} {scan : Scan} where
   pub allowed_of : IsHanded pool vdevs shapes out images handed order old new scan → (child : ℕ) → child < length images → IsAllowedSize (size_of images child)
   allowed_of it child below = allowed_from images 0 shapes child it.are.there.may.lie (omega arith) below
@@ -154,7 +149,7 @@ module _ {pool : PoolIdentity} {vdevs : List PlainVdev} {shapes : List VdevShape
   -- what a valid one shows
   pub valid_shown : IsHanded pool vdevs shapes out images handed order old new scan → (i : ℕ) (s : ScannedLabel) (label : Label)
       → slice_get scan.labels.items i ≡ Some s → s.reading ≡ Valid label
-      → (child : ℕ) × (slice_get order child ≡ Some s.disk) × (child < length images)
+      → (child : ℕ) × (slice_get order child ≡ Some (Some s.disk)) × (child < length images)
       × IsLabelShown (length (bytes_of images child)) (content (fresh images) child) s.number (label_view label)
   valid_shown it i s label at valid =
       let c = child_at images handed order s.disk it.is (scanned_below it i s at) in
@@ -163,7 +158,7 @@ module _ {pool : PoolIdentity} {vdevs : List PlainVdev} {shapes : List VdevShape
       let says = subst (λ r. IsReadingOf (length (bytes_of old.starts s.disk)) (content old s.disk) s.number r) valid (read.says known it.truly.honest) in (
         c.0,
         c.1,
-        omega (arith, slice_get_within order c.0 s.disk c.1, it.is.count),
+        omega (arith, slice_get_within order c.0 (Some s.disk) c.1, it.is.count),
         as_own (λ size held. IsLabelShown size held s.number (label_view label)) images handed order old c.0 s.disk it.is it.holding c.1 says.0,
       )
 
@@ -182,7 +177,7 @@ module _ {pool : PoolIdentity} {vdevs : List PlainVdev} {shapes : List VdevShape
       }
 
   -- the label of a disk is among those that were read
-  pub label_read : IsHanded pool vdevs shapes out images handed order old new scan → (child place number : ℕ) → slice_get order child ≡ Some place
+  pub label_read : IsHanded pool vdevs shapes out images handed order old new scan → (child place number : ℕ) → slice_get order child ≡ Some (Some place)
       → IsAllowedSize (size_of images child) → number < 4
       → (i : ℕ) × (s : ScannedLabel) × (slice_get scan.labels.items i ≡ Some s) × (s.disk ≡ place) × (s.number ≡ number)
   label_read it child place number at allowed low =
@@ -194,7 +189,7 @@ module _ {pool : PoolIdentity} {vdevs : List PlainVdev} {shapes : List VdevShape
       (found.0, s.0, s.1, ap (λ (x : ℕ × ℕ). x.0) s.2, ap (λ (x : ℕ × ℕ). x.1) s.2)
 
   -- and where it shows one that is what was read
-  pub shown_read : IsHanded pool vdevs shapes out images handed order old new scan → (child place number : ℕ) (l : PlainLabel) → slice_get order child ≡ Some place
+  pub shown_read : IsHanded pool vdevs shapes out images handed order old new scan → (child place number : ℕ) (l : PlainLabel) → slice_get order child ≡ Some (Some place)
       → IsAllowedSize (size_of images child) → IsLabelShown (length (bytes_of images child)) (content (fresh images) child) number l
       → (i : ℕ) × (s : ScannedLabel) × (label : Label) × IsValidAt scan.labels.items i s label × (s.disk ≡ place) × (l ≡ label_view label)
   shown_read it child place number l at allowed shown =
@@ -212,10 +207,10 @@ module _ {pool : PoolIdentity} {vdevs : List PlainVdev} {shapes : List VdevShape
   -- ---- disks and their slots
 
   -- the place of a disk has a valid label
-  pub is_labeled : IsHanded pool vdevs shapes out images handed order old new scan → (child place : ℕ) → slice_get order child ≡ Some place
+  pub is_labeled : IsHanded pool vdevs shapes out images handed order old new scan → (child place : ℕ) → slice_get order child ≡ Some (Some place)
       → IsAllowedSize (size_of images child) → IsLabeled scan.labels.items place
   is_labeled it child place at allowed =
-      let shown = it.are.own.labeled child (omega (arith, slice_get_within order child place at, it.is.count)) in
+      let shown = it.are.own.labeled child (omega (arith, slice_get_within order child (Some place) at, it.is.count)) in
       let read = shown_read it child place shown.0 shown.1 at allowed shown.2 in
       record {
         s = read.1;
@@ -224,7 +219,7 @@ module _ {pool : PoolIdentity} {vdevs : List PlainVdev} {shapes : List VdevShape
       }
 
   -- whatever a slot of the disk shows was read
-  pub slot_read : IsHanded pool vdevs shapes out images handed order old new scan → (child place : ℕ) (u : Uberblock) → slice_get order child ≡ Some place
+  pub slot_read : IsHanded pool vdevs shapes out images handed order old new scan → (child place : ℕ) (u : Uberblock) → slice_get order child ≡ Some (Some place)
       → IsAllowedSize (size_of images child) → IsShownOn (length (bytes_of images child)) (content (fresh images) child) u
       → (i : ℕ) × Has scan.slots.items i u
   slot_read it child place u at allowed shown = ⊎_elim
@@ -235,18 +230,18 @@ module _ {pool : PoolIdentity} {vdevs : List PlainVdev} {shapes : List VdevShape
       (as_handed (λ size held. IsShownOn size held u) images handed order old child place it.is it.holding at shown))
       (it.read.slots.all place (is_labeled it child place at allowed))
 
-  -- and whatever was read is shown
-  pub read_shown : IsHanded pool vdevs shapes out images handed order old new scan → (i : ℕ) (u : Uberblock) → Has scan.slots.items i u → IsRead out (fresh images) u
+  -- and whatever was read is shown by a disk that is there
+  pub read_shown : IsHanded pool vdevs shapes out images handed order old new scan → (i : ℕ) (u : Uberblock) → Has scan.slots.items i u
+      → IsRead (away_in order) (fresh images) u
   read_shown it i u has =
       let slot = it.read.slots.each i u has in
       let s = at_contains scan.labels.items slot.labeled.s slot.labeled.has in
       let below : slot.which < length handed = subst (λ n. n < length handed) slot.labeled.valid.0 (scanned_below it s.0 slot.labeled.s s.1) in
       let c = child_at images handed order slot.which it.is below in
-      let inside : c.0 < length out = omega (arith, slice_get_within order c.0 slot.which c.1, it.is.count, it.are.there.may.flags) in
       let known = handed_known images handed order old c.0 slot.which it.is it.holding c.1 in
       record {
         which = c.0;
-        used = get_in_use out c.0 inside (it.are.there.none c.0);
+        used = used_at order c.0 slot.which c.1;
         on = as_own (λ size held. IsReadOn size held u) images handed order old c.0 slot.which it.is it.holding c.1 (slot.says known it.truly.honest);
       }
 

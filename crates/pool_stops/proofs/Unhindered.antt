@@ -1,6 +1,5 @@
 -- Opens that nothing hinders are refused for want of memory alone.
-use Rattle.std.proofs.Common.{ℕ, zero, suc, ◌≡◌, ◌⊎◌, inl, inr, ⊎_elim, ◌+◌, ◌<◌, ◌≤◌, Bool, true, false, List, [], ◌∷◌, length, map, Contains, Option, refl, sym, ap, subst, ◌∙◌, arith, true≢false, if◌then◌else◌, nat_le, ◌&&◌, ◌||◌}
-use Rattle.std.specs.List.{list_any}
+use Rattle.std.proofs.Common.{ℕ, zero, suc, ◌≡◌, ◌⊎◌, inl, inr, ⊎_elim, ◌+◌, ◌<◌, ◌≤◌, Bool, true, false, List, [], ◌∷◌, length, Contains, Option, refl, sym, ap, subst, ◌∙◌, arith, true≢false, if◌then◌else◌, nat_le, ◌&&◌}
 use Rattle.pool_model.specs.Refusals.{greatest}
 use Rattle.std.proofs.lemmas.Bool.Decides.{nat_tests}
 use Rattle.model_disk.specs.Joint.{Disks, JointCall, content, failed_since}
@@ -15,7 +14,7 @@ use Rattle.block_store.specs.Releases.{copies_of_all}
 use Rattle.block_store.specs.Spaces.{VdevSpace}
 use Rattle.block_store.specs.Store.{is_out}
 use Rattle.disk_set.specs.declared.stale.GroupSpan.{GroupSpan}
-use Rattle.block_store.specs.declared.refusal.Refusal.TheVariants.{DiskFault}
+use Rattle.block_store.specs.declared.refusal.Refusal.TheVariants.{NoMemory as NoStoreMemory}
 use Rattle.block_store.specs.declared.shape.VdevShape.{VdevShape}
 use Rattle.block_pointer.specs.declared.block.Block.{Block}
 use Rattle.pool_create.proofs.SnapshotsReadings.{roots_spell_one_pool}
@@ -30,7 +29,7 @@ use Rattle.pool_create.specs.Reopened.{AreMisplaced}
 use Rattle.pool_create.specs.OpenCauses.{of_root}
 use Rattle.pool_create.specs.Held.{HoldOver}
 use Rattle.pool_create.specs.OpenOpening.{AreClaimedThrough, AreReadThrough, IsCauseOfClaim, IsCauseOfReading, IsReadMisplaced, IsRootUnread, IsSurveyRefused}
-use Rattle.pool_create.specs.Roots.{IsRefusedAgain, IsRefusedAtOnce, IsRootRefused, IsSmallRoot, RootRefuses, are_wrong, told_as}
+use Rattle.pool_create.specs.Roots.{IsRefusedAgain, IsRefusedAtOnce, IsRootRefused, IsSmallRoot, RootRefuses, told_as}
 use Rattle.pool_create.specs.Trees.{IsTreeOf}
 use Rattle.pool_create.specs.Words.{most_blocks, vdevs_in}
 use Rattle.pool_create.specs.OpenRefusal.{Refusal}
@@ -51,21 +50,20 @@ use Rattle.model_disk.proofs.RunLemmas.{Makes-none}
 use Rattle.pool_slots.proofs.Phases.{none_same}
 use Rattle.pool_slots.proofs.ReadRuns.{reads_made}
 use Rattle.space_map_objects.specs.declared.refusal.Refusal.{Refusal as RootRefusal}
-use Rattle.space_map_objects.specs.declared.refusal.Refusal.TheVariants.{Unread}
+use Rattle.space_map_objects.specs.declared.refusal.Refusal.TheVariants.{NoMemory as NoRootMemory, Unread}
 use Rattle.uberblock_ring.proofs.Ranks.{ranks_through}
 use Rattle.uberblock_ring.specs.Ranking.{IsRewound, RanksUpTo}
 use Rattle.uberblock_ring.specs.declared.uberblock.Uberblock.{Uberblock}
-use Rattle.pool_stops.specs.Unhindered.{LeadToWholePools, UnhinderedOpensAreDone}
+use Rattle.pool_stops.specs.Unhindered.{AreAllThere, AreEnoughThere, LeadToWholePools, UnhinderedOpensAreDone}
 use Rattle.pool_stops.specs.Whole.{IsWholeTree, LieApart}
 use Rattle.pool_stops.proofs.Counting.{blocks_fit}
 use Rattle.pool_stops.proofs.FreePlaces.{can_take_in}
-use Rattle.pool_stops.proofs.Holding.{get_in_use}
 use Rattle.pool_stops.proofs.Lost.{not_for_loss}
 use Rattle.pool_stops.proofs.OwnMaps.{first_apart, read_maps_are_sets}
 
--- all disks are there, and nothing hinders the open
+-- enough disks are there, and nothing hinders the open
 record IsFree (old new : Disks) (shapes : List VdevShape) (out : List Bool) : Type 0 where
-  pub none : (disk : ℕ) → is_out out disk ≡ false
+  pub tolerable : is_tolerable (vdevs_in shapes) (is_out out) ≡ true
   pub may : MayBeOpened old.starts shapes out
   pub groups : (u : Uberblock) → IsRead out old u → u.group < greatest
   pub claims : (u : Uberblock) → IsHighestShown out old u → ¬ IsUsedUp out old u
@@ -79,39 +77,38 @@ fails_before may old mid new disk makes failed =
     subst (λ (calls : List JointCall). Contains (failed_since (length old.calls) calls) disk) (sym makes.calls)
     (kept_through (length old.calls) makes.newer mid.calls disk failed)
 
-same_flags : (out later : List Bool) → length later ≡ length out → ((disk : ℕ) → is_out out disk ≡ false) → ((disk : ℕ) → disk < length later → is_out later disk ≡ false) → later ≡ out
-same_flags [] [] count none none' = refl
-same_flags [] (flag ∷ later) count none none' = absurd (cc)
-same_flags (flag ∷ out) [] count none none' = absurd (cc)
-same_flags (flag ∷ out) (other ∷ later) count none none' =
-    let rest : length later ≡ length out = omega (arith, count) in
-    let first : other ≡ flag = none' 0 (omega arith) ∙ sym (none 0) in
-    (λ i. first i ∷ same_flags out later rest (λ disk. none (suc disk)) (λ disk below. none' (suc disk) (omega (arith, below))) i)
+pub is_used : (out : List Bool) (which : ℕ) → InUse out which ⊎ ¬ InUse out which
+is_used [] which = inr (λ used. absurd (cc used))
+is_used (true ∷ out) zero = inr (λ used. absurd (cc used))
+is_used (false ∷ out) zero = inl refl
+is_used (flag ∷ out) (suc which) = is_used out which
 
-flag_is : (flag : Bool) → (flag ≡ true) ⊎ (flag ≡ false)
-flag_is true = inl refl
-flag_is false = inr refl
+pub same_use : (out later : List Bool) → length later ≡ length out → ((which : ℕ) → InUse later which → InUse out which)
+    → ((which : ℕ) → InUse out which → InUse later which) → later ≡ out
+same_use [] [] count stay still = refl
+same_use [] (b ∷ later) count stay still = absurd (cc)
+same_use (a ∷ out) [] count stay still = absurd (cc)
+same_use (true ∷ out) (false ∷ later) count stay still = let used = stay 0 refl in absurd (cc used)
+same_use (false ∷ out) (true ∷ later) count stay still = let used = still 0 refl in absurd (cc used)
+same_use (true ∷ out) (true ∷ later) count stay still =
+    ap (λ flags. true ∷ flags) (same_use out later (omega (arith, count)) (λ which. stay (suc which)) (λ which. still (suc which)))
+same_use (false ∷ out) (false ∷ later) count stay still =
+    ap (λ flags. false ∷ flags) (same_use out later (omega (arith, count)) (λ which. stay (suc which)) (λ which. still (suc which)))
 
-not_used : (flags : List Bool) (disk : ℕ) → is_out flags disk ≡ true → ¬ InUse flags disk
-not_used [] disk out used = absurd (cc)
-not_used (flag ∷ flags) zero out used = true≢false (sym out ∙ (let same : flag ≡ false = (cc) in same))
-not_used (flag ∷ flags) (suc disk) out used = not_used flags disk out used
-
-all_stay : (out later : List Bool) (old surveyed new : Disks) (may : ℕ → ℕ → List ℕ → Type 0) → length later ≡ length out → ((disk : ℕ) → is_out out disk ≡ false)
+all_stay : (out later : List Bool) (old surveyed new : Disks) (may : ℕ → ℕ → List ℕ → Type 0) → length later ≡ length out
     → ((disk : ℕ) → ¬ HasFailedOn old new disk) → GoOut out later old surveyed → Makes may surveyed new → later ≡ out
-all_stay out later old surveyed new may count none well gone makes =
-    same_flags out later count none (λ disk below. ⊎_elim
-    (λ away. absurd (well disk (fails_before may old surveyed new disk makes
-    (gone.failed disk (get_in_use out disk (omega (arith, below, count)) (none disk)) (not_used later disk away)))))
-    (λ there. there)
-    (flag_is (is_out later disk)))
+all_stay out later old surveyed new may count well gone makes =
+    same_use out later count gone.stay (λ which used. ⊎_elim
+    (λ still. still)
+    (λ unused. absurd (well which (fails_before may old surveyed new which makes (gone.failed which used unused))))
+    (is_used later which))
 
 -- so it is of a claim
-pub none_goes_out : (old new : Disks) (out later : List Bool) (claimed : Uberblock) → length later ≡ length out → ((disk : ℕ) → is_out out disk ≡ false)
+pub none_goes_out : (old new : Disks) (out later : List Bool) (claimed : Uberblock) → length later ≡ length out
     → ((disk : ℕ) → ¬ HasFailedOn old new disk) → AreClaimedThrough out later claimed old new → later ≡ out
-none_goes_out old new out later claimed count none well through =
+none_goes_out old new out later claimed count well through =
     let surveyed = through.before.surveyed in
-    all_stay out later old surveyed through.read no_write count none
+    all_stay out later old surveyed through.read no_write count
     (λ disk failed. well disk (fails_before _ old through.read new disk through.claims.makes failed)) through.before.absent
     (block_reads_made surveyed through.read through.before.blocks.only)
 
@@ -126,11 +123,14 @@ none_lost lost first (suc n) none =
 zero_up_to : (n : ℕ) → nat_le 0 n ≡ true
 zero_up_to n = grind (arith, nat_tests)
 
-none_is_tolerable : (vdevs : List Vdev) (lost : ℕ → Bool) → ((disk : ℕ) → lost disk ≡ false) → is_tolerable vdevs lost ≡ true
+pub none_is_tolerable : (vdevs : List Vdev) (lost : ℕ → Bool) → ((disk : ℕ) → lost disk ≡ false) → is_tolerable vdevs lost ≡ true
 none_is_tolerable [] lost none = refl
 none_is_tolerable (vdev ∷ vdevs) lost none =
     let first : nat_le (lost_in lost vdev.first vdev.children) vdev.parity ≡ true = ap (λ n. nat_le n vdev.parity) (none_lost lost vdev.first vdev.children none) ∙ zero_up_to vdev.parity in
     ap (λ flag. flag && is_tolerable vdevs lost) first ∙ none_is_tolerable vdevs lost none
+
+pub all_are_enough : (starts : List (List ℕ)) (shapes : List VdevShape) (out : List Bool) → AreAllThere starts shapes out → AreEnoughThere starts shapes out
+all_are_enough starts shapes out there = record { tolerable = none_is_tolerable (vdevs_in shapes) (is_out out) there.none; may = there.may }
 
 -- ---- what is taken
 
@@ -178,7 +178,7 @@ survey_case old new shapes out p pools refusal led free (inr (inl (barred, (s, i
     let group : s.claimed.group ≡ s.taken.group = ap (λ (u : Uberblock). u.group) says.claimed in
     absurd (omega (arith, most, group, free.groups s.taken says.taken))
 survey_case old new shapes out p pools refusal led free (inr (inr (barred, lost))) =
-    absurd (true≢false (sym (none_is_tolerable (vdevs_in shapes) (is_out out) free.none) ∙ lost))
+    absurd (true≢false (sym free.tolerable ∙ lost))
 survey_case old new shapes out p pools refusal led free (inl (slots.NoMemory, same, refuses, no_fault)) = same
 survey_case old new shapes out p pools refusal led free (inl (slots.DiskFault disk, same, refuses, no_fault)) = absurd (no_fault disk refl)
 survey_case old new shapes out p pools refusal led free (inl (slots.NoUberblock, same, refuses, no_fault)) =
@@ -201,18 +201,10 @@ survey_case old new shapes out p pools refusal led free (inl (slots.UsedUp, same
 
 -- ---- the root
 
-none_is_any : (out : List Bool) → ((disk : ℕ) → is_out out disk ≡ false) → list_any (λ (is : Bool). is) out ≡ false
-none_is_any [] none = refl
-none_is_any (flag ∷ out) none = ap (λ (first : Bool). first || list_any (λ (is : Bool). is) out) (none 0) ∙ none_is_any out (λ disk. none (suc disk))
-
--- with no disk out a root is refused for its own cause
-told_itself : (out : List Bool) (cause : RootRefusal) → ((disk : ℕ) → is_out out disk ≡ false) → told_as out cause ≡ cause
-told_itself out cause none = told (are_wrong cause) (list_any (λ (is : Bool). is) out) (none_is_any out none)
-  where
-    told : (wrong any : Bool) → any ≡ false → (if wrong && any then Unread DiskFault else cause) ≡ cause
-    told true true away = absurd (true≢false away)
-    told true false away = refl
-    told false any away = refl
+-- what is refused for want of memory is told so
+told_memory : (out : List Bool) (cause : RootRefusal) → (cause ≡ NoRootMemory) ⊎ (cause ≡ Unread NoStoreMemory) → of_root (told_as out cause) ≡ NoMemory
+told_memory out cause (inl memory) = ap (λ (c : RootRefusal). of_root (told_as out c)) memory
+told_memory out cause (inr memory) = ap (λ (c : RootRefusal). of_root (told_as out c)) memory
 
 -- what the root of an uberblock leads to, over these disks
 record AtRoot (disks : Disks) (shapes : List VdevShape) (out : List Bool) (pool : PlainPool) (u : Uberblock) : Type 0 where
@@ -232,14 +224,13 @@ at_root old surveyed new shapes out p pools s led free makes honest is =
     let tree : IsTreeOf led.led.trees old.starts shapes out s.taken (pools s.taken) = led.led.tree s.taken possible.0 in
     let whole : IsWholeTree tree = led.whole s.taken possible.0 in
     let stands : TreeStands led.led.trees out (content surveyed) s.taken.root = λ which i value used at. none_same old surveyed which i makes ∙ possible.1 which i value used at in
-    let sizes : map length surveyed.starts ≡ map length old.starts = ap (map length) makes.starts in
     let here : AtRoot surveyed shapes out (pools s.taken) (record s.taken { claim = s.claimed.claim }) = record {
       stored = tree.stored;
       spells = tree.spells;
       mapped = tree.mapped;
       untouched = tree.untouched;
       apart = whole.apart;
-      hold = tree.held surveyed sizes stands;
+      hold = tree.held surveyed out (ap length makes.starts) refl (λ which used. used) stands;
     } in
     subst (λ (u : Uberblock). AtRoot surveyed shapes out (pools s.taken) u) (sym says.claimed) here
 
@@ -251,24 +242,25 @@ root_case law guids old surveyed new shapes out p pools refusal led free makes r
     let later : IsHonestSince surveyed new = honest_within no_write old surveyed new new makes (Makes-none no_write new) free.honest in
     let at = at_root old surveyed new shapes out p pools unread.s led free makes honest unread.is in
     let u : Uberblock = unread.s.claimed in
-    let at_once : IsRefusedAtOnce surveyed new shapes out u.group u.root (most_blocks shapes) unread.cause → of_root unread.cause ≡ NoMemory = λ told. ⊎_elim
+    let refused : (cause : RootRefusal) → RootRefuses surveyed new shapes out [] u.group u.root (most_blocks shapes) cause → of_root (told_as out cause) ≡ NoMemory = λ cause. ⊎_elim
     (λ (bad, not). absurd (not (subst (λ (starts : List (List ℕ)). MayBeOpened starts shapes out) (sym makes.starts) free.may)))
-    (λ (it : IsRootRefused surveyed new shapes out [] u.group u.root (most_blocks shapes) unread.cause).
+    (λ (it : IsRootRefused surveyed new shapes out [] u.group u.root (most_blocks shapes) cause).
     let small : IsSmallRoot at.stored shapes u.group u.root (pools unread.s.taken) (most_blocks shapes) = record {
       is = at.spells;
       mapped = at.mapped;
       few = blocks_fit it.store.spaces shapes (meta_blocks_of at.spells) it.over.shapes_are free.may.few
           (first_apart shapes (meta_blocks_of at.spells) (volume_blocks_of at.spells) at.apart);
     } in
-    not_for_loss law it.store it.later u.group u.root (most_blocks shapes) it.after unread.cause it.cause
-    (λ disk. ap (λ flags. is_out flags disk) it.over.out_is ∙ free.none disk) it.over.stale_is
+    let Bears : List VdevShape × List Bool → Type 0 = λ x. is_tolerable (vdevs_in x.0) (is_out x.1) ≡ true in
+    told_memory out cause (not_for_loss law it.store it.later u.group u.root (most_blocks shapes) it.after cause it.cause
+    (subst Bears (λ j. (sym it.over.shapes_are j, sym it.over.out_is j)) free.tolerable) it.over.stale_is
     (λ disk failed.
     let P : Disks → Disks → Type 0 = λ a b. HasFailedOn a b disk in
     let here : HasFailedOn surveyed new disk = subst (λ (b : Disks). P surveyed b) it.now (subst (λ (a : Disks). P a it.later.disks) it.over.disks_are failed) in
     free.none_failed disk (fails_later no_write old surveyed new makes disk here))
-    (it.whole at.stored (pools unread.s.taken) at.hold small later))
-    (subst (λ (cause : RootRefusal). RootRefuses surveyed new shapes out [] u.group u.root (most_blocks shapes) cause) (sym (told.told ∙ told_itself out told.cause free.none))
-    told.refused) in
+    (it.whole at.stored (pools unread.s.taken) at.hold small later))) in
+    let at_once : IsRefusedAtOnce surveyed new shapes out u.group u.root (most_blocks shapes) unread.cause → of_root unread.cause ≡ NoMemory =
+    λ told. ap of_root told.told ∙ refused told.cause told.refused in
     let memory : of_root unread.cause ≡ NoMemory = ⊎_elim at_once
     (λ (again : IsRefusedAgain guids surveyed new shapes out u.group u.root (most_blocks shapes) unread.cause).
     absurd (never_again guids surveyed new shapes out u.group u.root (most_blocks shapes) unread.cause again at.stored (pools unread.s.taken) at.hold at.spells at.untouched later))
@@ -330,7 +322,7 @@ claim_case guids old new shapes out p pools claimed refusal led free through (in
 pub unhindered_opens_are_done : LossesAreNotTolerable → UnhinderedOpensAreDone
 unhindered_opens_are_done law guids old shapes out p pools refusal led there new is unhindered =
     let free : IsFree old new shapes out = record {
-      none = there.none;
+      tolerable = there.tolerable;
       may = there.may;
       groups = unhindered.left.groups;
       claims = unhindered.left.claims;
@@ -343,12 +335,12 @@ unhindered_opens_are_done law guids old shapes out p pools refusal led there new
     × IsCauseOfClaim guids old through.before.surveyed through.read new shapes later 0 refusal in
     ⊎_elim
     (λ (it : R is.later).
-    let all = all_stay out is.later old it.0.surveyed new no_write count free.none free.none_failed it.0.absent (block_reads_made it.0.surveyed new it.0.blocks.only) in
+    let all = all_stay out is.later old it.0.surveyed new no_write count free.none_failed it.0.absent (block_reads_made it.0.surveyed new it.0.blocks.only) in
     let at : R out = subst R all it in
     reading_case law guids old new shapes out p pools refusal led free at.0 at.1)
     (λ (it : C is.later).
     let through = it.1 in
-    let all = none_goes_out old new out is.later it.0 count free.none free.none_failed through in
+    let all = none_goes_out old new out is.later it.0 count free.none_failed through in
     let at : C out = subst C all it in
     claim_case guids old new shapes out p pools at.0 refusal led free at.1 at.3)
     is.cause

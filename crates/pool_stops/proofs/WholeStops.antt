@@ -2,6 +2,7 @@
 use Rattle.std.proofs.Common.{ℕ, ◌≡◌, inl, inr, ⊎_elim, Bool, List, length, map, Option, refl, sym, ap, subst, ◌∙◌, arith, ◌<◌, ◌≤◌, ◌+◌, [], ◌∷◌}
 use Rattle.block_store.specs.Opened.{FitsDisks, LieOn}
 use Rattle.block_store.specs.Config.{IsAllowedSize, sectors_of}
+use Rattle.std.proofs.lemmas.List.{length-map}
 use Rattle.model_disk.specs.Joint.{Disks, content, JointCall, MayLeaveAll, bytes_of}
 use Rattle.block_store.specs.Blocks.{Contents}
 use Rattle.block_store.specs.Places.{shapes_of}
@@ -32,6 +33,7 @@ use Rattle.pool_stops.proofs.Holding.{get_in_use}
 use Rattle.pool_stops.proofs.Reopening.{is_planned_so, lead_on, left_sizes, reach_behind}
 use Rattle.pool_stops.proofs.Standing.{picked_off}
 use Rattle.pool_stops.proofs.Steps.{tree_with}
+use Rattle.pool_stops.proofs.Unhindered.{all_are_enough}
 use Rattle.pool_stops.proofs.Whole.{WholeTreeOf}
 
 -- on disks of the same sizes
@@ -45,7 +47,7 @@ whole_on trees starts others shapes out u pool sizes it = record {
     mapped = it.tree.mapped;
     configured = it.tree.configured;
     made = it.tree.made;
-    held = λ disks same stands. it.tree.held disks (same ∙ sizes) stands;
+    held = λ disks away many. it.tree.held disks away (many ∙ sym (length-map others length) ∙ ap length sizes ∙ length-map starts length);
   };
   whole = record { once = it.whole.once; apart = it.whole.apart };
 }
@@ -198,12 +200,12 @@ stopped_runs_reopen stop lead done old mid new v between w steps replies step re
     let there : AreAllThere images (shapes_of s.store.spaces) s.store.out =
     all_there s.store.disks.starts leaves.calls images (shapes_of s.store.spaces) s.store.out leaves.left (record { none = stops.at.runs.whole.none; may = stops.lies }) in
     done guids (fresh images) (shapes_of s.store.spaces) s.store.out stops.at.steps.stops.p (pool_of between) refusal
-    (lead digest mid between new w images stops leaves) there back is free
+    (lead digest mid between new w images stops leaves) (all_are_enough images (shapes_of s.store.spaces) s.store.out there) back is free
 
 pub stopped_opens_reopen : StoppedOpensLeadWhole → UnhinderedOpensAreDone → StoppedOpensReopen
 stopped_opens_reopen lead done digest old new shapes out rewind p pools images refusal few all by_group one led bound four kept honest leaves guids back is free =
     let it = lead digest old new shapes out rewind p pools images few all.may.flags by_group one led bound four kept honest leaves in
-    done guids (fresh images) shapes out it.0 pools refusal it.2 (all_there old.starts leaves.calls images shapes out leaves.left all) back is free
+    done guids (fresh images) shapes out it.0 pools refusal it.2 (all_are_enough images shapes out (all_there old.starts leaves.calls images shapes out leaves.left all)) back is free
 
 pub stopped_exports_reopen : StoppedExportsLeadWhole → UnhinderedOpensAreDone → StoppedExportsReopen
 stopped_exports_reopen lead done digest core v last before exported new images refusal running begun leaves guids back is free =
@@ -211,4 +213,4 @@ stopped_exports_reopen lead done digest core v last before exported new images r
     let there : AreAllThere images (shapes_of s.store.spaces) s.store.out =
     all_there s.store.disks.starts leaves.calls images (shapes_of s.store.spaces) s.store.out leaves.left (record { none = running.runs.whole.none; may = running.lies }) in
     done guids (fresh images) (shapes_of s.store.spaces) s.store.out (only_last last before) (pool_of v) refusal
-    (lead digest core v last before exported new images running begun leaves) there back is free
+    (lead digest core v last before exported new images running begun leaves) (all_are_enough images (shapes_of s.store.spaces) s.store.out there) back is free

@@ -1,5 +1,5 @@
 -- Disks that are handed in in any order.
-use Rattle.std.specs.Prelude.{ℕ, ◌≡◌, ◌<◌, List, length, slice_get, Some, Contains}
+use Rattle.std.specs.Prelude.{ℕ, ◌≡◌, ◌<◌, Bool, Option, is_none, List, length, map, slice_get, Some, Contains}
 use Rattle.model_disk.specs.Contents.{byte_at}
 use Rattle.model_disk.specs.Joint.{Disks, bytes_of, calls_on, content}
 use Rattle.model_disk.specs.Runs.{IsSettled}
@@ -12,6 +12,18 @@ pub record AreHandedIn (images handed : List (List ℕ)) (order : List ℕ) : Ty
   pub each : (child place : ℕ) → slice_get order child ≡ Some place → (place < length handed) × (bytes_of handed place ≡ bytes_of images child)
   pub all : (place : ℕ) → place < length handed → Contains order place
   pub once : (child other place : ℕ) → slice_get order child ≡ Some place → slice_get order other ≡ Some place → child ≡ other
+
+-- Some of a pool's disks are handed in: disk `child` stands at place `order child` among those, which hold these bytes, if it is one of them. Each of these is
+-- one of the pool's, and no two are the same.
+pub record AreSomeHandedIn (images handed : List (List ℕ)) (order : List (Option ℕ)) : Type 0 where
+  pub count : length order ≡ length images
+  pub each : (child place : ℕ) → slice_get order child ≡ Some (Some place) → (place < length handed) × (bytes_of handed place ≡ bytes_of images child)
+  pub all : (place : ℕ) → place < length handed → Contains order (Some place)
+  pub once : (child other place : ℕ) → slice_get order child ≡ Some (Some place) → slice_get order other ≡ Some (Some place) → child ≡ other
+
+-- those that are not
+abbrev pub away_in : List (Option ℕ) → List Bool
+away_in order = map is_none order
 
 -- disks that show these bytes, and nothing past them
 pub record AreShown (images : List (List ℕ)) (disks : Disks) : Type 0 where

@@ -16,3 +16,4 @@ pub mod OwnRunning
 pub mod Stopping
 pub mod OwnReopening
 pub mod Begun
+pub mod Absent

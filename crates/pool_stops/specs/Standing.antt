@@ -12,14 +12,14 @@ use Rattle.block_store.specs.Blocks.{Contents}
 use Rattle.block_store.specs.Elsewhere.{IsForBlocks}
 use Rattle.block_store.specs.Places.{IsCopy, IsLaidOut}
 use Rattle.block_store.specs.Plans.{Plans}
-use Rattle.block_store.specs.Store.{Store, Stores, is_stale, outs}
+use Rattle.block_store.specs.Store.{Store, Stores, is_stale, outs_from}
 use Rattle.block_store.specs.Spaces.{VdevSpace}
 use Rattle.pool_create.specs.Slots.{LabelsLieAside}
 use Rattle.pool_create.specs.CommitWriting.{IsDueWrite}
 use Rattle.pool_slots.specs.Commits.{LeadAlways, last_or, only_last, IsNextGroup}
 use Rattle.pool_slots.specs.Phases.{AreInBlocks, AreInSlots}
 use Rattle.pool_slots.specs.Possible.{TreeStands, Trees}
-use Rattle.pool_slots.specs.Slots.{AreSettled}
+use Rattle.pool_slots.specs.Slots.{AreSettled, StayOut}
 use Rattle.pool_slots.specs.Writes.{IsSlotWrite, SlotsStand, in_use}
 use Rattle.pool_stops.specs.Filled.{all_picked, is_filled, is_for_blocks}
 
@@ -43,11 +43,11 @@ pub record LieBesideLabels (starts : List (List ℕ)) (spaces : List VdevSpace) 
   pub laid : IsLaidOut starts spaces
   pub labels : LabelsLieAside starts spaces
 
--- of each copy of a stored block the columns stand on the disks that are not out
-abbrev pub AllStand : Store → Contents → Disks → Type 0
-AllStand store stored disks =
+-- of each copy of a stored block the columns stand on the disks that are not away
+abbrev pub AllStand : Store → Contents → List Bool → Disks → Type 0
+AllStand store stored away disks =
     (block : Block) (bytes : List ℕ) (i : ℕ) (extent : Extent) → stored block ≡ Some bytes → IsCopy store.spaces block i extent
-    → ExtentStands (content disks) (outs store) extent bytes
+    → ExtentStands (content disks) (outs_from 0 away) extent bytes
 
 -- ---- laws
 
@@ -57,11 +57,13 @@ DueWritesAreUnfilled =
     (store : Store) (stored planned : Contents) → LieBesideLabels store.disks.starts store.spaces → Plans store stored planned
     → (which at : ℕ) (bytes : List ℕ) → IsDueWrite store.due which at bytes → unfilled_write store.spaces which at bytes
 
--- Wherever all that a store has filled stands, on disks in use that missed no group, its blocks do.
+-- Wherever all that a store has filled stands on disks of which none missed a group, but for some that are away, its blocks do.
 abbrev pub FilledTreesHoldBlocks : Type 0
 FilledTreesHoldBlocks =
-    (store : Store) (stored : Contents) (disks : Disks) (root : Block) → LieBesideLabels store.disks.starts store.spaces → length store.out ≡ length store.disks.starts
-    → ((disk birth : ℕ) → is_stale store.spans.stale disk birth ≡ false) → Stores store stored → TreeStands (filled_trees store.spaces store.disks) store.out (content disks) root → AllStand store stored disks
+    (store : Store) (stored : Contents) (disks : Disks) (away : List Bool) (root : Block) → LieBesideLabels store.disks.starts store.spaces
+    → length store.out ≡ length store.disks.starts → length away ≡ length store.out → StayOut store.out away
+    → ((disk birth : ℕ) → is_stale store.spans.stale disk birth ≡ false) → Stores store stored
+    → TreeStands (filled_trees store.spaces store.disks) away (content disks) root → AllStand store stored away disks
 
 -- In the blocks phase what isn't filled may be written, whatever the plan, and less may be filled from then on: the phase goes on, and stopped at any
 -- moment the disks lead to the last uberblock.

@@ -1,5 +1,5 @@
 -- Opens that nothing hinders: they are refused for want of memory alone.
-use Rattle.std.specs.Prelude.{ℕ, ◌≡◌, ◌<◌, Bool, false, List, length}
+use Rattle.std.specs.Prelude.{ℕ, ◌≡◌, ◌<◌, Bool, true, false, List, length}
 use Rattle.model_disk.specs.Joint.{Disks, bytes_of, content}
 use Rattle.raidz_io.specs.Reads.{IsHonestSince}
 use Rattle.block_store.specs.Opened.{MayBeOpened}
@@ -7,8 +7,10 @@ use Rattle.block_store.specs.Store.{is_out}
 use Rattle.block_store.specs.declared.shape.VdevShape.{VdevShape}
 use Rattle.pool_model.specs.Pools.{PlainPool}
 use Rattle.pool_model.specs.Refusals.{greatest}
+use Rattle.pool_model.specs.View.{is_tolerable}
 use Rattle.pool_create.specs.OpenOpening.{IsNotOpenedOver}
 use Rattle.pool_create.specs.OpenRefusal.{Refusal}
+use Rattle.pool_create.specs.Words.{vdevs_in}
 use Rattle.pool_create.specs.OpenRefusal.TheVariants.{NoMemory}
 use Rattle.pool_slots.specs.Configs.{IsConfigured}
 use Rattle.pool_slots.specs.Failures.{HasFailedOn}
@@ -36,6 +38,11 @@ pub record AreAllThere (starts : List (List ℕ)) (shapes : List VdevShape) (out
   pub none : (disk : ℕ) → is_out out disk ≡ false
   pub may : MayBeOpened starts shapes out
 
+-- of no vdev more disks are out than it has parities, and the vdevs take all in order
+pub record AreEnoughThere (starts : List (List ℕ)) (shapes : List VdevShape) (out : List Bool) : Type 0 where
+  pub tolerable : is_tolerable (vdevs_in shapes) (is_out out) ≡ true
+  pub may : MayBeOpened starts shapes out
+
 -- groups and claims are left behind what the disks show
 pub record HaveLeft (out : List Bool) (disks : Disks) : Type 0 where
   pub groups : (u : Uberblock) → IsRead out disks u → u.group < greatest
@@ -51,9 +58,9 @@ pub record IsUnhindered (old new : Disks) (out : List Bool) : Type 0 where
   pub left : HaveLeft out old
   pub truly : AnswerTruly old new
 
--- Such an open of disks that are all there and lead to whole pools, if it doesn't go back, is refused for want of memory alone.
+-- Such an open of disks that lead to whole pools, and of which enough are there, if it doesn't go back, is refused for want of memory alone.
 abbrev pub UnhinderedOpensAreDone : Type 0
 UnhinderedOpensAreDone =
     (guids : List ℕ) (old : Disks) (shapes : List VdevShape) (out : List Bool) (p : Possible) (pools : Uberblock → PlainPool) (refusal : Refusal)
-    → LeadToWholePools old shapes out p pools → AreAllThere old.starts shapes out
+    → LeadToWholePools old shapes out p pools → AreEnoughThere old.starts shapes out
     → (back : Disks) → IsNotOpenedOver guids old shapes out 0 back refusal → IsUnhindered old back out → refusal ≡ NoMemory

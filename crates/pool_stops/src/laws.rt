@@ -25,7 +25,7 @@ pub fn filled_bytes_are_for_blocks()
     ensures { FilledBytesAreForBlocks }
 {}
 
-/// Where all that is filled stands on disks in use, each stored block may be read of them.
+/// Where all that is filled stands on disks that aren't away, each stored block may be read of them.
 pub fn filled_trees_hold_blocks()
     ensures { FilledTreesHoldBlocks }
 {}

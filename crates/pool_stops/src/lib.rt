@@ -28,7 +28,7 @@ pub use laws::{
     stopped_opens_lead, stopped_steps_lead,
 };
 pub use opening::{
-    disks_may_be_handed_in, disks_may_be_handed_on, own_pools_open_again,
+    disks_may_be_handed_in, disks_may_be_handed_on, own_pools_open_again, own_pools_open_without,
     stopped_exports_lead_to_own_pools, stopped_opens_lead_to_own_pools,
     stopped_runs_lead_to_own_pools, stopped_steps_lead_to_own_pools,
 };

@@ -1,4 +1,5 @@
 //! Laws of opens of a pool's own disks.
+ghost use Rattle.pool_stops.specs.Absent.{OwnPoolsOpenWithout, SomeUncalledDisksAreReturned};
 ghost use Rattle.pool_stops.specs.Begun.{StoppedStepsLeadToOwnPools};
 ghost use Rattle.pool_stops.specs.OwnReopening.{OwnPoolsOpenAgain, StoppedExportsLeadToOwnPools};
 ghost use Rattle.pool_stops.specs.OwnReopening.{StoppedOpensLeadToOwnPools, StoppedRunsLeadToOwnPools};
@@ -6,6 +7,7 @@ ghost use Rattle.pool_stops.specs.OwnReopening.{ArraysComeBack, ShownImagesAreLe
 ghost use Rattle.pool_stops.specs.OwnReopening.{UncalledDisksAreReturned, UnfoundDisksAreReturned};
 
 use crate::configured::{opened_pools_run_as, stopped_opens_are_of_config};
+use crate::finding::found_disks_may_be_opened;
 use crate::laws::blocks_keep_what_is_filled;
 use crate::running::{
     opened_pools_are_on_their_disks, runs_stay_on_their_disks, steps_stay_on_their_disks,
@@ -34,9 +36,20 @@ pub fn own_pools_open_again<D: Disk + Drop>()
     stopped_opens_lead_to_own_pools();
 }
 
-/// Which disks may be handed in: those that weren't called yet, and those that come back as no pool was found on them.
+/// **An open of some of a pool's own disks**, where no vdev lacks more of them than it has parities, is refused for want of memory alone, where all answers
+/// are true, no call fails, it doesn't go back, and groups and claims are left. One that is done gives a core of the pool of a possible group, or of one so
+/// many groups less, with the disks that are away out. From there on `run` tells the rest.
+pub fn own_pools_open_without<D: Disk + Drop>()
+    ensures { OwnPoolsOpenWithout D.Disk }
+{
+    unhindered_opens_are_done();
+    found_disks_may_be_opened::<D>();
+}
+
+/// Which disks may be handed in: those that weren't called yet, all or some of them, and those that come back as no pool was found on them.
 pub fn disks_may_be_handed_in<D: Disk + Drop>()
     ensures uncalled { UncalledDisksAreReturned D.Disk }
+    ensures some { SomeUncalledDisksAreReturned D.Disk }
     ensures unfound { UnfoundDisksAreReturned D.Disk }
 {}
 

@@ -24,7 +24,7 @@ use Rattle.pool_slots.specs.Possible.{Possible}
 use Rattle.pool_format.specs.declared.labeling.PoolIdentity.{PoolIdentity}
 use Rattle.pool_stops.specs.OneConfig.{IsRunningAs}
 use Rattle.pool_stops.specs.Reopening.{IsOpenedWell, LeadToPools}
-use Rattle.pool_stops.specs.Unhindered.{AreAllThere, HaveLeft, IsUnhindered, LeadToWholePools}
+use Rattle.pool_stops.specs.Unhindered.{AreEnoughThere, HaveLeft, IsUnhindered, LeadToWholePools}
 use Rattle.pool_stops.specs.OwnReopening.{AreReturned, IsRefusedTruly, LeadToOwnPools}
 use Rattle.vdev_label.specs.Plain.{PlainVdev}
 
@@ -49,7 +49,7 @@ OpensWell old shapes out claimed core =
 abbrev pub IsRefusedWell : List ℕ → Disks → List VdevShape → List Bool → Disks → Refusal → Type 0
 IsRefusedWell guids old shapes out back refusal =
     IsNotOpenedAtLast guids old shapes out 0 back refusal × ((p : Possible) (pools : Uberblock → PlainPool) → LeadToWholePools old shapes out p pools
-    → AreAllThere old.starts shapes out → IsUnhindered old back out → refusal ≡ NoMemory)
+    → AreEnoughThere old.starts shapes out → IsUnhindered old back out → refusal ≡ NoMemory)
 
 -- where a pool was found on the disks, a store may be opened over them
 abbrev pub FitsFound : {D : Type 0} (g : disk.Ghosts D) (disks : List D) (failed : NotOpened D) → OpenRefuses g disks 0 failed → Type 0
