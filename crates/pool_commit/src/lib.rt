@@ -3,6 +3,7 @@
 #![tactic(auto)]
 
 mod absence;
+mod clearing;
 mod commit;
 mod config;
 mod device;

@@ -3,6 +3,7 @@
 #![tactic(auto)]
 
 mod absence;
+mod clearing;
 mod exporting;
 mod honest;
 mod pool;

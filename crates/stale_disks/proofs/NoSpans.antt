@@ -3,7 +3,7 @@ use Rattle.std.proofs.Common.{ℕ, zero, suc, ◌≡◌, inl, inr, Bool, false, 
 use Rattle.std.specs.Prelude.{Contains, slice_index_or}
 use Rattle.disk_set.specs.Outs.{is_in, is_out, is_stale, stale_from}
 use Rattle.meta_objset.specs.declared.stale_spans.StaleSpan.{StaleSpan}
-use Rattle.stale_disks.specs.Rules.{AreSpansAfter, AreSpansOpened, stale_groups}
+use Rattle.stale_disks.specs.Rules.{AreSpansAfter, AreSpansOpened, AreSpansWithout, stale_groups}
 
 -- ---- groups
 
@@ -41,3 +41,7 @@ nothing_after guids out group spans there are = nothing spans (λ span held. eli
   | inl (away, end, since) ↦ true≢false (sym away.2 ∙ there away.0)
   | inr (other, before) ↦ no_span_in span before
 ])
+
+-- nor do any come of none where those of marked disks go
+pub nothing_without : (guids : List ℕ) (marks : List Bool) (spans : List StaleSpan) → AreSpansWithout guids marks [] spans → spans ≡ []
+nothing_without guids marks spans are = nothing spans (λ span held. no_span_in span ((are span).0 held).1)

@@ -34,6 +34,10 @@ AreSpansAfter guids out group before after = (span : StaleSpan)
     ↔ ((IsOfDisk guids out true span.disk × (span.to ≡ no_end) × LacksFrom before span.disk group span.from)
     ⊎ ((¬ IsOfDisk guids out true span.disk) × Contains before span))
 
+-- the spans of the disks that aren't marked, and no others
+abbrev pub AreSpansWithout : List ℕ → List Bool → List StaleSpan → List StaleSpan → Type 0
+AreSpansWithout guids marks before after = (span : StaleSpan) → Contains after span ↔ ((¬ IsOfDisk guids marks true span.disk) × Contains before span)
+
 -- the span has no end, and its disk is back
 abbrev pub IsBack : List ℕ → List Bool → StaleSpan → Type 0
 IsBack guids out span = (span.to ≡ no_end) × IsOfDisk guids out false span.disk

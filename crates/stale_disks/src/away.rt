@@ -1,8 +1,7 @@
-//! Disks that are away as a group is planned.
-ghost use Rattle.std.specs.Prelude.{◌≡◌, ◌≤◌, ◌↔◌, Contains, IfOk, true};
-ghost use Rattle.meta_objset.specs.declared.stale_spans.StaleSpan.{StaleSpan as Span};
+//! The spans of disks that are away as a group is planned, and of those that go.
+ghost use Rattle.std.specs.Prelude.{◌≡◌, ◌≤◌, IfOk};
 ghost use Rattle.meta_objset.specs.StaleSpans.{AreStaleSpans};
-ghost use Rattle.stale_disks.specs.Rules.{AreSpansAfter, IsOfDisk, LacksFrom, no_end};
+ghost use Rattle.stale_disks.specs.Rules.{AreSpansAfter, AreSpansWithout, LacksFrom, no_end};
 
 use crate::disks::{has_disk, is_marked};
 use meta_objset::{StaleSpan, StaleSpans};
@@ -11,22 +10,21 @@ use std::alloc::{AllocError, Global};
 /// The end of a span of a disk that is away: it has none yet.
 pub(crate) const NO_END: u64 = u64::MAX;
 
-/// The spans of disks that are not out.
-fn spans_of_others(
+/// The spans of the disks that aren't marked. The guids are those of the disks by their numbers, and so are the marks.
+pub fn spans_without(
     alloc: Global,
     before: &StaleSpans,
     guids: &[u64],
-    out: &[bool],
+    marks: &[bool],
 ) -> Result<StaleSpans, AllocError>
-    ensures spans { IfOk result (λ spans. (span : Span) → Contains spans span
-        ↔ ((¬ IsOfDisk guids.now out.now true span.disk) × Contains before.now span)) }
+    ensures spans { IfOk result (AreSpansWithout guids.now marks.now before.now) }
     ensures order { AreStaleSpans before.now }
 {
     let mut spans = StaleSpans::new(alloc);
     let rows = before.rows();
     for index in 0..rows.len() {
         let row = rows[index];
-        if !has_disk(guids, out, true, row.disk) {
+        if !has_disk(guids, marks, true, row.disk) {
             spans.set(row)?;
         }
     }
@@ -62,7 +60,7 @@ pub fn spans_after(
 ) -> Result<StaleSpans, AllocError>
     ensures { IfOk result (AreSpansAfter guids.now out.now group before.now) }
 {
-    let mut after = spans_of_others(alloc, before, guids, out)?;
+    let mut after = spans_without(alloc, before, guids, out)?;
     for disk in 0..guids.len() {
         if is_marked(out, disk) {
             let span = span_away(before, guids[disk], group);

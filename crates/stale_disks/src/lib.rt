@@ -6,7 +6,7 @@ mod disks;
 mod groups;
 mod opened;
 
-pub use away::spans_after;
+pub use away::{spans_after, spans_without};
 pub use disks::disk_guids;
 pub use groups::stale_groups;
 pub use opened::spans_opened;

@@ -1,33 +1,40 @@
-//! Disks that are away and come back: which groups they lack.
+//! Disks that are away, come back, and have every block again: which groups they lack.
+use Moment::{Opened, Planned, Whole};
 use meta_objset::StaleSpans;
-use stale_disks::{disk_guids, spans_after, spans_opened, stale_groups};
+use stale_disks::{disk_guids, spans_after, spans_opened, spans_without, stale_groups};
 use std::alloc::{AllocError, Global};
 use std::test::Fail;
 use vdev_label::{Config, Vdev};
 
-/// Whether a group is planned or opened, its number, which of three disks are out, and the spans then.
-type Case = (bool, u64, [bool; 3], &'static str);
+/// A group of that number is planned or opened, or disks have every block again.
+enum Moment {
+    Planned(u64),
+    Opened(u64),
+    Whole,
+}
 
-const LIFE: [Case; 9] = [
-    (true, 5, [false, false, false], ""),
-    (true, 6, [false, false, true], "13 from 6 "),
-    (true, 7, [false, true, true], "12 from 7 13 from 6 "),
-    (false, 7, [false, true, false], "12 from 7 13 6 to 7 "),
-    (true, 8, [false, true, false], "12 from 7 13 6 to 7 "),
-    (true, 9, [false, true, true], "12 from 7 13 from 6 "),
-    (false, 9, [true, false, false], "12 7 to 9 13 6 to 9 "),
+/// A moment, which of three disks are out, or are whole, and the spans then.
+type Case = (Moment, [bool; 3], &'static str);
+
+const LIFE: [Case; 10] = [
+    (Planned(5), [false, false, false], ""),
+    (Planned(6), [false, false, true], "13 from 6 "),
+    (Planned(7), [false, true, true], "12 from 7 13 from 6 "),
+    (Opened(7), [false, true, false], "12 from 7 13 6 to 7 "),
+    (Planned(8), [false, true, false], "12 from 7 13 6 to 7 "),
+    (Planned(9), [false, true, true], "12 from 7 13 from 6 "),
+    (Opened(9), [true, false, false], "12 7 to 9 13 6 to 9 "),
     (
-        true,
-        10,
+        Planned(10),
         [true, false, false],
         "11 from 10 12 7 to 9 13 6 to 9 ",
     ),
-    (false, 9, [false, false, false], "12 7 to 9 13 6 to 9 "),
+    (Opened(9), [false, false, false], "12 7 to 9 13 6 to 9 "),
+    (Whole, [true, false, true], "12 7 to 9 "),
 ];
 
 /// The groups that each disk lacks in the end.
-const LACKED: &str =
-    "[None, Some(GroupSpan { from: 7, to: 9 }), Some(GroupSpan { from: 6, to: 9 })]";
+const LACKED: &str = "[None, Some(GroupSpan { from: 7, to: 9 }), None]";
 
 fn three_disks(alloc: Global) -> Result<Config, AllocError> {
     let children = vec![in alloc; 11, 12]?;
@@ -61,20 +68,20 @@ fn told(alloc: Global, spans: &StaleSpans) -> Result<String, AllocError> {
     Ok(text)
 }
 
-/// The steps behind which the spans are others than they should.
-fn wrong_steps(alloc: Global) -> Result<String, AllocError> {
+/// The moments behind which the spans are others than they should.
+fn wrong_moments(alloc: Global) -> Result<String, AllocError> {
     let guids = disk_guids(alloc, &three_disks(alloc)?)?;
     let mut spans = StaleSpans::new(alloc);
     let mut wrong = String::new(alloc);
-    for (is_planned, group, out, wanted) in &LIFE {
-        spans = if *is_planned {
-            spans_after(alloc, &spans, &guids, out, *group)?
-        } else {
-            spans_opened(alloc, &spans, &guids, out, *group)?
+    for (moment, marks, wanted) in &LIFE {
+        spans = match moment {
+            Planned(group) => spans_after(alloc, &spans, &guids, marks, *group)?,
+            Opened(group) => spans_opened(alloc, &spans, &guids, marks, *group)?,
+            Whole => spans_without(alloc, &spans, &guids, marks)?,
         };
         let came = told(alloc, &spans)?;
         if came.as_str() != *wanted {
-            wrong.push_str(format!(in alloc; "{group}: {came}\n")?.as_str())?;
+            wrong.push_str(format!(in alloc; "{wanted}: {came}\n")?.as_str())?;
         }
     }
     let groups = format!(in alloc; "{:?}", stale_groups(alloc, &spans, &guids)?)?;
@@ -86,7 +93,7 @@ fn wrong_steps(alloc: Global) -> Result<String, AllocError> {
 
 #[test]
 fn spans_go_on(rt: HostRuntime) -> Result<(), Fail> {
-    let wrong = wrong_steps(rt.alloc())?;
+    let wrong = wrong_moments(rt.alloc())?;
     assert!(rt; wrong.is_empty(), "{wrong}");
     Ok(())
 }

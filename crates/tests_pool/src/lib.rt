@@ -22,3 +22,5 @@ mod runs;
 mod schedules;
 #[cfg(test)]
 mod test_disk;
+#[cfg(test)]
+mod whole_again;

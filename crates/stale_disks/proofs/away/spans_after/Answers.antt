@@ -26,7 +26,7 @@ loop-disk-preserved c =
     elim c.if-is_marked.branch [
       | then-is_marked+in_ok-set w ↦
           subst (AreAway (n + 1) guids c.args.out.now c.args.group c.args.before.now) (sym w.after-is)
-          (away_more n guids c.args.out.now c.args.group c.args.before.now c.loop-disk.after w.set.new.self (get_or guids n 0) w.span_away-span.result c.spans_of_others.ensures.order at
+          (away_more n guids c.args.out.now c.args.group c.args.before.now c.loop-disk.after w.set.new.self (get_or guids n 0) w.span_away-span.result c.spans_without.ensures.order at
           (sym c.is_marked.ensures ∙ w.if-is_marked.true)
           w.span_away-span.ensures.disk w.span_away-span.ensures.to w.span_away-span.ensures.from w.in_ok-set.ensures.set c.loop-disk.invariant)
       | else-is_marked w ↦
