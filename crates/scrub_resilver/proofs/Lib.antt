@@ -1,0 +1,6 @@
+pub mod Found
+pub mod Logs
+pub mod Making
+pub mod Mended
+pub mod Placing
+pub mod Stood

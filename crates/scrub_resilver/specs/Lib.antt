@@ -1,0 +1,6 @@
+pub mod Checking
+pub mod Columns
+pub mod Copies
+pub mod Laws
+pub mod Looking
+pub mod Mending

@@ -1,0 +1,19 @@
+//! What the blocks of a pool have on their disks: which of their columns are unreadable or wrong, and those written anew.
+#![tactic(auto)]
+
+mod blocks;
+mod checking;
+mod copies;
+mod fault;
+mod laws;
+mod looking;
+mod mending;
+mod refusal;
+mod right;
+mod spread;
+
+pub use blocks::check;
+pub use fault::{Fault, Finding};
+pub use laws::checked_blocks_stand;
+pub use mending::mend;
+pub use refusal::Refusal;
