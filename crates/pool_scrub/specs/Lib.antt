@@ -1,0 +1,4 @@
+pub mod Counting
+pub mod Healing
+pub mod Scrubbing
+pub mod Walking
