@@ -11,14 +11,14 @@ use Rattle.pool_model.specs.Accepted.{Accepted, CountsFrom, accepted, ledger_wit
 use Rattle.pool_model.specs.Flow.{Flow, FlowRun, flow_of, opened, released_by}
 use Rattle.pool_model.specs.Groups.{commits}
 use Rattle.pool_model.specs.Headline.{Headline}
-use Rattle.pool_model.specs.Pools.{Ledger, applied, no_items, upto}
+use Rattle.pool_model.specs.Pools.{Entry, Ledger, applied, no_items, upto}
 use Rattle.pool_model.specs.Sound.{IsSound}
 use Rattle.pool_model.specs.View.{View, Given}
 use Rattle.pool_model.proofs.Uptos.{upto_one}
 use Rattle.command_steps.specs.Changes.{steps_of}
 use Rattle.command_steps.specs.Due.{AreTaken}
-use Rattle.command_steps.specs.Made.{IsAtRest, IsItem, IsKept, IsMade, entry_of}
-use Rattle.command_steps.proofs.Accepting.{GoesOn, accepts_item, goes_on, held, held_by, item_taken, released}
+use Rattle.command_steps.specs.Made.{IsAtRest, IsItem, IsKept, IsMade, IsNextGroup, IsSame, entry_of}
+use Rattle.command_steps.proofs.Accepting.{GoesOn, accepts_item, accepts_none, goes_on, held, held_by, item_taken, released}
 use Rattle.command_steps.proofs.Courses.{item_not_device}
 use Rattle.command_steps.proofs.Resting.{RestsWith, commit_rests, idle_of}
 
@@ -100,16 +100,12 @@ stays : (v w : View) (steps : List Step) (givens : List Given) (replies : List R
 stays v w steps givens replies h more n le =
     h.pools n (omega (arith, more, le)) ∙ ap (λ (b : Bool). cond b (v.pools n) (upto v.committed (v.pools v.committed) w.ledger n)) (is_le n v.committed le)
 
-pub made : (t : ℕ) (v w : View) (item : Step) (steps : List Step) (givens : List Given) (replies : List Reply) (left : List Step) (group : ℕ) → IsSound v → AreTaken t (steps_of item) steps replies left
-    → FlowRun (flow_of v) steps replies (flow_of w) → last_or None replies ≡ Some (reply.Committed group) → commits replies ≡ group ∷ [] → Headline v steps givens replies w → IsItem item → IsAtRest v → IsMade v item group w
-made t v w item steps givens replies left group sound taken run last one h is rest =
+-- the one group is committed with what it has accepted
+next_group : (v w : View) (entry : Entry) (steps : List Step) (givens : List Given) (replies : List Reply) (group : ℕ) → commits replies ≡ group ∷ [] → Headline v steps givens replies w
+    → w.ledger (suc v.committed) ≡ entry → w.ledger (suc (suc v.committed)) ≡ no_items → RestsWith [] (flow_of w) → IsNextGroup v (applied (suc v.committed) (v.pools v.committed) entry) group w
+next_group v w entry steps givens replies group one h ledger above rests =
     let c = v.committed in
-    let tells = told t group item (flow_of v) (flow_of w) steps replies left is (rw rest.idle refl) rest.no_holds taken run last in
     let counts = count_one v w group (commits replies) one h.commit_order h.committed in
-    let receipt : accepted steps replies ≡ accepted (item ∷ []) (reply.Receipt (suc c) ∷ []) = tells.items ∙ ap (λ (n : ℕ). accepted (item ∷ []) (reply.Receipt n ∷ [])) (opens_next v rest) in
-    let ledger : w.ledger (suc c) ≡ entry_of item = h.once.ledger (suc c) ∙ (ap (λ (l : List Accepted). ledger_with v.ledger l (suc c)) receipt ∙ alone item (suc c) v.ledger is rest.nothing) in
-    let unused : v.ledger (suc (suc c)) ≡ no_items = sound.flow.beyond (suc (suc c)) (omega (arith, opens_next v rest)) in
-    let above : w.ledger (suc (suc c)) ≡ no_items = h.once.ledger (suc (suc c)) ∙ (ap (λ (l : List Accepted). ledger_with v.ledger l (suc (suc c))) receipt ∙ none_above item (suc c) v.ledger is unused) in
     record {
       next = counts.0;
       committed = counts.1;
@@ -117,12 +113,41 @@ made t v w item steps givens replies left group sound taken run last one h is re
           ∙ (upto_one c (v.pools c) w.ledger ∙ ap (applied (suc c) (v.pools c)) ledger));
       stay = stays v w steps givens replies h (omega (arith, counts.1));
       rests = record {
-        idle = idle_of w.sync tells.rests.syncing;
-        none_waits = tells.rests.waiting;
-        no_holds = tells.rests.holds;
+        idle = idle_of w.sync rests.syncing;
+        none_waits = rests.waiting;
+        no_holds = rests.holds;
         nothing = ap (λ (n : ℕ). w.ledger (suc n)) counts.1 ∙ above;
       };
     }
+
+-- nothing is accepted above the open group
+unused : (v : View) → IsSound v → IsAtRest v → v.ledger (suc (suc v.committed)) ≡ no_items
+unused v sound rest = sound.flow.beyond (suc (suc v.committed)) (omega (arith, opens_next v rest))
+
+pub made : (t : ℕ) (v w : View) (item : Step) (steps : List Step) (givens : List Given) (replies : List Reply) (left : List Step) (group : ℕ) → IsSound v → AreTaken t (steps_of item) steps replies left
+    → FlowRun (flow_of v) steps replies (flow_of w) → last_or None replies ≡ Some (reply.Committed group) → commits replies ≡ group ∷ [] → Headline v steps givens replies w → IsItem item → IsAtRest v → IsMade v item group w
+made t v w item steps givens replies left group sound taken run last one h is rest =
+    let c = v.committed in
+    let tells = told t group item (flow_of v) (flow_of w) steps replies left is (rw rest.idle refl) rest.no_holds taken run last in
+    let receipt : accepted steps replies ≡ accepted (item ∷ []) (reply.Receipt (suc c) ∷ []) = tells.items ∙ ap (λ (n : ℕ). accepted (item ∷ []) (reply.Receipt n ∷ [])) (opens_next v rest) in
+    let ledger : w.ledger (suc c) ≡ entry_of item = h.once.ledger (suc c) ∙ (ap (λ (l : List Accepted). ledger_with v.ledger l (suc c)) receipt ∙ alone item (suc c) v.ledger is rest.nothing) in
+    let above : w.ledger (suc (suc c)) ≡ no_items =
+    h.once.ledger (suc (suc c)) ∙ (ap (λ (l : List Accepted). ledger_with v.ledger l (suc (suc c))) receipt ∙ none_above item (suc c) v.ledger is (unused v sound rest)) in
+    next_group v w (entry_of item) steps givens replies group one h ledger above tells.rests
+
+-- ---- a session that commits what the open group has
+
+still_none : (n : ℕ) (ledger : Ledger) → ledger n ≡ no_items → ledger_with ledger [] n ≡ no_items
+still_none n ledger none = rw none refl
+
+pub same : (t : ℕ) (v w : View) (steps : List Step) (givens : List Given) (replies : List Reply) (left : List Step) (group : ℕ) → IsSound v → AreTaken t (step.Close ∷ []) steps replies left
+    → FlowRun (flow_of v) steps replies (flow_of w) → last_or None replies ≡ Some (reply.Committed group) → commits replies ≡ group ∷ [] → Headline v steps givens replies w → IsAtRest v → IsSame v group w
+same t v w steps givens replies left group sound taken run last one h rest =
+    let c = v.committed in
+    let none = accepts_none t (step.Close ∷ []) steps replies left (tt, tt) taken in
+    let none_in : (n : ℕ) → v.ledger n ≡ no_items → w.ledger n ≡ no_items = λ n empty. h.once.ledger n ∙ (ap (λ (l : List Accepted). ledger_with v.ledger l n) none ∙ still_none n v.ledger empty) in
+    let rests = commit_rests t step.Close (flow_of v) (flow_of w) steps replies left group (rw rest.idle refl) taken run last in
+    next_group v w no_items steps givens replies group one h (none_in (suc c) rest.nothing) (none_in (suc (suc c)) (unused v sound rest)) (subst (λ (l : List Holder). RestsWith l (flow_of w)) rest.no_holds rests)
 
 -- ---- a session that commits nothing
 

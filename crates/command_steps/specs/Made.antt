@@ -1,8 +1,8 @@
--- What a change has made of a pool.
+-- What a commit has made of a pool.
 use Rattle.std.specs.Prelude.{◌≡◌, ◌≤◌, ℕ, suc, [], ◌∷◌, None}
 use Rattle.pool_model.specs.declared.step.Step.{Step}
 use Rattle.pool_model.specs.declared.step.Step.TheVariants.{Write, Act}
-use Rattle.pool_model.specs.Pools.{Entry, applied, no_items}
+use Rattle.pool_model.specs.Pools.{Entry, PlainPool, applied, no_items}
 use Rattle.pool_model.specs.View.{View, Idle}
 
 -- nothing is on its way to the next group, and nobody holds it
@@ -24,13 +24,21 @@ entry_of (Write w) = record { writes = w ∷ []; actions = [] }
 entry_of (Act a) = record { writes = []; actions = a ∷ [] }
 entry_of step = no_items
 
--- the next group is committed, and its pool is the last one with the item; all pools before it stay, and the pool is at rest again
-pub record IsMade (v : View) (item : Step) (group : ℕ) (w : View) : Type 0 where
+-- the next group is committed, with this pool; all pools before it stay, and the pool is at rest again
+pub record IsNextGroup (v : View) (made : PlainPool) (group : ℕ) (w : View) : Type 0 where
   pub next : group ≡ suc v.committed
   pub committed : w.committed ≡ suc v.committed
-  pub pool : w.pools (suc v.committed) ≡ applied (suc v.committed) (v.pools v.committed) (entry_of item)
+  pub pool : w.pools (suc v.committed) ≡ made
   pub stay : (n : ℕ) → n ≤ v.committed → w.pools n ≡ v.pools n
   pub rests : IsAtRest w
+
+-- it has the last pool with the item
+abbrev pub IsMade : View → Step → ℕ → View → Type 0
+IsMade v item group w = IsNextGroup v (applied (suc v.committed) (v.pools v.committed) (entry_of item)) group w
+
+-- it has the last pool as it is
+abbrev pub IsSame : View → ℕ → View → Type 0
+IsSame v group w = IsNextGroup v (v.pools v.committed) group w
 
 -- no group is committed, and all pools stay
 pub record IsKept (v w : View) : Type 0 where

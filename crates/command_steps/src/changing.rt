@@ -1,9 +1,9 @@
 //! Changes: an item under a hold, and the commit of its group.
-ghost use Rattle.std.specs.Prelude.{◌≡◌, [], ◌∷◌, MatchOption};
+ghost use Rattle.std.specs.Prelude.{◌≡◌};
 ghost use Rattle.command_steps.specs.Changes.{Changes};
-ghost use Rattle.command_steps.specs.Due.{is_refused, next_of};
-ghost use Rattle.command_steps.specs.Sessions.{RunsOn};
+ghost use Rattle.command_steps.specs.Due.{is_refused};
 
+use crate::committing::run_on;
 use pool_model::{Reply, Step};
 use pool_steps::PoolSteps;
 
@@ -33,33 +33,6 @@ pub fn change<P: PoolSteps>(pool: &mut P, item: Step, timestamp: u64) -> Reply
         return released;
     }
     run_on(pool, Step::Close, timestamp)
-}
-
-/// Takes a step, and each step that brings its group on: the last reply.
-fn run_on<P: PoolSteps>(pool: &mut P, step: Step, timestamp: u64) -> Reply
-    ensures { RunsOn P.PoolSteps timestamp pool.old (step ∷ []) result pool.new }
-{
-    let mut reply = pool.take_step(step);
-    for _ in 0..u64::MAX {
-        let Some(step) = next_step(&reply, timestamp) else {
-            return reply;
-        };
-        reply = pool.take_step(step);
-    }
-    reply
-}
-
-/// The step that brings the group of a reply on, unless it is committed or refused.
-fn next_step(reply: &Reply, timestamp: u64) -> Option<Step>
-    ensures { MatchOption result (next_of timestamp reply.now ≡ [])
-        (λ step. next_of timestamp reply.now ≡ step ∷ []) }
-{
-    match reply {
-        Reply::Closed(_) => Some(Step::Quiesce),
-        Reply::Quiesced(_) | Reply::Replan(_) => Some(Step::Plan { timestamp }),
-        Reply::Planned(_) | Reply::Moved(_) => Some(Step::Device),
-        _ => None,
-    }
 }
 
 fn is_refused(reply: &Reply) -> bool

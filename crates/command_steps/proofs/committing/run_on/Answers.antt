@@ -1,6 +1,6 @@
 use Rattle.std.proofs.Common.{◌+◌, inl, inr, arith}
 use Rattle.command_steps.proofs.Stepping.{runs_one, runs_more, runs_out}
-use Rattle.command_steps.proofs.changing.run_on.Goals as goal
+use Rattle.command_steps.proofs.committing.run_on.Goals as goal
 
 pub loop-init : goal.loop-init
 loop-init g c = runs_one g.P.PoolSteps c.args.timestamp c.args.pool.now c.args.step c.take_step-reply.result c.take_step-reply.new.self c.take_step-reply.ensures.follows c.take_step-reply.ensures.goes
