@@ -1,7 +1,8 @@
 -- What the commands do to the pools on the files.
-use Rattle.std.specs.Prelude.{◌≡◌, ◌⊎◌, ℕ, true, false, List, []}
-use Rattle.pool_command.specs.Tables.{list_text, status_text}
+use Rattle.std.specs.Prelude.{◌≡◌, ◌⊎◌, ℕ, true, false, List}
+use Rattle.pool_command.specs.Tables.{list_text, scrub_text, status_text}
 use Rattle.pool_command.specs.declared.listing.VolumeRow.{VolumeRow}
+use Rattle.pool_command.specs.declared.scrubbing.ScrubReport.{ScrubReport}
 use Rattle.pool_command.specs.declared.status.PoolStatus.{PoolStatus}
 use Rattle.pool_model.specs.View.{View, now_of}
 use Rattle.pool_model.specs.declared.item.Change.{Change}
@@ -13,7 +14,7 @@ use Rattle.pool_model.specs.declared.step.Reply.{Reply}
 use Rattle.pool_model.specs.declared.step.Reply.TheVariants.{Bytes, Committed, Refused}
 use Rattle.pool_steps.specs.declared.steps.PoolSteps.{Ghosts as StepGhosts}
 use Rattle.pool_steps.specs.Goes.{Goes}
-use Rattle.command_steps.specs.Changes.{Changes}
+use Rattle.command_steps.specs.Changes.{Changes, Commits}
 use Rattle.commands.specs.Rows.{AreRowsOf}
 use Rattle.commands.specs.declared.pools.Pools.{Ghosts}
 use Rattle.commands.specs.declared.stop.Stop.{Stop}
@@ -119,6 +120,48 @@ module _ {S P F R : Type 0} (pools : Ghosts S P F R) where
     IsNotChanged old files timestamp item new (stop.Pool cause) = IsRefusedBy old files timestamp item cause new
     IsNotChanged old files timestamp item new stop.DiskLost = IsChangedWithout old files timestamp item new
     IsNotChanged old files timestamp item new other = ⊥
+
+    -- The pool on these files was scrubbed, which told this, and committed what it had: this was the last reply.
+    pub record IsScrubTried (old : S) (files : List (List ℕ)) (timestamp : ℕ) (report : ScrubReport) (reply : Reply) (last : P) (front : F) (new : S) : Type 0 where
+      pub between : S
+      pub pool : P
+      pub scrubs : pools.scrubs old files pool front report between
+      pub commits : Commits steps timestamp pool reply last
+      pub closes : pools.closes between last front new
+
+    -- it was committed, no disk failed behind the second open, and the report is the text
+    pub record IsScrubbed (old : S) (files : List (List ℕ)) (timestamp : ℕ) (text : List ℕ) (new : S) : Type 0 where
+      pub report : ScrubReport
+      pub group : ℕ
+      pub last : P
+      pub front : F
+      pub tried : IsScrubTried old files timestamp report (Committed group) last front new
+      pub whole : pools.has_lost last front ≡ false
+      pub text_is : text ≡ scrub_text report
+
+    -- it was committed, but a disk failed
+    pub record IsScrubbedWithout (old : S) (files : List (List ℕ)) (timestamp : ℕ) (new : S) : Type 0 where
+      pub report : ScrubReport
+      pub group : ℕ
+      pub last : P
+      pub front : F
+      pub tried : IsScrubTried old files timestamp report (Committed group) last front new
+      pub lost : pools.has_lost last front ≡ true
+
+    -- it was refused
+    pub record IsScrubRefusedBy (old : S) (files : List (List ℕ)) (timestamp : ℕ) (cause : Refusal) (new : S) : Type 0 where
+      pub report : ScrubReport
+      pub reply : Reply
+      pub last : P
+      pub front : F
+      pub tried : IsScrubTried old files timestamp report reply last front new
+      pub why : (reply ≡ Refused cause) ⊎ (cause ≡ NoMemory)
+
+    abbrev pub IsNotScrubbed : S → List (List ℕ) → ℕ → S → Stop R → Type 0
+    IsNotScrubbed old files timestamp new (stop.Pools cause) = pools.refuses_scrub old files cause new
+    IsNotScrubbed old files timestamp new (stop.Pool cause) = IsScrubRefusedBy old files timestamp cause new
+    IsNotScrubbed old files timestamp new stop.DiskLost = IsScrubbedWithout old files timestamp new
+    IsNotScrubbed old files timestamp new other = ⊥
 
   -- the pool was not opened; or memory ran out behind that, or a name is no text
   abbrev pub IsNotTold : S → List (List ℕ) → S → Stop R → Type 0

@@ -8,7 +8,7 @@ use Rattle.pool_command.specs.declared.command.ZfsCommand.{ZfsCommand}
 use Rattle.pool_command.specs.declared.command.ZfsCommand.TheVariants as zfs
 use Rattle.pool_model.specs.declared.item.Change.TheVariants as change
 use Rattle.pool_steps.specs.declared.steps.PoolSteps.{Ghosts as StepGhosts}
-use Rattle.commands.specs.Does.{IsChanged, IsListed, IsNotChanged, IsNotRead, IsNotTold, IsRead, IsShown, act, written}
+use Rattle.commands.specs.Does.{IsChanged, IsListed, IsNotChanged, IsNotRead, IsNotScrubbed, IsNotTold, IsRead, IsScrubbed, IsShown, act, written}
 use Rattle.commands.specs.Input.{IsInput, IsNoInput}
 use Rattle.commands.specs.Serves.{IsServed, IsServeStopped}
 use Rattle.commands.specs.Streams.{IsFilled, IsNotFilled, IsReadCut, IsReadWhole}
@@ -52,23 +52,23 @@ module _ {S P F R : Type 0} (pools : Ghosts S P F R) where
   IsNotMade old new (stop.Pools cause) why = why cause
   IsNotMade old new other why = ⊥
 
-  -- why a line of `zpool` ends before its end
-  abbrev pub StopsZpool : ZpoolCommand → S → Stop R → S → Type 0
-  StopsZpool (zpool.Create pool) old s new = IsNotMade old new s (λ cause. pools.refuses_new old pool cause new)
-  StopsZpool (zpool.Add vdev) old s new = IsNotThere old s new
-  StopsZpool (zpool.Status files) old s new = IsNotTold pools old files new s
-  StopsZpool (zpool.Scrub files) old s new = IsNotThere old s new
-  StopsZpool (zpool.Export files) old s new = IsNotExported old files new s
-
-  -- what a line of `zpool` does, and prints
-  abbrev pub DoesZpool : ZpoolCommand → S → List ℕ → S → Type 0
-  DoesZpool (zpool.Create pool) old printed new = (printed ≡ []) × pools.makes old pool new
-  DoesZpool (zpool.Add vdev) old printed new = ⊥
-  DoesZpool (zpool.Status files) old printed new = IsShown pools old files printed new
-  DoesZpool (zpool.Scrub files) old printed new = ⊥
-  DoesZpool (zpool.Export files) old printed new = (printed ≡ []) × IsExported old files new
-
   module _ (steps : StepGhosts P) where
+    -- why a line of `zpool` ends before its end
+    abbrev pub StopsZpool : ZpoolCommand → ℕ → S → Stop R → S → Type 0
+    StopsZpool (zpool.Create pool) timestamp old s new = IsNotMade old new s (λ cause. pools.refuses_new old pool cause new)
+    StopsZpool (zpool.Add vdev) timestamp old s new = IsNotThere old s new
+    StopsZpool (zpool.Status files) timestamp old s new = IsNotTold pools old files new s
+    StopsZpool (zpool.Scrub files) timestamp old s new = IsNotScrubbed pools steps old files timestamp new s
+    StopsZpool (zpool.Export files) timestamp old s new = IsNotExported old files new s
+
+    -- what a line of `zpool` does, and prints
+    abbrev pub DoesZpool : ZpoolCommand → ℕ → S → List ℕ → S → Type 0
+    DoesZpool (zpool.Create pool) timestamp old printed new = (printed ≡ []) × pools.makes old pool new
+    DoesZpool (zpool.Add vdev) timestamp old printed new = ⊥
+    DoesZpool (zpool.Status files) timestamp old printed new = IsShown pools old files printed new
+    DoesZpool (zpool.Scrub files) timestamp old printed new = IsScrubbed pools steps old files timestamp printed new
+    DoesZpool (zpool.Export files) timestamp old printed new = (printed ≡ []) × IsExported old files new
+
     -- what a line of `zfs` does, and prints
     abbrev pub DoesZfs : ZfsCommand → ℕ → Option (List ℕ) → S → List ℕ → S → Type 0
     DoesZfs (zfs.Create size block_size name files) timestamp input old printed new =
@@ -106,11 +106,11 @@ module _ {S P F R : Type 0} (pools : Ghosts S P F R) where
     StopsZfs other timestamp input old s new = ⊥
 
     abbrev pub Does : Command → ℕ → Option (List ℕ) → S → List ℕ → S → Type 0
-    Does (Zpool command) timestamp input old printed new = DoesZpool command old printed new
+    Does (Zpool command) timestamp input old printed new = DoesZpool command timestamp old printed new
     Does (Zfs command) timestamp input old printed new = DoesZfs command timestamp input old printed new
 
     abbrev pub Stops : Command → ℕ → Option (List ℕ) → S → Stop R → S → Type 0
-    Stops (Zpool command) timestamp input old s new = StopsZpool command old s new
+    Stops (Zpool command) timestamp input old s new = StopsZpool command timestamp old s new
     Stops (Zfs command) timestamp input old s new = StopsZfs command timestamp input old s new
 
     -- a line that prints as it goes on ended so: all of a volume is printed, or one is served

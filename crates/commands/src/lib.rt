@@ -8,6 +8,7 @@ mod performing;
 mod pools;
 mod pouring;
 mod running;
+mod scrubbing;
 mod serving;
 mod sizes;
 mod status;

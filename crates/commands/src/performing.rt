@@ -1,13 +1,13 @@
 //! What a command does, up to what it prints.
 ghost use Rattle.std.specs.Prelude.{◌≡◌, [], IfErr, IfOk, OnOk};
 ghost use Rattle.pool_command.specs.declared.command.Command.TheVariants.{Zfs};
-ghost use Rattle.pool_command.specs.declared.command.ZpoolCommand.TheVariants.{Create};
 ghost use Rattle.commands.specs.Does.{IsChanged, IsNotChanged, act};
-ghost use Rattle.commands.specs.Performs.{Does, DoesZfs, DoesZpool, IsExported, IsNotExported, IsPlain, Stops, StopsZfs, StopsZpool};
+ghost use Rattle.commands.specs.Performs.{Does, DoesZfs, DoesZpool, IsExported, IsNotExported, IsNotMade, IsPlain, Stops, StopsZfs, StopsZpool};
 
 use crate::changing::{act, changed, write};
 use crate::input::read_input;
 use crate::pools::Pools;
+use crate::scrubbing::scrub;
 use crate::stop::Stop;
 use crate::streaming::write_all;
 use crate::telling::{list, read, status};
@@ -34,8 +34,8 @@ fn export<S: Pools>(alloc: Global, pools: &mut S, files: &Files) -> Result<(), S
 /// Makes a pool on new files.
 fn create<S: Pools>(alloc: Global, pools: &mut S, pool: NewPool) -> Result<(), Stop<S::Refusal>>
     ensures done { OnOk result (S.makes pools.old pool pools.new) }
-    ensures stopped { IfErr result (λ stop. StopsZpool S.Pools
-        (Create pool) pools.old stop pools.new) }
+    ensures stopped { IfErr result (λ stop. IsNotMade S.Pools pools.old pools.new stop
+        (λ cause. S.refuses_new pools.old pool cause pools.new)) }
 {
     match pools.create(alloc, pool) {
         Ok(()) => Ok(()),
@@ -48,17 +48,21 @@ fn zpool<S: Pools>(
     alloc: Global,
     pools: &mut S,
     command: ZpoolCommand,
+    timestamp: u64,
 ) -> Result<Vec<u8>, Stop<S::Refusal>>
-    ensures done { IfOk result (λ printed. DoesZpool S.Pools
-        command pools.old printed.items pools.new) }
-    ensures stopped { IfErr result (λ stop. StopsZpool S.Pools
-        command pools.old stop pools.new) }
+    ensures done { IfOk result (λ printed. DoesZpool S.Pools S.Pool.PoolSteps
+        command timestamp pools.old printed.items pools.new) }
+    ensures stopped { IfErr result (λ stop. StopsZpool S.Pools S.Pool.PoolSteps
+        command timestamp pools.old stop pools.new) }
 {
     match command {
         ZpoolCommand::Create(pool) => create(alloc, pools, pool)?,
         ZpoolCommand::Status { files } => return Ok(status(alloc, pools, &files)?.into_bytes()),
+        ZpoolCommand::Scrub { files } => {
+            return Ok(scrub(alloc, pools, &files, timestamp)?.into_bytes());
+        }
         ZpoolCommand::Export { files } => export(alloc, pools, &files)?,
-        ZpoolCommand::Add(_) | ZpoolCommand::Scrub { .. } => return Err(Stop::NotThere),
+        ZpoolCommand::Add(_) => return Err(Stop::NotThere),
     }
     Ok(Vec::new(alloc))
 }
@@ -162,7 +166,7 @@ pub(crate) fn perform<S: Pools, R: Read>(
         S.Pools S.Pool.PoolSteps command timestamp (R.remaining input.old) pools.old stop pools.new) }
 {
     match command {
-        Command::Zpool(command) => zpool(alloc, pools, command),
+        Command::Zpool(command) => zpool(alloc, pools, command, timestamp),
         Command::Zfs(command) => zfs(alloc, pools, command, timestamp, input),
     }
 }

@@ -1,5 +1,5 @@
 //! Where the commands find their pools.
-use pool_command::{Files, NewPool, PoolStatus, VolumeRow};
+use pool_command::{Files, NewPool, PoolStatus, ScrubReport, VolumeRow};
 use pool_model::Refusal;
 use pool_steps::PoolSteps;
 use std::alloc::{AllocError, Global};
@@ -9,6 +9,7 @@ use std::fmt::Display;
 pub trait Pools: Drop {
     ghost use Rattle.std.specs.Prelude.{◌≡◌, ℕ, Bool, List, IfErr, IfOk, OnOk};
     ghost use Rattle.pool_command.specs.declared.command.NewPool.{NewPool};
+    ghost use Rattle.pool_command.specs.declared.scrubbing.ScrubReport.{ScrubReport};
     ghost use Rattle.pool_command.specs.declared.status.PoolStatus.{PoolStatus};
     ghost use Rattle.pool_model.specs.View.{View, now_of};
     ghost use Rattle.commands.specs.Rows.{AreRowsOf};
@@ -27,6 +28,12 @@ pub trait Pools: Drop {
 
     // It is not, for this cause.
     ghost refuses: { Self → List (List ℕ) → Self.Refusal → Self → Type 0 };
+
+    // The pool on these files is opened, every block that its last group leads to is looked at and mended, and it is opened again.
+    ghost scrubs: { Self → List (List ℕ) → Self.Pool → Self.Front → ScrubReport → Self → Type 0 };
+
+    // It is not, for this cause.
+    ghost refuses_scrub: { Self → List (List ℕ) → Self.Refusal → Self → Type 0 };
 
     // This pool is made.
     ghost makes: { Self → NewPool → Self → Type 0 };
@@ -58,6 +65,18 @@ pub trait Pools: Drop {
         ensures opened { IfOk result (λ opened.
             opens self.old files.now opened.0 opened.1 self.new) }
         ensures refused { IfErr result (λ cause. refuses self.old files.now cause self.new) };
+
+    /// Opens the pool on these files, looks at every column of every block that its last group leads to, writes those anew that are unreadable
+    /// or wrong on a disk that is there, looks at all again, and opens the pool once more.
+    fn scrub(
+        &mut self,
+        alloc: Global,
+        files: &Files,
+    ) -> Result<(Self::Pool, Self::Front, ScrubReport), Self::Refusal>
+        ensures scrubbed { IfOk result (λ scrubbed.
+            scrubs self.old files.now scrubbed.0 scrubbed.1 scrubbed.2 self.new) }
+        ensures refused { IfErr result (λ cause.
+            refuses_scrub self.old files.now cause self.new) };
 
     /// Makes the files anew, in order, and a pool on them. After a refusal those are gone again that this call made.
     fn create(&mut self, alloc: Global, pool: NewPool) -> Result<(), Self::Refusal>

@@ -1,11 +1,11 @@
 -- Pools in files. What a file held at first no clause knows, so that this tells of some disks how a pool on them was opened, made or put away.
-use Rattle.std.specs.Prelude.{◌≡◌, ◌⊎◌, List, string_bytes}
-use Rattle.block_store.specs.Config.{IsAllowedSize}
+use Rattle.std.specs.Prelude.{◌≡◌, ◌⊎◌, List}
 use Rattle.model_disk.specs.contracts.file.FileDiskDisk.TheImpl.{ghosts}
 use Rattle.model_disk.specs.declared.disk.Disk as disk
 use Rattle.model_disk.specs.declared.file.FileDisk.{FileDisk}
 use Rattle.model_disk.specs.declared.member.Member.{Member}
 use Rattle.pool_command.specs.declared.command.NewPool.{NewPool}
+use Rattle.pool_command.specs.declared.scrubbing.ScrubReport.{ScrubReport}
 use Rattle.pool_create.specs.CoreState.{CoreState}
 use Rattle.pool_create.specs.Creates.{CreateRefusesOn, IsCreatedOn}
 use Rattle.pool_create.specs.NotOpened.{NotOpened}
@@ -15,6 +15,8 @@ use Rattle.pool_create.specs.OpenRefusal.TheVariants.{NoMemory, BadConfig}
 use Rattle.pool_create.specs.OpenedFrom.{OpenedFrom}
 use Rattle.pool_create.specs.Opens.{IsOpenedOn, OpenRefuses, refusal_of}
 use Rattle.pool_create.specs.PoolIdentity.{PoolIdentity}
+use Rattle.pool_scrub.specs.Scrubbing.{IsScrubbed, ScrubRefuses}
+use Rattle.pool_scrub.specs.declared.scrubbing.ScrubCounts.{ScrubCounts}
 use Rattle.uberblock_ring.specs.declared.uberblock.Uberblock.{Uberblock}
 use Rattle.vdev_label.specs.declared.label.Config.{Config}
 use Rattle.file_pools.specs.Asking.{IsAskedFor, IsNoPool}
@@ -30,6 +32,12 @@ pub record IsOpenedPool (core : CoreState) (front : PoolFront) : Type 0 where
   pub name : front.name ≡ from.identity.name
   pub absent : front.absent.items ≡ core.commit.store.out
 
+-- another command has a file; or memory ran out
+abbrev pub IsNotHeld : Refusal → Type 0
+IsNotHeld refusal.Busy = Unit {0}
+IsNotHeld (refusal.Pool cause) = cause ≡ NoMemory
+IsNotHeld other = ⊥
+
 -- it was refused; or memory ran out
 abbrev pub IsRefusedOpen : Cause → Type 0
 IsRefusedOpen cause = (cause ≡ NoMemory) ⊎ ((disks : List FileDisk) × (failed : NotOpened FileDisk) × OpenRefuses ghosts disks 0 failed × (cause ≡ refusal_of failed))
@@ -39,6 +47,28 @@ abbrev pub IsNotOpened : Refusal → Type 0
 IsNotOpened refusal.Busy = Unit {0}
 IsNotOpened (refusal.Pool cause) = IsRefusedOpen cause
 IsNotOpened other = ⊥
+
+-- the pool was opened, scrubbed and opened again, goes by the name that its labels have, and so much was counted
+pub record IsScrubbedPool (core : CoreState) (front : PoolFront) (report : ScrubReport) : Type 0 where
+  pub disks : List FileDisk
+  pub from : OpenedFrom FileDisk
+  pub counts : ScrubCounts
+  pub scrubbed : IsScrubbed ghosts disks front.uberblock core from counts
+  pub name : front.name ≡ from.identity.name
+  pub absent : front.absent.items ≡ core.commit.store.out
+  pub group : report.group ≡ counts.group
+  pub findings : report.findings ≡ counts.findings
+  pub left : report.left ≡ counts.left
+
+-- it was refused; or memory ran out
+abbrev pub IsRefusedScrub : Cause → Type 0
+IsRefusedScrub cause = (cause ≡ NoMemory) ⊎ ((disks back : List FileDisk) × ScrubRefuses ghosts disks cause back)
+
+-- another command has a file; or the scrub is refused
+abbrev pub IsNotScrubbed : Refusal → Type 0
+IsNotScrubbed refusal.Busy = Unit {0}
+IsNotScrubbed (refusal.Pool cause) = IsRefusedScrub cause
+IsNotScrubbed other = ⊥
 
 -- the pool that the line asks for was made
 pub record IsMadePool (pool : NewPool) : Type 0 where

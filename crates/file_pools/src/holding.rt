@@ -1,6 +1,6 @@
 //! Disks in files that no other command has.
 ghost use Rattle.std.specs.Prelude.{IfErr};
-ghost use Rattle.file_pools.specs.Opening.{IsNotMade, IsNotOpened};
+ghost use Rattle.file_pools.specs.Opening.{IsNotHeld, IsNotMade};
 
 use crate::refusal::Refusal;
 use model_disk::FileDisk;
@@ -17,7 +17,7 @@ pub(crate) struct HeldDisks {
 
 /// Locks the file at this path: none where it can't be opened or locked. `Busy` where another command has it.
 fn lock<F: Files<File = File>>(files: &F, path: &str) -> Result<Option<File>, Refusal>
-    ensures { IfErr result IsNotOpened }
+    ensures { IfErr result IsNotHeld }
 {
     let Ok(file) = File::open(files, path) else {
         return Ok(None);
@@ -41,7 +41,7 @@ pub(crate) fn hold<F: Files<File = File>>(
     files: &F,
     paths: &Paths,
 ) -> Result<HeldDisks, Refusal>
-    ensures { IfErr result IsNotOpened }
+    ensures { IfErr result IsNotHeld }
 {
     let mut disks = Vec::new(alloc);
     let mut locks = Vec::new(alloc);

@@ -1,6 +1,6 @@
 //! Pools in files.
 ghost use Rattle.std.specs.Prelude.{◌≡◌, IfErr, IfOk, OnOk};
-ghost use Rattle.file_pools.specs.Opening.{IsMadePool, IsNotMade, IsNotOpened, IsOpenedPool};
+ghost use Rattle.file_pools.specs.Opening.{IsMadePool, IsNotMade, IsNotOpened, IsNotScrubbed, IsOpenedPool, IsScrubbedPool};
 ghost use Rattle.pool_create.specs.CoreStateOf.{state_of};
 
 use crate::asking::asked;
@@ -12,9 +12,10 @@ use crate::telling::{has_lost, status_of};
 use block_store::sectors_for_blocks;
 use commands::Pools;
 use model_disk::{Disk, FileDisk, Member};
-use pool_command::{Files as Paths, NewPool, PoolStatus, VolumeRow};
+use pool_command::{Files as Paths, NewPool, PoolStatus, ScrubReport, VolumeRow};
 use pool_create::{Core, NotExported, OpenedPool, create, export, open};
 use pool_model::Refusal as StepRefusal;
+use pool_scrub::{ScrubCounts, Scrubbed, scrub};
 use std::alloc::{AllocError, Global};
 use std::fs::{File, Files};
 
@@ -55,6 +56,38 @@ fn opened(alloc: Global, held: HeldDisks) -> Result<(FileCore, PoolFront), Refus
     Ok((core, front))
 }
 
+/// The pool on these disks, scrubbed and opened again, and what was counted.
+fn scrubbed(alloc: Global, held: HeldDisks) -> Result<(FileCore, PoolFront, ScrubReport), Refusal>
+    ensures scrubbed { IfOk result (λ scrubbed.
+        IsScrubbedPool (state_of scrubbed.0) scrubbed.1 scrubbed.2) }
+    ensures refused { IfErr result IsNotScrubbed }
+{
+    let HeldDisks { disks, locks } = held;
+    let Scrubbed { pool, from, counts } = match scrub(alloc, disks) {
+        Ok(scrubbed) => scrubbed,
+        Err((cause, _)) => return Err(Refusal::Pool(cause)),
+    };
+    let OpenedPool { core, uberblock } = pool;
+    let absent = core.marks(alloc)?;
+    let front = PoolFront {
+        uberblock,
+        name: from.identity.name,
+        absent,
+        locks,
+    };
+    let ScrubCounts {
+        group,
+        findings,
+        left,
+    } = counts;
+    let report = ScrubReport {
+        group,
+        findings,
+        left,
+    };
+    Ok((core, front, report))
+}
+
 /// Makes the pool that the line asks for on disks in new files.
 fn made(alloc: Global, disks: Vec<FileDisk>, pool: &NewPool) -> Result<(), Refusal>
     ensures made { OnOk result (IsMadePool pool.now) }
@@ -72,7 +105,7 @@ fn made(alloc: Global, disks: Vec<FileDisk>, pool: &NewPool) -> Result<(), Refus
 
 impl<'a, F: Files<File = File>> Pools for FilePools<'a, F> {
     ghost use Rattle.std.specs.Prelude.{string_bytes};
-    ghost use Rattle.file_pools.specs.Opening.{IsMadePool, IsNotMade, IsNotOpened, IsNotPutAway, IsOpenedPool, IsPutAway};
+    ghost use Rattle.file_pools.specs.Opening.{IsMadePool, IsNotMade, IsNotOpened, IsNotPutAway, IsNotScrubbed, IsOpenedPool, IsPutAway, IsScrubbedPool};
     ghost use Rattle.file_pools.specs.Telling.{Shows, has_lost};
     ghost use Rattle.pool_create.specs.CoreStateOf.{state_of};
 
@@ -86,6 +119,11 @@ impl<'a, F: Files<File = File>> Pools for FilePools<'a, F> {
         (new ≡ old) × IsOpenedPool (state_of core) front };
 
     ghost refuses = { λ old files cause new. (new ≡ old) × IsNotOpened cause };
+
+    ghost scrubs = { λ old files core front report new.
+        (new ≡ old) × IsScrubbedPool (state_of core) front report };
+
+    ghost refuses_scrub = { λ old files cause new. (new ≡ old) × IsNotScrubbed cause };
 
     ghost makes = { λ old pool new. (new ≡ old) × IsMadePool pool };
 
@@ -109,6 +147,15 @@ impl<'a, F: Files<File = File>> Pools for FilePools<'a, F> {
     fn open(&mut self, alloc: Global, files: &Paths) -> Result<(FileCore, PoolFront), Refusal> {
         let held = hold(alloc, self.files, files)?;
         opened(alloc, held)
+    }
+
+    fn scrub(
+        &mut self,
+        alloc: Global,
+        files: &Paths,
+    ) -> Result<(FileCore, PoolFront, ScrubReport), Refusal> {
+        let held = hold(alloc, self.files, files)?;
+        scrubbed(alloc, held)
     }
 
     fn create(&mut self, alloc: Global, pool: NewPool) -> Result<(), Refusal> {

@@ -1,8 +1,9 @@
 -- The tables, byte by byte.
-use Rattle.std.specs.Prelude.{ℕ, ◌-◌, List, [], ◌∷◌, ◌++◌, length, replicate, codes, string_bytes, false}
+use Rattle.std.specs.Prelude.{ℕ, zero, suc, ◌-◌, List, [], ◌∷◌, ◌++◌, length, replicate, codes, string_bytes, false}
 use Rattle.std.specs.List.{flat_map}
 use Rattle.std.specs.Fmt.{char_count, decimal, digits}
 use Rattle.pool_command.specs.declared.listing.VolumeRow.{VolumeRow}
+use Rattle.pool_command.specs.declared.scrubbing.ScrubReport.{ScrubReport}
 use Rattle.pool_command.specs.declared.status.DiskState.{DiskState}
 use Rattle.pool_command.specs.declared.status.DiskState.TheVariants.{Online, Absent, Stale}
 use Rattle.pool_command.specs.declared.status.DiskStatus.{DiskStatus}
@@ -68,3 +69,13 @@ vdevs_text vdevs = flat_map vdev_text vdevs
 abbrev pub status_text : PoolStatus → List ℕ
 status_text pool = line (codes "pool " ++ string_bytes pool.name) ++ (line (codes "claim " ++ decimal pool.claim)
     ++ (line (codes "group " ++ decimal pool.group) ++ vdevs_text pool.vdevs.items))
+
+-- ---- a scrub
+
+-- how many columns are still wrong, where some are
+abbrev pub left_text : ℕ → List ℕ
+left_text zero = []
+left_text (suc n) = line (codes "left " ++ decimal (suc n))
+
+abbrev pub scrub_text : ScrubReport → List ℕ
+scrub_text report = line (codes "group " ++ (decimal report.group ++ (codes " findings " ++ decimal report.findings))) ++ left_text report.left

@@ -17,7 +17,7 @@ before the new ones), and so claims it: it writes to each disk, also where it on
 looks. Each file is locked meanwhile: another command on it is refused. What a
 command changes is committed before it ends.
 
-'add' and 'scrub' are not there yet: they end with status 2, and open nothing.
+'add' is not there yet: it ends with status 2, and opens nothing.
 
 Exit status:
   0  done
@@ -66,8 +66,12 @@ Example:
   zpool status a b c";
 
 const SCRUB_NOTES: &str = "\
-It is not there yet. It is to print 'group G findings N': in what group G holds,
-N columns were wrong or could not be read, and were written anew.
+It reads each column of every block that the last group G holds, writes anew what
+is unreadable or wrong on a disk that is there, reads all again, and commits a
+group. So a disk that was stale, and is whole again, is online. It prints
+'group G findings N': N columns were unreadable or wrong. Where some still are, a
+second line is 'left M': those of absent or failing disks, and of blocks that too
+few disks have. The pool is opened twice, so its claim rises by two.
 
 Example:
   zpool scrub a b c";

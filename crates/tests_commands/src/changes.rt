@@ -1,5 +1,5 @@
-//! Changes of the machine in memory, and what they are answered.
-use command_steps::change;
+//! Changes and commits of the machine in memory, and what they are answered.
+use command_steps::{change, commit};
 use plain_machine::Machine;
 use pool_model::{Action, Bytes, Change, Name, Reply, Step, Write};
 use pool_steps::PoolSteps;
@@ -7,7 +7,7 @@ use std::alloc::{AllocError, Global};
 use std::test::Fail;
 
 /// What is asked of a new machine in turn, and the answers.
-const ASKED: [(&str, &str); 8] = [
+const ASKED: [(&str, &str); 10] = [
     (
         "create write read zero",
         " Committed(4) Committed(5) Bytes(Bytes { bytes: [7, 7] }) Refused(OutOfOrder { expected: 3 })",
@@ -31,6 +31,11 @@ const ASKED: [(&str, &str); 8] = [
     ),
     ("write", " Refused(NoSuchName)"),
     ("other", " Refused(NoHold)"),
+    (
+        "create write commit read",
+        " Committed(4) Committed(5) Committed(6) Bytes(Bytes { bytes: [7, 7] })",
+    ),
+    ("other commit", " Refused(NoHold) Refused(NotNow)"),
 ];
 
 fn name(alloc: Global, letters: &str) -> Result<Name, AllocError> {
@@ -99,10 +104,10 @@ fn read(machine: &mut Machine, name: Name) -> Reply {
 
 /// What is answered to a word, as text.
 fn answer(machine: &mut Machine, alloc: Global, word: &str, number: u64) -> Result<String, Fail> {
-    let reply = if word == "read" {
-        read(machine, name(alloc, "v")?)
-    } else {
-        change(machine, item(alloc, word, number)?, 9)
+    let reply = match word {
+        "read" => read(machine, name(alloc, "v")?),
+        "commit" => commit(machine, 9),
+        _ => change(machine, item(alloc, word, number)?, 9),
     };
     Ok(format!(in alloc; " {reply:?}")?)
 }

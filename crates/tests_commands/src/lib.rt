@@ -1,4 +1,4 @@
-//! Tests of the command lines of `zpool` and `zfs`, of their tables, and of changes: nothing but tests.
+//! Tests of the command lines of `zpool` and `zfs`, of their tables, of changes, and of `zpool scrub`: nothing but tests.
 #![tactic(auto)]
 
 #[cfg(test)]
@@ -7,6 +7,8 @@ mod changes;
 mod command_lines;
 #[cfg(test)]
 mod help_texts;
+#[cfg(test)]
+mod scrubs;
 #[cfg(test)]
 mod tables;
 #[cfg(test)]

@@ -1,6 +1,7 @@
 //! The tables, byte for byte.
 use pool_command::{
-    DiskState, DiskStatus, PoolStatus, VdevStatus, VolumeRow, list_text, status_text,
+    DiskState, DiskStatus, PoolStatus, ScrubReport, VdevStatus, VolumeRow, list_text, scrub_text,
+    status_text,
 };
 use std::alloc::{AllocError, Global};
 use std::test::Fail;
@@ -133,5 +134,31 @@ fn a_pool_is_told(rt: HostRuntime) -> Result<(), Fail> {
     };
     let text = status_text(alloc, &pool)?;
     assert!(rt; text.as_str() == STATUS, "{text}");
+    Ok(())
+}
+
+/// What scrubs found (group, findings, left), and the text of each.
+const REPORTS: [([u64; 3], &str); 4] = [
+    ([5, 0, 0], "group 5 findings 0\n"),
+    ([5, 17, 0], "group 5 findings 17\n"),
+    ([40, 17, 3], "group 40 findings 17\nleft 3\n"),
+    (
+        [4_611_686_018_427_387_904, u64::MAX, 1],
+        "group 4611686018427387904 findings 18446744073709551615\nleft 1\n",
+    ),
+];
+
+#[test]
+fn scrubs_are_reported(rt: HostRuntime) -> Result<(), Fail> {
+    for (found, wanted) in &REPORTS {
+        let [group, findings, left] = *found;
+        let report = ScrubReport {
+            group,
+            findings,
+            left,
+        };
+        let text = scrub_text(rt.alloc(), &report)?;
+        assert!(rt; text.as_str() == *wanted, "{text}");
+    }
     Ok(())
 }

@@ -240,7 +240,7 @@ const LIFE: [Case; 46] = [
         "",
         "zpool: refused 23 PoolMismatch\n",
     ),
-    ("zpool scrub a b c", (0, 0), 2, "", "zpool: not there yet\n"),
+    ("zpool scrub a b c", (0, 0), 0, "group 10 findings 0\n", ""),
     (
         "zfs snapshot v a b c",
         (0, 0),
@@ -251,7 +251,7 @@ const LIFE: [Case; 46] = [
 ];
 
 /// A disk that is away while groups are written, and comes back.
-const AWAY: [Case; 12] = [
+const AWAY: [Case; 19] = [
     (
         "zpool create --seed 7 --bytes 8388608 tank raidz1 a b c",
         (0, 0),
@@ -300,6 +300,39 @@ const AWAY: [Case; 12] = [
         "",
     ),
     ("zfs read v a b c", (0, 0), 0, "ddx512 ccx512 ", ""),
+    // All that groups 5 and 6 left was written anew in group 7, with all disks: nothing of c is missing.
+    ("zpool scrub b c a", (0, 0), 0, "group 7 findings 0\n", ""),
+    (
+        "zpool status a b c",
+        (0, 0),
+        0,
+        "pool tank\nclaim 15\ngroup 8\nvdev 0 raidz1\n  disk 0 b7f69bbf566b8b1b online\n  disk 1 beb75bd9e7833e65 online\n  disk 2 24e2fbb94d9b2064 online\n",
+        "",
+    ),
+    // Without c each of its columns is unreadable. The group that this commits is what it lacks then.
+    (
+        "zpool scrub a b",
+        (0, 0),
+        0,
+        "group 8 findings 36\nleft 36\n",
+        "",
+    ),
+    (
+        "zpool status c a b",
+        (0, 0),
+        0,
+        "pool tank\nclaim 18\ngroup 9\nvdev 0 raidz1\n  disk 0 b7f69bbf566b8b1b online\n  disk 1 beb75bd9e7833e65 online\n  disk 2 24e2fbb94d9b2064 stale 9 9\n",
+        "",
+    ),
+    ("zpool scrub a b c", (0, 0), 0, "group 9 findings 7\n", ""),
+    (
+        "zpool status a b c",
+        (0, 0),
+        0,
+        "pool tank\nclaim 21\ngroup 10\nvdev 0 raidz1\n  disk 0 b7f69bbf566b8b1b online\n  disk 1 beb75bd9e7833e65 online\n  disk 2 24e2fbb94d9b2064 online\n",
+        "",
+    ),
+    ("zfs read v b c", (0, 0), 0, "ddx512 ccx512 ", ""),
 ];
 
 /// Bytes as they are printed here: a text as it stands, and of a read the length of each run of one byte.

@@ -6,11 +6,14 @@ use crate::telling::{has_lost, vdevs_of, volume_rows};
 use block_store::sectors_for_blocks;
 use commands::Pools;
 use model_disk::{Fault, Member};
-use pool_command::{Files, NewPool, PoolStatus, VolumeRow};
+use pool_command::{Files, NewPool, PoolStatus, ScrubReport, VolumeRow};
 use pool_create::{Core, PoolIdentity, create};
 use pool_members::HandedIn;
 use pool_model::Refusal as StepRefusal;
-use pool_open::{NotExported, NotOpened, OpenedPool, Refusal as PoolRefusal, export, open};
+use pool_open::{
+    NotExported, NotOpened, OpenedFrom, OpenedPool, Refusal as PoolRefusal, export, open,
+};
+use pool_scrub::{ScrubCounts, Scrubbed, scrub};
 use std::alloc::{AllocError, Global};
 use uberblock_ring::Uberblock;
 use vdev_label::{Config, Vdev};
@@ -105,17 +108,13 @@ fn present(alloc: Global, members: Vec<Member<TimedDisk>>) -> Vec<TimedDisk> {
     disks
 }
 
-/// The pool on these disks, opened and claimed; or why not, and the disks.
-fn opened(
+/// The pool that was opened, and what is known beside it; or why not, and the disks.
+fn fronted(
     alloc: Global,
-    disks: Vec<TimedDisk>,
+    pool: OpenedPool<Member<TimedDisk>>,
+    from: OpenedFrom<TimedDisk>,
 ) -> Result<(MemCore, PoolFront), (PoolRefusal, Vec<TimedDisk>)> {
-    let (opened, from) = match open(alloc, disks, 0) {
-        Ok(opened) => opened,
-        Err(NotOpened::NotFound { refusal, disks } | NotOpened::Refused { refusal, disks }) =>
-            return Err((refusal, disks)),
-    };
-    let OpenedPool { core, uberblock } = opened;
+    let OpenedPool { core, uberblock } = pool;
     let Ok(absent) = core.marks(alloc) else {
         return Err((
             PoolRefusal::NoMemory,
@@ -129,6 +128,39 @@ fn opened(
         handed: from.handed,
     };
     Ok((core, front))
+}
+
+/// The pool on these disks, opened and claimed; or why not, and the disks.
+fn opened(
+    alloc: Global,
+    disks: Vec<TimedDisk>,
+) -> Result<(MemCore, PoolFront), (PoolRefusal, Vec<TimedDisk>)> {
+    match open(alloc, disks, 0) {
+        Ok((pool, from)) => fronted(alloc, pool, from),
+        Err(NotOpened::NotFound { refusal, disks } | NotOpened::Refused { refusal, disks }) => Err((
+            refusal, disks,
+        )),
+    }
+}
+
+/// The pool on these disks, scrubbed and opened again, and what was counted; or why not, and the disks.
+fn scrubbed(
+    alloc: Global,
+    disks: Vec<TimedDisk>,
+) -> Result<(MemCore, PoolFront, ScrubReport), (PoolRefusal, Vec<TimedDisk>)> {
+    let Scrubbed { pool, from, counts } = scrub(alloc, disks)?;
+    let ScrubCounts {
+        group,
+        findings,
+        left,
+    } = counts;
+    let (core, front) = fronted(alloc, pool, from)?;
+    let report = ScrubReport {
+        group,
+        findings,
+        left,
+    };
+    Ok((core, front, report))
 }
 
 /// Puts the pool away: why it isn't, and its disks.
@@ -157,6 +189,10 @@ impl Pools for MemPools {
 
     ghost refuses = { λ _ _ _ _. Unit {0} };
 
+    ghost scrubs = { λ _ _ _ _ _ _. Unit {0} };
+
+    ghost refuses_scrub = { λ _ _ _ _. Unit {0} };
+
     ghost makes = { λ _ _ _. Unit {0} };
 
     ghost refuses_new = { λ _ _ _ _. Unit {0} };
@@ -176,6 +212,21 @@ impl Pools for MemPools {
         let disks = self.shelf.take(alloc, files)?;
         match opened(alloc, disks) {
             Ok(opened) => Ok(opened),
+            Err((cause, disks)) => {
+                self.shelf.put_back(disks);
+                Err(Refusal::Pool(cause))
+            }
+        }
+    }
+
+    fn scrub(
+        &mut self,
+        alloc: Global,
+        files: &Files,
+    ) -> Result<(MemCore, PoolFront, ScrubReport), Refusal> {
+        let disks = self.shelf.take(alloc, files)?;
+        match scrubbed(alloc, disks) {
+            Ok(scrubbed) => Ok(scrubbed),
             Err((cause, disks)) => {
                 self.shelf.put_back(disks);
                 Err(Refusal::Pool(cause))

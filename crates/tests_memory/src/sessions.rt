@@ -7,7 +7,7 @@ use std::test::Fail;
 /// A command line; standard input, which is so many bytes of this value; and the exit status with what is printed.
 type Case = (&'static str, (u8, usize), &'static str);
 
-const LIFE: [Case; 23] = [
+const LIFE: [Case; 24] = [
     (
         "zpool create --seed 7 --bytes 8388608 tank raidz1 a b c",
         (0, 0),
@@ -68,11 +68,12 @@ const LIFE: [Case; 23] = [
         (0, 0),
         "1 zpool: refused 18 BadLabel tail\n",
     ),
+    ("zpool scrub a b c", (0, 0), "0 group 9 findings 0\n"),
     ("zpool export a b c", (0, 0), "0 "),
     (
         "zpool status a c",
         (0, 0),
-        "0 pool tank\nclaim 18\ngroup 9\nvdev 0 raidz1\n  disk 0 00000000000002be online\n  disk 1 00000000000002bf absent\n  disk 2 00000000000002c0 online\n",
+        "0 pool tank\nclaim 20\ngroup 10\nvdev 0 raidz1\n  disk 0 00000000000002be online\n  disk 1 00000000000002bf absent\n  disk 2 00000000000002c0 online\n",
     ),
     ("zfs read --at 510 --len 4 v@s b c", (0, 0), "0 aax2 00x2 "),
 ];
