@@ -6,7 +6,6 @@ pub mod Directories
 pub mod Parted
 pub mod Disks
 pub mod Keeping
-pub mod KnownSpans
 pub mod Labels
 pub mod Made
 pub mod Growing

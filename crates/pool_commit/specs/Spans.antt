@@ -1,7 +1,8 @@
 -- The stale spans of the groups that are kept.
-use Rattle.std.specs.Prelude.{ℕ, ◌≡◌, Bool, false, Some, List, []}
+use Rattle.std.specs.Prelude.{ℕ, ◌≡◌, ◌↔◌, Bool, false, Some, List, [], Contains}
 use Rattle.block_store.specs.Store.{is_stale}
-use Rattle.stale_disks.specs.Rules.{AreSpansAfter, AreSpansOpened, AreSpansWithout, guids_in, stale_groups}
+use Rattle.meta_objset.specs.declared.stale_spans.StaleSpan.{StaleSpan}
+use Rattle.stale_disks.specs.Rules.{AreSpansAfter, AreSpansOpened, guids_in, stale_groups}
 use Rattle.vdev_label.specs.Plain.{config_view}
 use Rattle.pool_commit.specs.State.{State}
 use Rattle.pool_commit.specs.declared.kept.KeptGroup.{KeptGroup}
@@ -16,10 +17,9 @@ pub record HasSpansAfter (last : KeptGroup) (out : List Bool) (group : ℕ) (aft
 abbrev pub HasSpansOpened : List Bool → ℕ → KeptGroup → Type 0
 HasSpansOpened out group last = AreSpansOpened (guids_in (config_view last.config.value)) out group last.spans_under.value last.spans.value
 
--- of the marked disks no stale span is known any more, and all else is as it was
-pub record ClearsSpans (whole : List Bool) (old new : State) : Type 0 where
-  pub spans : AreSpansWithout (guids_in (config_view old.kept.last.config.value)) whole old.kept.last.spans.value new.kept.last.spans.value
-  pub rest : new ≡ record old { kept = record old.kept { last = record old.kept.last { spans = new.kept.last.spans } } }
+-- these spans, and no others
+abbrev pub AreSameSpans : List StaleSpan → List StaleSpan → Type 0
+AreSameSpans before after = (span : StaleSpan) → Contains after span ↔ Contains before span
 
 -- a store leaves each disk out for the blocks of the groups that it missed, by the spans that are known
 abbrev pub LeavesOutStale : State → Type 0

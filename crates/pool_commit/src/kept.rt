@@ -131,13 +131,6 @@ impl Kept {
         }
     }
 
-    /// Of the last group these spans are known, in place of those that were.
-    pub(crate) fn know_spans(&mut self, spans: Arc<StaleSpans, Global>)
-        ensures { self.new ≡ record self.old { last = record self.old.last { spans = spans } } }
-    {
-        self.last.spans = spans;
-    }
-
     /// The next group is committed.
     pub(crate) fn shift(&mut self, after: KeptGroup)
         ensures { IsShifted self.old after self.new }

@@ -1,13 +1,17 @@
 //! What is told of the committed group, and of the disks that it stands on.
 ghost use Rattle.std.specs.Prelude.{◌≡◌, length, None, IfOk, IfSome};
 ghost use Rattle.pool_commit.specs.Last.{IsLastUberblock, LacksUberblock};
+ghost use Rattle.pool_commit.specs.Spans.{AreSameSpans};
 ghost use Rattle.pool_slots.specs.Slots.{HaveLabels};
 
 use crate::commit::Commit;
+use crate::reopening::KnownDisks;
 use block_store::BlockStore;
 use meta_objset::StaleSpans;
 use model_disk::Disk;
+use stale_disks::spans_without;
 use std::alloc::{AllocError, Global};
+use std::sync::Arc;
 use uberblock_ring::Uberblock;
 use vdev_label::Config;
 use words::LAST_COUNT;
@@ -62,6 +66,19 @@ impl<D: Disk + Drop> Commit<D> {
         ensures { result.now ≡ (state_of self.now).kept.last.config.value }
     {
         self.kept.last().config()
+    }
+
+    /// What is known of the pool's disks: the configuration that they are of, and of which groups each lacks blocks.
+    pub fn known_disks(&self, alloc: Global) -> Result<KnownDisks, AllocError>
+        ensures config { IfOk result (λ known.
+            known.config.value ≡ (state_of self.now).kept.last.config.value) }
+        ensures spans { IfOk result (λ known.
+            AreSameSpans (state_of self.now).kept.last.spans.value known.spans) }
+    {
+        let last = self.kept.last();
+        let spans = spans_without(alloc, last.spans(), &[], &[])?;
+        let config = Arc::try_clone(&last.config)?;
+        Ok(KnownDisks { config, spans })
     }
 
     /// Of each disk, whether it is out.

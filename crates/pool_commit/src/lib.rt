@@ -3,7 +3,6 @@
 #![tactic(auto)]
 
 mod absence;
-mod clearing;
 mod commit;
 mod config;
 mod device;

@@ -1,6 +1,7 @@
 //! What is told of a pool at rest, and what an export asks of its core.
 ghost use Rattle.std.specs.Prelude.{◌≡◌, length, None, IfOk, IfSome};
 ghost use Rattle.pool_commit.specs.Last.{IsLastUberblock, LacksUberblock};
+ghost use Rattle.pool_commit.specs.Spans.{AreSameSpans};
 ghost use Rattle.pool_core.specs.Exporting.{IsAgainstExport, IsExportable};
 ghost use Rattle.pool_core.specs.State.{config_of, spans_of};
 ghost use Rattle.pool_core.specs.StateOf.{disks_in, state_of};
@@ -9,6 +10,7 @@ ghost use Rattle.pool_slots.specs.Slots.{HaveLabels};
 use crate::pool::Core;
 use meta_objset::StaleSpans;
 use model_disk::Disk;
+use pool_commit::KnownDisks;
 use pool_model::Refusal;
 use std::alloc::{AllocError, Global};
 use uberblock_ring::Uberblock;
@@ -52,6 +54,17 @@ impl<D: Disk + Drop> Core<D> {
         ensures { result.now ≡ spans_of (state_of self.now) }
     {
         self.commit.stale_spans()
+    }
+
+    /// What is known of the pool's disks: the configuration that they are of, and of which groups each lacks blocks. With it, or with fewer
+    /// spans, a core may be begun anew over the disks.
+    pub fn known_disks(&self, alloc: Global) -> Result<KnownDisks, AllocError>
+        ensures config { IfOk result (λ known.
+            known.config.value ≡ config_of (state_of self.now)) }
+        ensures spans { IfOk result (λ known.
+            AreSameSpans (spans_of (state_of self.now)) known.spans) }
+    {
+        self.commit.known_disks(alloc)
     }
 
     /// Of each disk, whether it is out.

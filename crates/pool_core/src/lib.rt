@@ -3,7 +3,6 @@
 #![tactic(auto)]
 
 mod absence;
-mod clearing;
 mod exporting;
 mod honest;
 mod pool;

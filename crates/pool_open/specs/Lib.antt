@@ -12,6 +12,7 @@ pub mod Opening
 pub mod Settling
 pub mod Retried
 pub mod Opens
+pub mod Again
 pub mod Stops
 pub mod Exporting
 pub mod ExportStops

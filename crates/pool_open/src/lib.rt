@@ -1,6 +1,7 @@
 //! Opening a pool: finding it on disks, claiming it, and the core that goes on from its last group.
 #![tactic(auto)]
 
+mod again;
 mod attempts;
 mod children;
 mod exporting;
@@ -15,6 +16,7 @@ mod settling;
 mod shapes;
 mod tolerance;
 
+pub use again::core_again;
 pub use attempts::open_over;
 pub use children::children_of;
 pub use exporting::{NotExported, export};

@@ -1,18 +1,22 @@
 //! Scrubs of pools on disks that are handed in.
-ghost use Rattle.std.specs.Prelude.{◌≡◌, ◌⊎◌, IfErr, IfOk, OnErr, OnOk};
+ghost use Rattle.std.specs.Prelude.{◌≡◌, IfErr, IfOk};
+ghost use Rattle.pool_open.specs.CoreState.{config_of};
 ghost use Rattle.pool_open.specs.CoreStateOf.{disks_in, state_of};
 ghost use Rattle.pool_open.specs.Opens.{refusal_of};
-ghost use Rattle.pool_model.specs.View.{View};
-ghost use Rattle.pool_open.specs.Represents.{Represents};
-ghost use Rattle.pool_scrub.specs.Scrubbing.{IsCleared, IsLayoutOf, IsLooked, IsNotCleared, IsNotOpened, IsOpenedWith, IsPoolLooked, IsPoolUnlooked, IsScrubbed, IsUnlooked, ScrubRefuses, back_of};
+ghost use Rattle.stale_disks.specs.Rules.{AreSpansWithout, guids_in};
+ghost use Rattle.vdev_label.specs.Plain.{config_view};
+ghost use Rattle.pool_scrub.specs.Laws.{CleanScrubsGoOnWhole};
+ghost use Rattle.pool_scrub.specs.Scrubbing.{IsBegunAgain, IsLayoutOf, IsLooked, IsNotBegunAgain, IsNotScrubbedOver};
+ghost use Rattle.pool_scrub.specs.Scrubbing.{IsScrubbed, IsScrubbedOver, IsUnlooked, ScrubRefuses, back_of};
 
 use crate::counting::{missing_of, whole_of};
 use crate::healing::{Healed, heal};
 use crate::walking::{PoolLayout, walk};
+use block_store::writes_elsewhere_keep;
 use model_disk::{Disk, DiskArray, Member};
-use pool_members::HandedIn;
-use pool_open::{Core, NotOpened, OpenedFrom, OpenedPool, Refusal, open};
-use stale_disks::{disk_guids, stale_groups};
+use pool_open::{Core, KnownDisks, NotOpened, OpenedFrom, OpenedPool, Refusal, core_again, open};
+use scrub_resilver::checked_blocks_stand;
+use stale_disks::{disk_guids, spans_without, stale_groups};
 use std::alloc::{AllocError, Global};
 use uberblock_ring::Uberblock;
 
@@ -24,7 +28,7 @@ pub struct ScrubCounts {
     pub left: u64,
 }
 
-/// A pool that was scrubbed, as it is opened again, and what the scrub found.
+/// A pool that was scrubbed and goes on, and what the scrub found.
 #[derive(Drop)]
 pub struct Scrubbed<D: Disk + Drop>
 where
@@ -58,35 +62,28 @@ pub(crate) struct Looked {
 fn look_over<D: Disk + Drop>(
     alloc: Global,
     disks: DiskArray<D>,
-    layout: PoolLayout,
+    layout: &PoolLayout,
     uberblock: &Uberblock,
 ) -> (Result<Looked, Refusal>, DiskArray<D>)
-    ensures looked { IfOk result.0 (IsLooked disks layout uberblock.now result.1) }
-    ensures refused { IfErr result.0 (IsUnlooked disks layout uberblock.now result.1) }
+    ensures looked { IfOk result.0 (IsLooked disks layout.now uberblock.now result.1) }
+    ensures refused { IfErr result.0 (IsUnlooked disks layout.now uberblock.now result.1) }
 {
-    let Ok(out) = Vec::from_slice(alloc, layout.out.as_slice()) else {
+    let out = layout.out.as_slice();
+    let Ok(missing) = missing_of(alloc, out) else {
         return (Err(Refusal::NoMemory), disks);
     };
-    let Ok(missing) = missing_of(alloc, out.as_slice()) else {
-        return (Err(Refusal::NoMemory), disks);
-    };
-    let (blocks, shapes, mut disks) = match walk(
-        alloc,
-        disks,
-        layout,
-        &uberblock.root,
-        uberblock.group,
-    ) {
+    let (blocks, mut disks) = match walk(alloc, disks, layout, &uberblock.root, uberblock.group) {
         Ok(walked) => walked,
         Err((refusal, disks)) => return (Err(refusal), disks),
     };
-    let healed = match heal(&mut disks, alloc, &shapes, &blocks, &missing) {
+    let shapes = layout.shapes.as_slice();
+    let healed = match heal(&mut disks, alloc, shapes, &blocks, &missing) {
         Ok(healed) => healed,
         Err(refusal) => return (Err(refusal), disks),
     };
     match whole_of(
         alloc,
-        out.as_slice(),
+        out,
         healed.left.as_slice(),
         healed.unflushed.as_slice(),
     ) {
@@ -95,23 +92,76 @@ fn look_over<D: Disk + Drop>(
     }
 }
 
-/// Takes the pool apart, looks at all blocks that it leads to, and mends them; the disks come back in the order handed in.
-fn look_at_pool<D: Disk + Drop>(
-    alloc: Global,
-    pool: OpenedPool<Member<D>>,
-    handed: HandedIn<D>,
-) -> (Result<Looked, Refusal>, Vec<D>)
-    ensures looked { IfOk result.0 (IsPoolLooked D.Disk
-        (state_of pool.core) pool.uberblock handed result.1.items) }
-    ensures refused { IfErr result.0 (IsPoolUnlooked D.Disk
-        (state_of pool.core) pool.uberblock handed result.1.items) }
+/// What is known of the disks once those that are marked have every block again.
+fn known_behind(alloc: Global, known: KnownDisks, whole: &[bool]) -> Result<KnownDisks, AllocError>
+    ensures config { IfOk result (λ it. it.config.value ≡ known.config.value) }
+    ensures spans { IfOk result (λ it. AreSpansWithout
+        (guids_in (config_view known.config.value)) whole.now known.spans it.spans) }
 {
-    let OpenedPool { core, uberblock } = pool;
-    let Ok(layout) = layout_of(alloc, &core) else {
-        return (Err(Refusal::NoMemory), handed.restore(core.into_disks()));
+    let guids = disk_guids(alloc, known.config.as_ref())?;
+    let spans = spans_without(alloc, &known.spans, &guids, whole)?;
+    Ok(KnownDisks {
+        config: known.config,
+        spans,
+    })
+}
+
+/// Begins the core anew: of disks that have every block again no span is known any more.
+fn begin_again<D: Disk + Drop>(
+    alloc: Global,
+    disks: DiskArray<D>,
+    layout: &PoolLayout,
+    uberblock: &Uberblock,
+    known: KnownDisks,
+    looked: &Looked,
+) -> Result<Core<D>, (Refusal, DiskArray<D>)>
+    ensures again { IfOk result (λ core. IsBegunAgain disks layout.now uberblock.now
+        known.config.value known.spans looked.now (state_of core)) }
+    ensures refused { IfErr result (λ failed. IsNotBegunAgain disks layout.now uberblock.now
+        known.config.value known.spans looked.now failed.1 failed.0) }
+{
+    let Ok(known) = known_behind(alloc, known, looked.whole.as_slice()) else {
+        return Err((Refusal::NoMemory, disks));
     };
-    let (looked, disks) = look_over(alloc, core.into_array(), layout, &uberblock);
-    (looked, handed.restore(disks.into_disks()))
+    core_again(
+        alloc,
+        disks,
+        layout.shapes.as_slice(),
+        layout.out.as_slice(),
+        uberblock,
+        known,
+    )
+}
+
+/// Takes a pool apart that is at rest, looks at all blocks that it leads to, mends them, and begins its core anew.
+fn scrub_over<D: Disk + Drop>(
+    alloc: Global,
+    core: Core<D>,
+    uberblock: &Uberblock,
+) -> Result<(Core<D>, ScrubCounts), (Refusal, DiskArray<D>)>
+    ensures scrubbed { IfOk result (λ it.
+        IsScrubbedOver (state_of core) uberblock.now (state_of it.0) it.1) }
+    ensures refused { IfErr result (λ failed.
+        IsNotScrubbedOver (state_of core) uberblock.now failed.1 failed.0) }
+{
+    let Ok(layout) = layout_of(alloc, &core) else {
+        return Err((Refusal::NoMemory, core.into_array()));
+    };
+    let Ok(known) = core.known_disks(alloc) else {
+        return Err((Refusal::NoMemory, core.into_array()));
+    };
+    let (looked, disks) = look_over(alloc, core.into_array(), &layout, uberblock);
+    let looked = match looked {
+        Ok(looked) => looked,
+        Err(refusal) => return Err((refusal, disks)),
+    };
+    let core = begin_again(alloc, disks, &layout, uberblock, known, &looked)?;
+    let counts = ScrubCounts {
+        group: uberblock.group,
+        findings: looked.healed.found.len() as u64,
+        left: looked.healed.left.len() as u64,
+    };
+    Ok((core, counts))
 }
 
 /// Why a pool was not opened, and its disks.
@@ -125,57 +175,10 @@ fn parts_of<D: Disk + Drop>(failed: NotOpened<D>) -> (Refusal, Vec<D>)
     }
 }
 
-/// Takes the stale spans of whole disks away, where the pool is at the group whose blocks were looked at.
-fn clear<D: Disk + Drop>(
-    core: &mut Core<D>,
-    alloc: Global,
-    group: u64,
-    looked_at: u64,
-    whole: &[bool],
-) -> Result<(), AllocError>
-    ensures cleared { OnOk result (IsCleared
-        whole.now looked_at group (state_of core.old) (state_of core.new)) }
-    ensures err { OnErr result (state_of core.new ≡ state_of core.old) }
-    ensures represents { (v : View) → Represents (state_of core.old) v
-        → Represents (state_of core.new) v }
-{
-    if group != looked_at {
-        return Ok(());
-    }
-    core.clear_spans(alloc, whole)
-}
-
-/// Opens a pool again whose blocks were looked at as of this group: disks that have all of them go on without stale spans.
-fn open_again<D: Disk + Drop>(
-    alloc: Global,
-    disks: Vec<D>,
-    group: u64,
-    whole: &[bool],
-) -> Result<(OpenedPool<Member<D>>, OpenedFrom<D>), (Refusal, Vec<D>)>
-    ensures opened { IfOk result (λ it. IsOpenedWith D.Disk disks.items group whole.now
-        it.0.uberblock (state_of it.0.core) it.1) }
-    ensures refused { IfErr result (λ failed. IsNotOpened D.Disk disks.items
-        failed.0 failed.1.items
-        ⊎ ((failed.0 ≡ Refusal.NoMemory) × IsNotCleared D.Disk disks.items failed.1.items)) }
-{
-    let (pool, from) = match open(alloc, disks, 0) {
-        Ok(opened) => opened,
-        Err(failed) => return Err(parts_of(failed)),
-    };
-    let OpenedPool {
-        mut core,
-        uberblock,
-    } = pool;
-    match clear(&mut core, alloc, uberblock.group, group, whole) {
-        Ok(()) => Ok((OpenedPool { core, uberblock }, from)),
-        Err(_) => Err((Refusal::NoMemory, from.handed.restore(core.into_disks()))),
-    }
-}
-
 /// Opens the pool on the disks, as `open` does, looks at every column of every block that its last group leads to, on all disks that are
-/// there, and writes those anew that are unreadable or wrong; looks at all again; and opens the pool once more. A disk of which nothing is
-/// left to be mended has every block of that group: it goes on without stale spans, which the next group's table doesn't have, while
-/// what is read in this open still leaves it out as before. So the claim rises by two. With an error the disks come back, in the order handed in.
+/// there, and writes those anew that are unreadable or wrong; and looks at all again. A disk of which nothing is left to be mended, and
+/// whose flush didn't fail, has every block of that group: it goes on without stale spans, is read as any other disk, and the next
+/// group's table has none of it. With an error the disks come back, in the order handed in.
 pub fn scrub<D: Disk + Drop>(alloc: Global, disks: Vec<D>) -> Result<Scrubbed<D>, (Refusal, Vec<D>)>
     ensures scrubbed { IfOk result (λ it. IsScrubbed D.Disk disks.items
         it.pool.uberblock (state_of it.pool.core) it.from it.counts) }
@@ -186,17 +189,21 @@ pub fn scrub<D: Disk + Drop>(alloc: Global, disks: Vec<D>) -> Result<Scrubbed<D>
         Ok(opened) => opened,
         Err(failed) => return Err(parts_of(failed)),
     };
-    let group = pool.uberblock.group;
-    let (looked, disks) = look_at_pool(alloc, pool, from.handed);
-    let looked = match looked {
-        Ok(looked) => looked,
-        Err(refusal) => return Err((refusal, disks)),
-    };
-    let (pool, from) = open_again(alloc, disks, group, looked.whole.as_slice())?;
-    let counts = ScrubCounts {
-        group,
-        findings: looked.healed.found.len() as u64,
-        left: looked.healed.left.len() as u64,
-    };
-    Ok(Scrubbed { pool, from, counts })
+    let OpenedPool { core, uberblock } = pool;
+    match scrub_over(alloc, core, &uberblock) {
+        Ok((core, counts)) => Ok(Scrubbed {
+            pool: OpenedPool { core, uberblock },
+            from,
+            counts,
+        }),
+        Err((refusal, disks)) => Err((refusal, from.handed.restore(disks.into_disks()))),
+    }
+}
+
+/// A law: where nothing is left to be mended of a disk that is there, the pool goes on as the open found it, and no disk that is there is stale.
+pub fn clean_scrubs_go_on_whole()
+    ensures { CleanScrubsGoOnWhole }
+{
+    writes_elsewhere_keep();
+    checked_blocks_stand();
 }

@@ -46,26 +46,29 @@ fn sectors_of(shapes: &[VdevShape]) -> u64 {
 pub(crate) fn walk<D: Disk + Drop>(
     alloc: Global,
     disks: DiskArray<D>,
-    layout: PoolLayout,
+    layout: &PoolLayout,
     root: &Block,
     group: u64,
-) -> Result<(Vec<Block>, Vec<VdevShape>, DiskArray<D>), (Refusal, DiskArray<D>)>
-    ensures walked { IfOk result (λ walked. (walked.1.items ≡ layout.shapes.items)
-        × IsWalkedOver disks layout root.now group walked.0.items walked.2) }
-    ensures room { IfOk result (λ walked. HaveRoom layout.shapes.items walked.2.starts) }
+) -> Result<(Vec<Block>, DiskArray<D>), (Refusal, DiskArray<D>)>
+    ensures walked { IfOk result (λ walked.
+        IsWalkedOver disks layout.now root.now group walked.0.items walked.1) }
+    ensures room { IfOk result (λ walked. HaveRoom (layout.now).shapes.items walked.1.starts) }
     ensures refused { IfErr result (λ failed.
-        IsUnwalked disks layout root.now group failed.0 failed.1) }
+        IsUnwalked disks layout.now root.now group failed.0 failed.1) }
 {
     let _count = disks.len();
-    let PoolLayout { shapes, out, stale } = layout;
-    let mut store = match BlockStore::opened(alloc, disks, shapes.as_slice(), out.as_slice()) {
+    let shapes = layout.shapes.as_slice();
+    let Ok(stale) = Vec::from_slice(alloc, layout.stale.as_slice()) else {
+        return Err((Refusal::NoMemory, disks));
+    };
+    let mut store = match BlockStore::opened(alloc, disks, shapes, layout.out.as_slice()) {
         Ok(store) => store,
         Err((refusal, disks)) => return Err((told(refusal), disks)),
     };
     store.mark_stale(stale);
-    let mut left = sectors_of(shapes.as_slice());
+    let mut left = sectors_of(shapes);
     match reach(root, &mut store, alloc, group, &mut left, &[]) {
-        Ok(blocks) => Ok((blocks, shapes, store.into_array())),
+        Ok(blocks) => Ok((blocks, store.into_array())),
         Err(refusal) => Err((told(refusal), store.into_array())),
     }
 }
