@@ -1,3 +1,5 @@
+pub mod Clean
 pub mod Marks
 pub mod Results
 pub mod Room
+pub mod Whole

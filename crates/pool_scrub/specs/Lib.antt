@@ -1,4 +1,5 @@
 pub mod Counting
 pub mod Healing
+pub mod Laws
 pub mod Scrubbing
 pub mod Walking

@@ -1,0 +1,63 @@
+-- What a pool goes on with whose scrub left nothing to be mended.
+use Rattle.std.specs.Prelude.{ℕ, ◌≡◌, ◌<◌, Bool, true, false, Some, List, [], length, Contains}
+use Rattle.block_pointer.specs.declared.block.Block.{Block}
+use Rattle.block_store.specs.Blocks.{Contents}
+use Rattle.block_store.specs.Store.{is_out, is_stale, outs_from}
+use Rattle.dataset_snapshots.specs.Reach.{reach_of}
+use Rattle.model_disk.specs.Joint.{Disks}
+use Rattle.raidz_io.specs.declared.vdev.Extent.{Extent}
+use Rattle.raidz_io.specs.Reads.{IsHonestSince}
+use Rattle.pool_model.specs.Pools.{PlainPool}
+use Rattle.pool_model.specs.View.{opened_as}
+use Rattle.pool_open.specs.CoreState.{CoreState, disks_of}
+use Rattle.pool_open.specs.Held.{HoldOver}
+use Rattle.pool_open.specs.Mapped.{SpellsWithMaps}
+use Rattle.pool_open.specs.Represents.{Represents}
+use Rattle.pool_open.specs.Trees.{IsConfiguredFor, NamesConfigOf}
+use Rattle.pool_open.specs.Words.{vdevs_in}
+use Rattle.scrub_resilver.specs.Copies.{IsCopyOn}
+use Rattle.scrub_resilver.specs.Laws.{IsKnownBut, IsTold}
+use Rattle.scrub_resilver.specs.declared.fault.Finding.{Finding}
+use Rattle.uberblock_ring.specs.declared.uberblock.Uberblock.{Uberblock}
+use Rattle.volume_rules.specs.NowMoves.{IsMadeBy}
+use Rattle.pool_scrub.specs.Scrubbing.{IsScrubbedOver}
+use Rattle.pool_scrub.specs.declared.healing.Healed.{Healed}
+use Rattle.pool_scrub.specs.declared.scrubbing.ScrubCounts.{ScrubCounts}
+use Rattle.pool_scrub.specs.declared.walking.PoolLayout.{PoolLayout}
+
+-- nothing is left to be mended but of disks that are out, and no flush failed
+pub record IsCleanEnd (out : List Bool) (healed : Healed) : Type 0 where
+  pub left : (one : Finding) → Contains healed.left.items one → is_out out one.disk ≡ true
+  pub flushed : healed.unflushed.items ≡ []
+
+-- The disks of the core have the blocks of a pool, which the uberblock's root leads to, but for those of groups that disks missed. No other
+-- bytes have the digest that the pointer of one of them has.
+pub record HasPoolOn (before : CoreState) (layout : PoolLayout) (u : Uberblock) (stored : Contents) (pool : PlainPool) : Type 0 where
+  pub held : HoldOver (disks_of before) layout.shapes.items layout.out.items layout.stale.items stored
+  pub spells : SpellsWithMaps stored layout.shapes.items u.group u.root pool
+  pub reached : (block : Block) (bytes : List ℕ) → stored block ≡ Some bytes → Contains (reach_of spells.0) block
+  pub told : (block : Block) (bytes : List ℕ) → stored block ≡ Some bytes → IsTold block bytes
+  pub configured : IsConfiguredFor u stored pool
+  pub named : NamesConfigOf u before
+  pub made : IsMadeBy u.group pool
+
+-- each byte of these blocks is known on each disk that isn't out: no write failed there
+abbrev pub AreKnownOn : Disks → PoolLayout → Contents → Type 0
+AreKnownOn disks layout stored =
+    (block : Block) (bytes : List ℕ) (i : ℕ) (extent : Extent) → stored block ≡ Some bytes → IsCopyOn layout.shapes.items block i extent
+    → IsKnownBut disks (outs_from 0 layout.out.items) extent
+
+-- no disk that is there misses a group
+abbrev pub NonePresentIsStale : List Bool → CoreState → Type 0
+NonePresentIsStale out core =
+    (disk birth : ℕ) → disk < length out → is_out out disk ≡ false → is_stale core.commit.store.spans.stale disk birth ≡ false
+
+-- Where a scrub ends clean, over disks with a pool that answer truly, the core represents that pool, and no disk that is there is stale: each is
+-- read for each block, whichever groups it missed before.
+abbrev pub CleanScrubsGoOnWhole : Type 0
+CleanScrubsGoOnWhole =
+    (before core : CoreState) (u : Uberblock) (counts : ScrubCounts) (stored : Contents) (pool : PlainPool) → (is : IsScrubbedOver before u core counts)
+    → IsCleanEnd is.layout.out.items is.looked.healed → HasPoolOn before is.layout u stored pool → AreKnownOn is.mid is.layout stored
+    → IsHonestSince (disks_of before) (disks_of core)
+    → Represents core (opened_as (vdevs_in is.layout.shapes.items) (is_out is.layout.out.items) (is_stale core.commit.store.spans.stale) u.group pool)
+    × NonePresentIsStale is.layout.out.items core
