@@ -32,7 +32,7 @@ pub trait Planner {
             (state_of core.old).commit (state_of core.new).commit };
 }
 
-/// The thread that takes the step. Each parity is then made as it is written.
+/// The thread that takes the step, which makes the parity of the plan's blocks too.
 #[derive(Clone, Copy, Drop)]
 pub struct Alone;
 

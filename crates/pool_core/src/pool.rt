@@ -120,7 +120,7 @@ impl<D: Disk + Drop> Core<D> {
     }
 
     /// Whether the pool is suspended, and refuses the step for that.
-    fn is_refused(&self, step: &Step) -> bool
+    pub(crate) fn is_refused(&self, step: &Step) -> bool
         ensures { (v : View) → Backs (state_of self.now).commit v
             → result ≡ (barred_step step.now && is_suspended v) }
     {

@@ -18,8 +18,21 @@ use pool_commit::Progress;
 use pool_model::{Refusal, Reply};
 
 impl<D: Disk + Drop> Core<D> {
-    /// Takes the quiesced group to be synced, or the one whose plan was dropped, and plans it.
+    /// Takes the step Plan, and makes the parity of the plan's blocks on this thread, in the plan's order.
     pub(crate) fn plan(&mut self, timestamp: u64) -> Reply
+        ensures grew { GrewTo (disks_in self.old) (disks_in self.new) }
+        ensures goes { (time : ℕ) → TakesStepUnlessSuspended (state_of self.old)
+            (steps.Plan time) result (state_of self.new) }
+        ensures moves { Moves (steps.Plan timestamp)
+            (state_of self.old).commit (state_of self.new).commit }
+    {
+        let reply = self.plan_blocks(timestamp);
+        self.commit.make_due_here();
+        reply
+    }
+
+    /// Takes the quiesced group to be synced, or the one whose plan was dropped, and plans it. The parity of its blocks is still to be made.
+    pub(crate) fn plan_blocks(&mut self, timestamp: u64) -> Reply
         ensures grew { GrewTo (disks_in self.old) (disks_in self.new) }
         ensures goes { (time : ℕ) → TakesStepUnlessSuspended (state_of self.old)
             (steps.Plan time) result (state_of self.new) }

@@ -8,13 +8,14 @@ ghost use Rattle.pool_core.specs.Steps.{TakesStep};
 
 use crate::pool::Core;
 use model_disk::Disk;
-use pool_model::{Reply, Step};
+use pool_model::{Refusal, Reply, Step};
 use std::thread::Threads;
 use worker_items::Gate;
 
 /// Takes the step Plan, and shares the parity of the plan's blocks among workers, each in a thread of its own: worker k makes
 /// that of the extents whose number, in the plan's order, is k modulo the number of workers, and passes the gate before each.
-/// Where memory for that is short it is made on this thread, without a gate. (`step` leaves each parity to be made as it is written.)
+/// Where memory for that is short it is made on this thread, without a gate. `step` is the same with this thread as its one worker,
+/// which passes no gate.
 pub fn plan_with<D: Disk + Drop, R: Threads + Sync, G: Gate + Sync>(
     rt: &R,
     gate: &G,
@@ -29,7 +30,10 @@ pub fn plan_with<D: Disk + Drop, R: Threads + Sync, G: Gate + Sync>(
     ensures moves { Moves (steps.Plan timestamp)
         (state_of core.old).commit (state_of core.new).commit }
 {
-    let reply = core.step(Step::Plan { timestamp });
+    if core.is_refused(&Step::Plan { timestamp }) {
+        return Reply::Refused(Refusal::Suspended);
+    }
+    let reply = core.plan_blocks(timestamp);
     let alloc = core.alloc;
     if core.commit.make_due(rt, alloc, gate, workers).is_err() {
         core.commit.make_due_here();

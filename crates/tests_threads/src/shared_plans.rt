@@ -3,7 +3,7 @@ use crate::gates::Meeting;
 use block_store::VdevConfig;
 use model_disk::{Disk, MemDisk};
 use pool_core::{Core, plan_with};
-use pool_model::{Action, Bytes, Change, Name, Reply, Step, Write};
+use pool_model::{Action, Bytes, Change, Name, Refusal, Reply, Step, Write};
 use raidz_map::Geometry;
 use std::alloc::{AllocError, Global};
 use std::sync::atomic::{AtomicBool, AtomicU64, Ordering};
@@ -113,7 +113,7 @@ fn two_workers_meet_in_a_plan(rt: HostRuntime) -> Result<(), Fail> {
     Ok(())
 }
 
-/// With as many workers as there are, each extent passes the gate once, and the parity is right; so it is where no worker makes it.
+/// With as many workers as there are, each extent passes the gate once, and the parity is right.
 #[test]
 fn each_extent_has_its_worker(rt: HostRuntime) -> Result<(), Fail> {
     let alloc = rt.alloc();
@@ -135,8 +135,23 @@ fn each_extent_has_its_worker(rt: HostRuntime) -> Result<(), Fail> {
         first > 16 && counts.iter().all(|count| *count == first),
         "{counts:?}"
     );
+    Ok(())
+}
+
+/// The step makes all of a plan's parity, and makes it right: a call behind it finds no extent whose parity isn't made.
+#[test]
+fn the_step_leaves_no_parity_to_workers(rt: HostRuntime) -> Result<(), Fail> {
+    let alloc = rt.alloc();
     let mut core = quiesced(alloc)?;
     core.step(Step::Plan { timestamp: 9 });
+    let gate = Counted {
+        workers: 2,
+        extents: AtomicU64::new(0),
+        wrong: AtomicBool::new(false),
+    };
+    let reply = plan_with(&rt, &gate, 2, &mut core, 9);
+    assert!(rt; matches!(reply, Reply::Refused(Refusal::NotNow)));
+    assert!(rt; gate.extents.load(Ordering::SeqCst) == 0);
     assert!(rt; reads_right(alloc, &mut core)?);
     Ok(())
 }
