@@ -23,4 +23,4 @@ mod schedules;
 #[cfg(test)]
 mod test_disk;
 #[cfg(test)]
-mod whole_again;
+mod known;

@@ -1,4 +1,4 @@
-//! A disk that was out has every block again.
+//! What is known of the disks of a pool of which one is out.
 use crate::making::made;
 use crate::playing::wrong_replies;
 use std::alloc::Global;
@@ -15,24 +15,17 @@ release 1 -> released
 sync -> committed 4
 ";
 
-/// So many spans are known once these disks have every block again.
-const CLEARED: [([bool; 3], usize); 3] = [
-    ([false, false, false], 1),
-    ([true, false, true], 1),
-    ([false, true, false], 0),
-];
-
 #[test]
-fn spans_of_a_whole_disk_go(rt: HostRuntime) -> Result<(), Fail> {
+fn the_span_of_a_disk_that_is_out_is_known(rt: HostRuntime) -> Result<(), Fail> {
     let alloc: Global = rt.alloc();
     let reads = Rc::new(alloc, Cell::new(0u64))?;
     let mut player = made(alloc, AWAY, &reads)?;
     let wrong = wrong_replies(alloc, &mut player, AWAY)?;
     assert!(rt; wrong.is_empty(), "{wrong}");
-    for (whole, wanted) in &CLEARED {
-        player.core.clear_spans(alloc, whole)?;
-        let count = player.core.stale_spans().rows().len();
-        assert!(rt; count == *wanted, "{whole:?}: {count}");
-    }
+    let known = player.core.known_disks(alloc)?;
+    let rows = known.spans.rows();
+    assert!(rt; rows.len() == 1 && rows[0].from == 4);
+    let disk = rows[0].disk;
+    assert!(rt; known.config.as_ref().vdevs[0].children[1] == disk);
     Ok(())
 }
