@@ -5,3 +5,5 @@
 mod away;
 #[cfg(test)]
 mod lived;
+#[cfg(test)]
+mod scrubbed;

@@ -136,7 +136,7 @@ fn lived_on<D: Disk + Drop>(
     taken_back(alloc, last)
 }
 
-fn config(alloc: Global) -> Result<Config, AllocError> {
+pub(crate) fn config(alloc: Global) -> Result<Config, AllocError> {
     let vdev = Vdev {
         guid: 100,
         parity: 1,
