@@ -43,7 +43,7 @@ honest_between one other old new disks back honest =
 
 -- ---- refusals
 
-none_read : (out : List Bool) (disks : Disks) → AreReadBeside out disks disks
+pub none_read : (out : List Bool) (disks : Disks) → AreReadBeside out disks disks
 none_read out disks = record { only = record { starts = refl; newer = []; calls = refl; are_reads = tt }; untouched = λ disk among. refl }
 
 pub refused_at_once : (old : Disks) (shapes : List VdevShape) (out : List Bool) (stale : List (Option GroupSpan)) (group : ℕ) (root : Block) (most : ℕ) (cause : StoreRefusal)
