@@ -1,5 +1,5 @@
 -- What single calls, and more of them, tell.
-use Rattle.std.proofs.Common.{ℕ, ◌≡◌, inl, inr, ◌≤◌, Bool, true, false, Option, Some, None, Result, Ok, Err, IfErr, IfOk, IsErrAnd, get_or, ◌<◌, List, [], ◌∷◌, ◌++◌, length, take, drop, Contains, refl, sym, ap, subst, ◌∙◌, append_assoc, arith}
+use Rattle.std.proofs.Common.{ℕ, ◌≡◌, ◌⊎◌, inl, inr, ◌≤◌, Bool, true, false, Option, Some, None, Result, Ok, Err, IfErr, IfOk, IsErrAnd, get_or, ◌<◌, List, [], ◌∷◌, ◌++◌, length, take, drop, Contains, refl, sym, ap, subst, ◌∙◌, append_assoc, arith}
 use Rattle.std.proofs.lemmas.Bool.{cases_lt}
 use Rattle.std.proofs.lemmas.Option.{get_or_from_slice_get, slice_get-get_or}
 use Rattle.std.proofs.lemmas.Grind.{common_steps}
@@ -14,7 +14,7 @@ use Rattle.block_pointer.specs.declared.block.Block.{Block}
 use Rattle.block_pointer.specs.declared.dva.Dva.{Dva}
 use Rattle.block_store.specs.declared.shape.VdevShape.{VdevShape}
 use Rattle.scrub_resilver.specs.Copies.{AreUnread, IsUnreadAt}
-use Rattle.scrub_resilver.specs.Looking.{IsFilled, IsJudged}
+use Rattle.scrub_resilver.specs.Looking.{IsFilled, IsJudged, ReadFailedSince}
 use Rattle.scrub_resilver.specs.declared.fault.Fault.{Fault}
 use Rattle.scrub_resilver.specs.declared.fault.Fault.TheVariants.{Unreadable, Wrong}
 
@@ -23,7 +23,7 @@ pub record IsRead (old new : Disks) (missing : List ℕ) (disk at : ℕ) (bytes 
   pub reads : OnlyReads old new
   pub untouched : AreUntouched missing old new
   pub gave : is_read ≡ true → GaveSince (length old.calls) new.calls disk at bytes
-  pub absent : is_read ≡ false → Contains (absent_since old new missing) disk
+  pub unread : is_read ≡ false → Contains missing disk ⊎ ReadFailedSince (length old.calls) new.calls disk at (length bytes)
 
 spares_missing : (old new : Disks) (disk : ℕ) (call : Call) (missing : List ℕ) → ¬ Contains missing disk
     → new.calls ≡ on disk call ∷ old.calls → AreUntouched missing old new
@@ -41,22 +41,21 @@ filled_reads old new missing disk at bytes is_read one =
         reads = OnlyReads-more old old new (on disk (Read at bytes)) (OnlyReads-none old) tt one.starts calls;
         untouched = spares_missing old new disk (Read at bytes) missing there calls;
         gave = λ _. rw calls (inl (omega arith, refl));
-        absent = λ unread. never is_read was_read unread;
+        unread = λ not. never is_read was_read not;
       }
       | inr (inl (unread, there, calls)) ↦
           let made : JointCall = on disk (FailedRead at (length bytes)) in record {
             reads = OnlyReads-more old old new made (OnlyReads-none old) tt one.starts calls;
             untouched = spares_missing old new disk (FailedRead at (length bytes)) missing there calls;
             gave = λ was_read. never is_read was_read unread;
-            absent = λ _. Contains-append_right missing (failed_since (length old.calls) new.calls) disk
-                (subst (λ (c : List JointCall). Contains (failed_since (length old.calls) c) disk) (sym calls)
-                (failed_since-new (length old.calls) made old.calls (omega arith) refl));
+            unread = λ _.
+                inr (subst (λ (c : List JointCall). ReadFailedSince (length old.calls) c disk at (length bytes)) (sym calls) (inl (omega arith, refl)));
           }
       | inr (inr (unread, gone, calls)) ↦ record {
         reads = OnlyReads-same old old new (OnlyReads-none old) one.starts calls;
         untouched = λ other _. rw calls refl;
         gave = λ was_read. never is_read was_read unread;
-        absent = λ _. Contains-append_left missing (failed_since (length old.calls) new.calls) disk gone;
+        unread = λ _. inl gone;
       }
     ]
 
@@ -118,6 +117,28 @@ pub gave_since : (old mid new : Disks) (disk at : ℕ) (bytes : List ℕ) → On
     → GaveSince (length old.calls) new.calls disk at bytes
 gave_since old mid new disk at bytes reads gave = gave_from (length old.calls) (length mid.calls) new.calls disk at bytes (length-OnlyReads old mid reads) gave
 
+read_failed_more : (n : ℕ) (newer calls : List JointCall) (disk at count : ℕ) → ReadFailedSince n calls disk at count
+    → ReadFailedSince n (newer ++ calls) disk at count
+read_failed_more n [] calls disk at count failed = failed
+read_failed_more n (made ∷ newer) calls disk at count failed = inr (read_failed_more n newer calls disk at count failed)
+
+read_failed_from : (n m : ℕ) (calls : List JointCall) (disk at count : ℕ) → n ≤ m → ReadFailedSince m calls disk at count → ReadFailedSince n calls disk at count
+read_failed_from n m [] disk at count le failed = failed
+read_failed_from n m (made ∷ calls) disk at count le failed = elim failed [
+  | inl (since, is) ↦ inl (omega arith, is)
+  | inr earlier ↦ inr (read_failed_from n m calls disk at count le earlier)
+]
+
+-- where a read failed, a call did
+pub read_failed : (n : ℕ) (calls : List JointCall) (disk at count : ℕ) → ReadFailedSince n calls disk at count → Contains (failed_since n calls) disk
+read_failed n [] disk at count failed = absurd failed
+read_failed n (made ∷ calls) disk at count failed = elim failed [
+  | inl (since, is) ↦
+      subst (λ (m : JointCall). Contains (failed_since n (m ∷ calls)) disk) (sym is)
+      (failed_since-new n (on disk (FailedRead at count)) calls since refl)
+  | inr earlier ↦ failed_since-more n made calls disk (read_failed n calls disk at count earlier)
+]
+
 pub absent_later : (old mid new : Disks) (missing : List ℕ) (disk : ℕ) → OnlyReads mid new → Contains (absent_since old mid missing) disk
     → Contains (absent_since old new missing) disk
 absent_later old mid new missing disk reads held = elim (Contains-append_cases missing (failed_since (length old.calls) mid.calls) disk held) [
@@ -140,14 +161,23 @@ absent_from old mid new missing disk reads held = elim (Contains-append_cases mi
 pub judged_later : (old mid new : Disks) (missing : List ℕ) (known : Bool) (disk at : ℕ) (bytes : List ℕ) (fault : Option Fault) → OnlyReads mid new
     → IsJudged old mid missing known disk at bytes fault → IsJudged old new missing known disk at bytes fault
 judged_later old mid new missing known disk at bytes None reads (is, gave) = (is, gave_later old mid new disk at bytes reads gave)
-judged_later old mid new missing known disk at bytes (Some Unreadable) reads absent = absent_later old mid new missing disk reads absent
-judged_later old mid new missing known disk at bytes (Some Wrong) reads (others, gave, apart) = (others, gave_later old mid new disk at others reads gave, apart)
+judged_later old mid new missing known disk at bytes (Some Unreadable) reads unread = elim unread [
+  | inl gone ↦ inl gone
+  | inr failed ↦ inr (subst (λ (calls : List JointCall). ReadFailedSince (length old.calls) calls disk at (length bytes)) (sym reads.calls)
+      (read_failed_more (length old.calls) reads.newer mid.calls disk at (length bytes) failed))
+]
+judged_later old mid new missing known disk at bytes (Some Wrong) reads (others, gave, size, apart) =
+    (others, gave_later old mid new disk at others reads gave, size, apart)
 
 pub judged_from : (old mid new : Disks) (missing : List ℕ) (known : Bool) (disk at : ℕ) (bytes : List ℕ) (fault : Option Fault) → OnlyReads old mid
     → IsJudged mid new missing known disk at bytes fault → IsJudged old new missing known disk at bytes fault
 judged_from old mid new missing known disk at bytes None reads (is, gave) = (is, gave_since old mid new disk at bytes reads gave)
-judged_from old mid new missing known disk at bytes (Some Unreadable) reads absent = absent_from old mid new missing disk reads absent
-judged_from old mid new missing known disk at bytes (Some Wrong) reads (others, gave, apart) = (others, gave_since old mid new disk at others reads gave, apart)
+judged_from old mid new missing known disk at bytes (Some Unreadable) reads unread = elim unread [
+  | inl gone ↦ inl gone
+  | inr failed ↦ inr (read_failed_from (length old.calls) (length mid.calls) new.calls disk at (length bytes) (length-OnlyReads old mid reads) failed)
+]
+judged_from old mid new missing known disk at bytes (Some Wrong) reads (others, gave, size, apart) =
+    (others, gave_since old mid new disk at others reads gave, size, apart)
 
 pub unread_around : (old first last new : Disks) (shapes : List VdevShape) (missing : List ℕ) (block : Block) (place : Dva) → OnlyReads old first → OnlyReads last new
     → IsUnreadAt shapes first last missing block place → IsUnreadAt shapes old new missing block place

@@ -22,7 +22,7 @@ use Rattle.raidz_io.specs.Places.{IsOnDisks, disk_of, offset_of}
 use Rattle.raidz_io.specs.Reads.{AreReads, AreUntouched, GaveSince, IsRead, OnlyReads, absent_since}
 use Rattle.raidz_io.proofs.Calls.{Contains-none, failed_since-cases, failed_since-more, failed_since-new, failed_since-none}
 use Rattle.raidz_io.specs.Stands.{AreBytesOf, IsLayout, all_columns}
-use Rattle.scrub_resilver.proofs.Logs.{judged_at, untouched_on}
+use Rattle.scrub_resilver.proofs.Logs.{judged_at, read_failed, untouched_on}
 use Rattle.scrub_resilver.specs.Looking.{IsJudged}
 use Rattle.scrub_resilver.specs.declared.fault.Fault.{Fault}
 use Rattle.scrub_resilver.specs.declared.fault.Fault.TheVariants.{Unreadable, Wrong}
@@ -188,9 +188,11 @@ due_on n (made ∷ newer) calls le first second = (
 -- what was judged to be faulty was found so
 found_faulty : (old mid : Disks) (missing : List ℕ) (disk at : ℕ) (bytes : List ℕ) (fault : Fault) → IsJudged old mid missing true disk at bytes (Some fault)
     → ¬ Contains missing disk → WasFaulty (length old.calls) mid.calls disk at bytes
-found_faulty old mid missing disk at bytes Unreadable is there =
-    elim (Contains-append_cases missing (failed_since (length old.calls) mid.calls) disk is) [ inl gone ↦ absurd (there gone) | inr failed ↦ inl failed ]
-found_faulty old mid missing disk at bytes Wrong (others, gave, apart) there = inr (others, apart refl, gave)
+found_faulty old mid missing disk at bytes Unreadable is there = elim is [
+  | inl gone ↦ absurd (there gone)
+  | inr failed ↦ inl (read_failed (length old.calls) mid.calls disk at (length bytes) failed)
+]
+found_faulty old mid missing disk at bytes Wrong (others, gave, size, apart) there = inr (others, apart refl, gave)
 
 -- ---- repairs
 

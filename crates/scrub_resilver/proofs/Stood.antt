@@ -28,7 +28,7 @@ use Rattle.scrub_resilver.specs.declared.fault.Fault.{Fault}
 use Rattle.scrub_resilver.specs.declared.fault.Finding.{Finding}
 use Rattle.scrub_resilver.proofs.Placing.{size_at}
 
-same_some : {X : Type 0} (x y : X) → Some x ≡ Some y → x ≡ y
+pub same_some : {X : Type 0} (x y : X) → Some x ≡ Some y → x ≡ y
 same_some x y same = cc
 
 some_some : {X : Type 0} (x y : X) → Some (Some x) ≡ Some (Some y) → x ≡ y
@@ -40,7 +40,7 @@ some_some x y same = cc
 pub IsNow : Disks → ℕ → ℕ → List ℕ → Type 0
 IsNow disks disk at bytes = (i value : ℕ) → i < length bytes → content disks disk (at + i) ≡ Some value → slice_get bytes i ≡ Some value
 
-none_gave : (n : ℕ) (calls : List JointCall) (disk at : ℕ) (bytes : List ℕ) → length calls ≤ n → ¬ GaveSince n calls disk at bytes
+pub none_gave : (n : ℕ) (calls : List JointCall) (disk at : ℕ) (bytes : List ℕ) → length calls ≤ n → ¬ GaveSince n calls disk at bytes
 none_gave n [] disk at bytes le gave = gave
 none_gave n (made ∷ calls) disk at bytes le gave = elim gave [
   | inl (since, is) ↦ omega (arith, since, le)
@@ -83,9 +83,15 @@ gave_is_now old new disk at bytes reads honest gave =
     (subst (λ (calls : List JointCall). AreHonestSince (length old.calls) new.starts calls) reads.calls honest)
     (subst (λ (calls : List JointCall). GaveSince (length old.calls) calls disk at bytes) reads.calls gave))
 
+pub given_is : (old new : Disks) (disk at : ℕ) (bytes : List ℕ) → OnlyReads old new → IsHonestSince old new
+    → GaveSince (length old.calls) new.calls disk at bytes → (i value : ℕ) → i < length bytes → content new disk (at + i) ≡ Some value
+    → slice_get bytes i ≡ Some value
+unfolding IsNow
+given_is old new disk at bytes reads honest gave = gave_is_now old new disk at bytes reads honest gave
+
 -- ---- which finding is whose
 
-finding_here : (vdev : ℕ) (extent : Extent) (j k n : ℕ) (layout : List Column) (faults : List (Option Fault)) (column : Column) (fault : Fault)
+pub finding_here : (vdev : ℕ) (extent : Extent) (j k n : ℕ) (layout : List Column) (faults : List (Option Fault)) (column : Column) (fault : Fault)
     → n ≡ j + k → slice_get layout k ≡ Some column → slice_get faults k ≡ Some (Some fault)
     → Contains (findings_from vdev extent j layout faults) (finding vdev extent n column fault)
 finding_here vdev extent j k n [] faults column fault is at at' = absurd (cc)
@@ -106,7 +112,7 @@ finding_here vdev extent j (suc k) n (c ∷ layout) (Some other ∷ faults) colu
     (suc m, omega arith, there)
 
 -- the findings of a copy are among those of the block
-copy_of : (shapes : List VdevShape) (old new : Disks) (missing : List ℕ) (sectors : ℕ) (known : Bool) (block : List ℕ) (places : List Dva) (found : List Finding)
+pub copy_of : (shapes : List VdevShape) (old new : Disks) (missing : List ℕ) (sectors : ℕ) (known : Bool) (block : List ℕ) (places : List Dva) (found : List Finding)
     (i : ℕ) (place : Dva) → ArePlacesChecked shapes old new missing sectors known block places found → slice_get places i ≡ Some place
     → (own : List Finding) × ((one : Finding) → Contains own one → Contains found one) × IsPlaceChecked shapes old new missing sectors known block place own
 copy_of shapes old new missing sectors known block [] found i place are at = absurd (cc)
@@ -123,7 +129,7 @@ copy_of shapes old new missing sectors known block (first ∷ places) found (suc
     )
 
 -- and those of a block among those of all
-block_of : (shapes : List VdevShape) (old new : Disks) (missing : List ℕ) (blocks : List Block) (found : List Finding) (block : Block)
+pub block_of : (shapes : List VdevShape) (old new : Disks) (missing : List ℕ) (blocks : List Block) (found : List Finding) (block : Block)
     → AreChecked shapes old new missing blocks found → (k : ℕ) → slice_get blocks k ≡ Some block
     → (own : List Finding) × ((one : Finding) → Contains own one → Contains found one) × IsBlockChecked shapes old new missing block own
 block_of shapes old new missing [] found block are k at = absurd (cc)
@@ -168,7 +174,7 @@ column_stands old new missing left vdev extent content_is bytes found reads hone
     (subst (λ (fs : List Finding). Contains fs (finding vdev extent k column fault)) (sym copy.found_are)
     (finding_here vdev extent 0 k k copy.layout copy.faults column fault (omega arith) at fault_is))))
 
-fault_at : {X : Type 0} (layout : List X) (faults : List (Option Fault)) (k : ℕ) (x : X) → length faults ≡ length layout → slice_get layout k ≡ Some x
+pub fault_at : {X : Type 0} (layout : List X) (faults : List (Option Fault)) (k : ℕ) (x : X) → length faults ≡ length layout → slice_get layout k ≡ Some x
     → slice_get faults k ≡ Some (get_or faults k None)
 fault_at layout faults k x count at = slice_get-get_or faults k None (omega (arith, count, slice_get_within layout k x at))
 
@@ -200,7 +206,7 @@ found_at old new missing left vdev extent content_is found copy in_left k column
     (subst (λ (fs : List Finding). Contains fs (finding vdev extent k column fault)) (sym copy.found_are)
     (finding_here vdev extent 0 k k copy.layout copy.faults column fault (omega arith) at fault_is))
 
-column_count : (extent : Extent) (block : List ℕ) (layout : List Column) (columns : Columns) → AreBytesOf extent block layout columns
+pub column_count : (extent : Extent) (block : List ℕ) (layout : List Column) (columns : Columns) → AreBytesOf extent block layout columns
     → length (all_columns columns) ≡ length layout
 column_count extent block layout columns are =
     omega (
@@ -236,7 +242,7 @@ copy_stands old new missing left absent vdev extent true content_is bytes found 
 copy_stands old new missing left absent vdev extent false content_is bytes found before reads honest known same copy in_left stood =
     unknown_stands old new missing left absent vdev extent content_is bytes found before copy in_left stood
 
-one_extent : (shapes : List VdevShape) (sectors : ℕ) (place : Dva) (extent other : Extent) → IsExtentOn shapes sectors place extent
+pub one_extent : (shapes : List VdevShape) (sectors : ℕ) (place : Dva) (extent other : Extent) → IsExtentOn shapes sectors place extent
     → IsExtentOn shapes sectors place other → extent ≡ other
 one_extent shapes sectors place extent other at at' =
     let same : at.shape ≡ at'.shape = same_some at.shape at'.shape (sym at.found ∙ at'.found) in

@@ -1,12 +1,12 @@
 -- What is wrong with columns, by what reads of them gave.
-use Rattle.std.specs.Prelude.{ℕ, ◌≡◌, ◌≢◌, ◌+◌, Bool, true, false, ◌⊎◌, Option, Some, None, List, [], ◌∷◌, ◌++◌, length, slice_get, Contains}
+use Rattle.std.specs.Prelude.{ℕ, ◌≡◌, ◌≢◌, ◌+◌, ◌≤◌, Bool, true, false, ◌⊎◌, Option, Some, None, List, [], ◌∷◌, ◌++◌, length, slice_get, Contains}
 use Rattle.model_disk.specs.Call.{Read, FailedRead}
-use Rattle.model_disk.specs.Joint.{Disks, on}
+use Rattle.model_disk.specs.Joint.{JointCall, Disks, on}
 use Rattle.raidz_map.specs.declared.column.Column.{Column}
 use Rattle.raidz_parity.specs.Layout.{Block}
 use Rattle.raidz_io.specs.declared.vdev.Extent.{Extent}
 use Rattle.raidz_io.specs.Places.{disk_of, offset_of}
-use Rattle.raidz_io.specs.Reads.{GaveSince, absent_since}
+use Rattle.raidz_io.specs.Reads.{GaveSince}
 use Rattle.raidz_io.specs.Stands.{IsLayout, AreBytesOf, all_columns}
 use Rattle.scrub_resilver.specs.declared.fault.Fault.{Fault}
 use Rattle.scrub_resilver.specs.declared.fault.Fault.TheVariants.{Unreadable, Wrong}
@@ -19,13 +19,20 @@ pub record IsFilled (old new : Disks) (missing : List ℕ) (disk at : ℕ) (byte
       ⊎ (((is_read ≡ false) × (¬ Contains missing disk) × (new.calls ≡ on disk (FailedRead at (length bytes)) ∷ old.calls))
       ⊎ ((is_read ≡ false) × Contains missing disk × (new.calls ≡ old.calls)))
 
+-- a read of so many bytes there since there were n calls failed
+abbrev pub ReadFailedSince : ℕ → List JointCall → ℕ → ℕ → ℕ → Type 0
+ReadFailedSince n [] disk at count = ⊥
+ReadFailedSince n (made ∷ earlier) disk at count =
+    ((n ≤ length earlier) × (made ≡ on disk (FailedRead at count))) ⊎ ReadFailedSince n earlier disk at count
+
 -- What is wrong with the bytes of a disk from that one on: nothing, where a read since gave just these, and they are known to be the block's; it
--- is unreadable where the disk is missing, or a call on it failed since; it is wrong where a read since gave others, or these aren't known.
+-- is unreadable where the disk is missing, or a read of them failed since; it is wrong where a read since gave as many others, or these aren't known.
 abbrev pub IsJudged : Disks → Disks → List ℕ → Bool → ℕ → ℕ → List ℕ → Option Fault → Type 0
 IsJudged old new missing known disk at bytes None = (known ≡ true) × GaveSince (length old.calls) new.calls disk at bytes
-IsJudged old new missing known disk at bytes (Some Unreadable) = Contains (absent_since old new missing) disk
+IsJudged old new missing known disk at bytes (Some Unreadable) =
+    Contains missing disk ⊎ ReadFailedSince (length old.calls) new.calls disk at (length bytes)
 IsJudged old new missing known disk at bytes (Some Wrong) =
-    (others : List ℕ) × GaveSince (length old.calls) new.calls disk at others × (known ≡ true → others ≢ bytes)
+    (others : List ℕ) × GaveSince (length old.calls) new.calls disk at others × (length others ≡ length bytes) × (known ≡ true → others ≢ bytes)
 
 -- the finding of a column of a copy in that vdev
 abbrev pub finding : ℕ → Extent → ℕ → Column → Fault → Finding

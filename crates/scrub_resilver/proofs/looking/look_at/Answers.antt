@@ -1,5 +1,6 @@
-use Rattle.std.proofs.Common.{◌≡◌, true, length, ◌∙◌, arith}
+use Rattle.std.proofs.Common.{◌≡◌, ◌⊎◌, true, length, subst, Contains, ◌∙◌, arith}
 use Rattle.std.proofs.lemmas.Grind.{common_steps}
+use Rattle.scrub_resilver.specs.Looking.{ReadFailedSince}
 use Rattle.scrub_resilver.proofs.Logs.{filled_reads, filled}
 use Rattle.scrub_resilver.proofs.looking.look_at.Goals as goal
 use Rattle.scrub_resilver.proofs.looking.look_at.Goals.{else-is_known-via-then-is_known+else-is_same, else-is_known-via-else-is_known}
@@ -9,7 +10,10 @@ returns-then-not-fill-clause-reads g c = (filled_reads c.args.disks.now c.fill.n
 
 pub returns-then-not-fill-clause-judged : goal.returns-then-not-fill-clause-judged
 returns-then-not-fill-clause-judged g c =
-    (filled_reads c.args.disks.now c.fill.new.disks _ _ _ _ _ c.fill.ensures).absent c.if-not-fill.true
+    let size : length c.fill.new.buffer ≡ length c.args.bytes.now = omega (arith, c.fill.auto.buffer, c.as_mut_slice.ensures.len, c.in_ok-buffer.ensures.len) in
+    subst (λ n. Contains c.args.missing.now c.args.place.disk
+    ⊎ ReadFailedSince (length c.args.disks.now.calls) c.fill.new.disks.calls c.args.place.disk c.args.place.offset n) size
+    ((filled_reads c.args.disks.now c.fill.new.disks _ _ _ _ _ c.fill.ensures).unread c.if-not-fill.true)
 
 pub returns-then-is_same-clause-reads : goal.returns-then-is_same-clause-reads
 returns-then-is_same-clause-reads g c = (filled_reads c.args.disks.now c.fill.new.disks _ _ _ _ _ c.fill.ensures).reads
@@ -21,6 +25,7 @@ pub returns-clause-judged : goal.returns-clause-judged
 returns-clause-judged g c = (
   c.fill.new.buffer,
   (filled_reads c.args.disks.now c.fill.new.disks _ _ _ _ _ c.fill.ensures).gave c.if-not-fill.false,
+  omega (arith, c.fill.auto.buffer, c.as_mut_slice.ensures.len, c.in_ok-buffer.ensures.len),
   λ known same. elim c.else-is_known.branch [
     | else-is_known-via-then-is_known+else-is_same w ↦
         let full : length c.fill.new.buffer ≡ c.in_ok-buffer.buffer.len = omega (arith, c.fill.auto.buffer, c.as_mut_slice.ensures.len, c.in_ok-buffer.ensures.len) in

@@ -1,0 +1,138 @@
+-- What is found of blocks, as a set: the columns of their copies that the disks don't have as they should.
+use Rattle.std.specs.Prelude.{ℕ, ◌≡◌, ◌≢◌, ◌⊎◌, ◌+◌, ◌<◌, Some, List, [], ◌∷◌, ◌++◌, length, slice_get, Contains, AllPairs}
+use Rattle.sha2.specs.Sha256.{sha256}
+use Rattle.block_pointer.specs.declared.block.Block.{Block}
+use Rattle.block_pointer.specs.declared.dva.Dva.{Dva}
+use Rattle.block_pointer.specs.Copies.{dvas}
+use Rattle.block_store.specs.declared.shape.VdevShape.{VdevShape}
+use Rattle.model_disk.specs.Joint.{Disks, content}
+use Rattle.raidz_map.specs.declared.column.Column.{Column}
+use Rattle.raidz_parity.specs.Layout.{Block as ColumnsOf}
+use Rattle.raidz_io.specs.declared.vdev.Extent.{Extent}
+use Rattle.raidz_io.specs.Places.{Content, Stands, disk_of, offset_of}
+use Rattle.raidz_io.specs.Reads.{AreUntouched, FewAreLost, GaveSince, IsHonestSince, OnlyReads, absent_since}
+use Rattle.raidz_io.specs.Stands.{IsLayout, AreBytesOf, ExtentStands, all_columns}
+use Rattle.scrub_resilver.specs.Checking.{AreChecked}
+use Rattle.scrub_resilver.specs.Copies.{IsCopyOn, IsExtentOn}
+use Rattle.scrub_resilver.specs.Laws.{IsTold}
+use Rattle.scrub_resilver.specs.Looking.{ReadFailedSince, finding}
+use Rattle.scrub_resilver.specs.declared.fault.Fault.{Fault}
+use Rattle.scrub_resilver.specs.declared.fault.Fault.TheVariants.{Unreadable, Wrong}
+use Rattle.scrub_resilver.specs.declared.fault.Finding.{Finding}
+
+-- ---- columns
+
+-- a column of a copy: the copy's vdev and extent, the column's number and place there, and the bytes that it should have
+pub record CopyColumn : Type 0 where
+  pub vdev : ℕ
+  pub extent : Extent
+  pub k : ℕ
+  pub column : Column
+  pub bytes : List ℕ
+
+-- the number of its disk, and the byte of it at which it begins
+abbrev pub its_disk : CopyColumn → ℕ
+its_disk it = disk_of it.extent.vdev it.column
+
+abbrev pub its_offset : CopyColumn → ℕ
+its_offset it = offset_of it.column
+
+-- it is column k of a copy of one of the blocks, of bytes that have the block's digest
+pub record IsColumnOfOne (shapes : List VdevShape) (blocks : List Block) (it : CopyColumn) : Type 0 where
+  pub block : Block
+  pub is_one : Contains blocks block
+  pub place : Dva
+  pub is_copy : Contains (dvas block.copies) place
+  pub vdev_is : it.vdev ≡ place.vdev
+  pub extent_is : IsExtentOn shapes block.property.sectors place it.extent
+  pub content : List ℕ
+  pub digest : sha256 content ≡ block.checksum
+  pub layout : List Column
+  pub columns : ColumnsOf
+  pub is_layout : IsLayout it.extent layout
+  pub are_bytes : AreBytesOf it.extent content layout columns
+  pub column_is : slice_get layout it.k ≡ Some it.column
+  pub bytes_are : slice_get (all_columns columns) it.k ≡ Some it.bytes
+
+-- what is told of it, where this is wrong with it
+abbrev pub told_of : CopyColumn → Fault → Finding
+told_of it fault = finding it.vdev it.extent it.k it.column fault
+
+-- ---- faults
+
+-- its bytes are on its disk
+abbrev pub IsThere : Content → CopyColumn → Type 0
+IsThere content it = Stands content (its_disk it) (its_offset it) it.bytes
+
+-- one byte of it is known to be another there
+abbrev pub IsOtherThere : Content → CopyColumn → Type 0
+IsOtherThere content it =
+    (i value : ℕ) × (i < length it.bytes) × (content (its_disk it) (its_offset it + i) ≡ Some value) × (slice_get it.bytes i ≢ Some value)
+
+-- a read since gave its bytes
+abbrev pub WasGiven : Disks → Disks → CopyColumn → Type 0
+WasGiven old new it = GaveSince (length old.calls) new.calls (its_disk it) (its_offset it) it.bytes
+
+-- a read since gave others
+abbrev pub WasGivenOthers : Disks → Disks → CopyColumn → Type 0
+WasGivenOthers old new it = (others : List ℕ) × GaveSince (length old.calls) new.calls (its_disk it) (its_offset it) others × (others ≢ it.bytes)
+
+-- This is wrong with it. It is unreadable: its disk is missing, or a read of it failed since. Or it is wrong: its disk isn't missing and
+-- gave other bytes since, and didn't have all of its bytes before.
+abbrev pub HasFault : Disks → Disks → List ℕ → CopyColumn → Fault → Type 0
+HasFault old new missing it Unreadable =
+    Contains missing (its_disk it) ⊎ ReadFailedSince (length old.calls) new.calls (its_disk it) (its_offset it) (length it.bytes)
+HasFault old new missing it Wrong = (¬ Contains missing (its_disk it)) × WasGivenOthers old new it × (¬ IsThere (content old) it)
+
+-- its disk is missing, or had another byte of it, or didn't give its bytes since
+abbrev pub IsFaulty : Disks → Disks → List ℕ → CopyColumn → Type 0
+IsFaulty old new missing it = Contains missing (its_disk it) ⊎ (IsOtherThere (content old) it ⊎ (¬ WasGiven old new it))
+
+-- ---- what is found
+
+-- the findings are those of faulty columns of the blocks' copies: of none but these, and of each
+pub record AreOfFaults (shapes : List VdevShape) (old new : Disks) (missing : List ℕ) (blocks : List Block) (found : List Finding) : Type 0 where
+  pub only : (one : Finding) → Contains found one
+      → (it : CopyColumn) × IsColumnOfOne shapes blocks it × (one ≡ told_of it one.fault) × HasFault old new missing it one.fault
+  pub all : (it : CopyColumn) → IsColumnOfOne shapes blocks it → IsFaulty old new missing it
+      → (fault : Fault) × Contains found (told_of it fault) × HasFault old new missing it fault
+
+-- Some copy of the block stood but on few disks: the missing ones, those on which a call failed since, and any that were wrong.
+pub record StoodOnEnough (shapes : List VdevShape) (old new : Disks) (missing : List ℕ) (block : Block) (bytes : List ℕ) : Type 0 where
+  pub i : ℕ
+  pub extent : Extent
+  pub is_copy : IsCopyOn shapes block i extent
+  pub wrong : List ℕ
+  pub few : FewAreLost extent (absent_since old new missing ++ wrong)
+  pub stood : ExtentStands (content old) (absent_since old new missing ++ wrong) extent bytes
+
+-- Where blocks were looked at over disks that answer truly, and of each block some copy stood on enough of them and no other bytes have its
+-- digest, what is found is what is wrong on the disks.
+abbrev pub FindingsAreOfTheDisks : Type 0
+FindingsAreOfTheDisks =
+    (shapes : List VdevShape) (old new : Disks) (missing : List ℕ) (blocks : List Block) (found : List Finding)
+    → AreChecked shapes old new missing blocks found → OnlyReads old new → AreUntouched missing old new → IsHonestSince old new
+    → ((block : Block) → Contains blocks block → (bytes : List ℕ) × IsTold block bytes × StoodOnEnough shapes old new missing block bytes)
+    → AreOfFaults shapes old new missing blocks found
+
+-- ---- how often
+
+-- where the copies of blocks lie
+abbrev pub all_places : List Block → List Dva
+all_places [] = []
+all_places (block ∷ blocks) = dvas block.copies ++ all_places blocks
+
+-- both begin at one sector of one vdev
+abbrev pub AreSamePlace : Dva → Dva → Type 0
+AreSamePlace place other = (place.vdev ≡ other.vdev) × (place.offset ≡ other.offset)
+
+-- both are of the same column of what begins there, whatever is wrong with it
+abbrev pub AreOfSameColumn : Finding → Finding → Type 0
+AreOfSameColumn one other = (one.vdev ≡ other.vdev) × (one.start ≡ other.start) × (one.column ≡ other.column)
+
+-- Where no two copies of blocks that were looked at begin at one place, each column is found once at most, whatever the disks answer.
+abbrev pub ColumnsAreFoundOnce : Type 0
+ColumnsAreFoundOnce =
+    (shapes : List VdevShape) (old new : Disks) (missing : List ℕ) (blocks : List Block) (found : List Finding)
+    → AreChecked shapes old new missing blocks found → AllPairs (λ place other. ¬ AreSamePlace place other) (all_places blocks)
+    → AllPairs (λ one other. ¬ AreOfSameColumn one other) found
