@@ -129,7 +129,7 @@ copy_of shapes old new missing sectors known block (first ∷ places) found (suc
     )
 
 -- and those of a block among those of all
-pub block_of : (shapes : List VdevShape) (old new : Disks) (missing : List ℕ) (blocks : List Block) (found : List Finding) (block : Block)
+block_of : (shapes : List VdevShape) (old new : Disks) (missing : List ℕ) (blocks : List Block) (found : List Finding) (block : Block)
     → AreChecked shapes old new missing blocks found → (k : ℕ) → slice_get blocks k ≡ Some block
     → (own : List Finding) × ((one : Finding) → Contains own one → Contains found one) × IsBlockChecked shapes old new missing block own
 block_of shapes old new missing [] found block are k at = absurd (cc)

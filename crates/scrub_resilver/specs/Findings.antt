@@ -1,5 +1,5 @@
 -- What is found of blocks, as a set: the columns of their copies that the disks don't have as they should.
-use Rattle.std.specs.Prelude.{ℕ, ◌≡◌, ◌≢◌, ◌⊎◌, ◌+◌, ◌<◌, Some, List, [], ◌∷◌, ◌++◌, length, slice_get, Contains, AllPairs}
+use Rattle.std.specs.Prelude.{ℕ, ◌≡◌, ◌≢◌, ◌⊎◌, ◌+◌, ◌*◌, ◌<◌, Option, Some, None, List, [], ◌∷◌, ◌++◌, length, slice_get, Contains, AllPairs}
 use Rattle.sha2.specs.Sha256.{sha256}
 use Rattle.block_pointer.specs.declared.block.Block.{Block}
 use Rattle.block_pointer.specs.declared.dva.Dva.{Dva}
@@ -14,21 +14,42 @@ use Rattle.raidz_io.specs.Reads.{AreUntouched, FewAreLost, GaveSince, IsHonestSi
 use Rattle.raidz_io.specs.Stands.{IsLayout, AreBytesOf, ExtentStands, all_columns}
 use Rattle.scrub_resilver.specs.Checking.{AreChecked}
 use Rattle.scrub_resilver.specs.Copies.{IsCopyOn, IsExtentOn}
-use Rattle.scrub_resilver.specs.Laws.{IsTold}
 use Rattle.scrub_resilver.specs.Looking.{ReadFailedSince, finding}
 use Rattle.scrub_resilver.specs.declared.fault.Fault.{Fault}
 use Rattle.scrub_resilver.specs.declared.fault.Fault.TheVariants.{Unreadable, Wrong}
 use Rattle.scrub_resilver.specs.declared.fault.Finding.{Finding}
 
--- ---- columns
+-- ---- the bytes that blocks should have
 
--- a column of a copy: the copy's vdev and extent, the column's number and place there, and the bytes that it should have
+-- Some copy of the block stood on its disks, but for few: the missing ones, those on which a call failed since, and any others.
+pub record StoodOnEnough (shapes : List VdevShape) (old new : Disks) (missing : List ℕ) (block : Block) (bytes : List ℕ) : Type 0 where
+  pub i : ℕ
+  pub extent : Extent
+  pub is_copy : IsCopyOn shapes block i extent
+  pub others : List ℕ
+  pub few : FewAreLost extent (absent_since old new missing ++ others)
+  pub stood : ExtentStands (content old) (absent_since old new missing ++ others) extent bytes
+
+-- the block should have these bytes: they have its digest; they aren't known only where no copy of such bytes stood on enough disks
+abbrev pub ShouldHave : List VdevShape → Disks → Disks → List ℕ → Block → Option (List ℕ) → Type 0
+ShouldHave shapes old new missing block (Some bytes) = sha256 bytes ≡ block.checksum
+ShouldHave shapes old new missing block None = (bytes : List ℕ) → sha256 bytes ≡ block.checksum → ¬ StoodOnEnough shapes old new missing block bytes
+
+-- so it is with these blocks, in their order
+pub record AreContents (shapes : List VdevShape) (old new : Disks) (missing : List ℕ) (blocks : List Block) (contents : List (Option (List ℕ))) : Type 0 where
+  pub count : length contents ≡ length blocks
+  pub each : (n : ℕ) (block : Block) (bytes : Option (List ℕ)) → slice_get blocks n ≡ Some block → slice_get contents n ≡ Some bytes
+      → ShouldHave shapes old new missing block bytes
+
+-- ---- their columns
+
+-- a column of a copy: the copy's vdev and extent, the column's number and place there, and the bytes that it should have, where they are known
 pub record CopyColumn : Type 0 where
   pub vdev : ℕ
   pub extent : Extent
   pub k : ℕ
   pub column : Column
-  pub bytes : List ℕ
+  pub bytes : Option (List ℕ)
 
 -- the number of its disk, and the byte of it at which it begins
 abbrev pub its_disk : CopyColumn → ℕ
@@ -37,51 +58,58 @@ its_disk it = disk_of it.extent.vdev it.column
 abbrev pub its_offset : CopyColumn → ℕ
 its_offset it = offset_of it.column
 
--- it is column k of a copy of one of the blocks, of bytes that have the block's digest
-pub record IsColumnOfOne (shapes : List VdevShape) (blocks : List Block) (it : CopyColumn) : Type 0 where
+-- column k of a block that should have these bytes should have those
+abbrev pub ColumnShouldHave : Extent → List Column → ℕ → Option (List ℕ) → Option (List ℕ) → Type 0
+ColumnShouldHave extent layout k (Some block) bytes =
+    (columns : ColumnsOf) × AreBytesOf extent block layout columns × (slice_get (all_columns columns) k ≡ bytes)
+ColumnShouldHave extent layout k None bytes = bytes ≡ None
+
+-- it is column k of a copy of one of the blocks, which should have these contents
+pub record IsColumnOfOne (shapes : List VdevShape) (blocks : List Block) (contents : List (Option (List ℕ))) (it : CopyColumn) : Type 0 where
+  pub n : ℕ
   pub block : Block
-  pub is_one : Contains blocks block
+  pub is_block : slice_get blocks n ≡ Some block
+  pub content : Option (List ℕ)
+  pub is_content : slice_get contents n ≡ Some content
   pub place : Dva
   pub is_copy : Contains (dvas block.copies) place
   pub vdev_is : it.vdev ≡ place.vdev
   pub extent_is : IsExtentOn shapes block.property.sectors place it.extent
-  pub content : List ℕ
-  pub digest : sha256 content ≡ block.checksum
   pub layout : List Column
-  pub columns : ColumnsOf
   pub is_layout : IsLayout it.extent layout
-  pub are_bytes : AreBytesOf it.extent content layout columns
   pub column_is : slice_get layout it.k ≡ Some it.column
-  pub bytes_are : slice_get (all_columns columns) it.k ≡ Some it.bytes
+  pub bytes_are : ColumnShouldHave it.extent layout it.k content it.bytes
 
 -- what is told of it, where this is wrong with it
 abbrev pub told_of : CopyColumn → Fault → Finding
 told_of it fault = finding it.vdev it.extent it.k it.column fault
 
--- ---- faults
+-- ---- their faults
 
--- its bytes are on its disk
+-- its bytes are known, and stand on its disk
 abbrev pub IsThere : Content → CopyColumn → Type 0
-IsThere content it = Stands content (its_disk it) (its_offset it) it.bytes
+IsThere content it = (bytes : List ℕ) × (it.bytes ≡ Some bytes) × Stands content (its_disk it) (its_offset it) bytes
 
--- one byte of it is known to be another there
+-- they are known, and the disk is known to have another byte in place of one of them
 abbrev pub IsOtherThere : Content → CopyColumn → Type 0
 IsOtherThere content it =
-    (i value : ℕ) × (i < length it.bytes) × (content (its_disk it) (its_offset it + i) ≡ Some value) × (slice_get it.bytes i ≢ Some value)
+    (bytes : List ℕ) × (i : ℕ) × (value : ℕ) × (it.bytes ≡ Some bytes) × (i < length bytes)
+    × (content (its_disk it) (its_offset it + i) ≡ Some value) × (slice_get bytes i ≢ Some value)
 
--- a read since gave its bytes
+-- they are known, and a read since gave them
 abbrev pub WasGiven : Disks → Disks → CopyColumn → Type 0
-WasGiven old new it = GaveSince (length old.calls) new.calls (its_disk it) (its_offset it) it.bytes
+WasGiven old new it = (bytes : List ℕ) × (it.bytes ≡ Some bytes) × GaveSince (length old.calls) new.calls (its_disk it) (its_offset it) bytes
 
--- a read since gave others
+-- a read since gave what isn't known to be its bytes
 abbrev pub WasGivenOthers : Disks → Disks → CopyColumn → Type 0
-WasGivenOthers old new it = (others : List ℕ) × GaveSince (length old.calls) new.calls (its_disk it) (its_offset it) others × (others ≢ it.bytes)
+WasGivenOthers old new it =
+    (others : List ℕ) × GaveSince (length old.calls) new.calls (its_disk it) (its_offset it) others × (it.bytes ≢ Some others)
 
--- This is wrong with it. It is unreadable: its disk is missing, or a read of it failed since. Or it is wrong: its disk isn't missing and
--- gave other bytes since, and didn't have all of its bytes before.
+-- This is wrong with it. It is unreadable: its disk is missing, or a read of it failed since. Or it is wrong: its disk isn't missing, gave
+-- other bytes since, and didn't have all of its bytes before.
 abbrev pub HasFault : Disks → Disks → List ℕ → CopyColumn → Fault → Type 0
 HasFault old new missing it Unreadable =
-    Contains missing (its_disk it) ⊎ ReadFailedSince (length old.calls) new.calls (its_disk it) (its_offset it) (length it.bytes)
+    Contains missing (its_disk it) ⊎ ReadFailedSince (length old.calls) new.calls (its_disk it) (its_offset it) (it.column.sectors * 512)
 HasFault old new missing it Wrong = (¬ Contains missing (its_disk it)) × WasGivenOthers old new it × (¬ IsThere (content old) it)
 
 -- its disk is missing, or had another byte of it, or didn't give its bytes since
@@ -90,30 +118,21 @@ IsFaulty old new missing it = Contains missing (its_disk it) ⊎ (IsOtherThere (
 
 -- ---- what is found
 
--- the findings are those of faulty columns of the blocks' copies: of none but these, and of each
-pub record AreOfFaults (shapes : List VdevShape) (old new : Disks) (missing : List ℕ) (blocks : List Block) (found : List Finding) : Type 0 where
+-- The findings are those of columns of the blocks' copies that are faulty: of none but such, and of each.
+pub record AreOfFaults (shapes : List VdevShape) (old new : Disks) (missing : List ℕ) (blocks : List Block) (contents : List (Option (List ℕ)))
+    (found : List Finding) : Type 0 where
   pub only : (one : Finding) → Contains found one
-      → (it : CopyColumn) × IsColumnOfOne shapes blocks it × (one ≡ told_of it one.fault) × HasFault old new missing it one.fault
-  pub all : (it : CopyColumn) → IsColumnOfOne shapes blocks it → IsFaulty old new missing it
+      → (it : CopyColumn) × IsColumnOfOne shapes blocks contents it × (one ≡ told_of it one.fault) × HasFault old new missing it one.fault
+  pub all : (it : CopyColumn) → IsColumnOfOne shapes blocks contents it → IsFaulty old new missing it
       → (fault : Fault) × Contains found (told_of it fault) × HasFault old new missing it fault
 
--- Some copy of the block stood but on few disks: the missing ones, those on which a call failed since, and any that were wrong.
-pub record StoodOnEnough (shapes : List VdevShape) (old new : Disks) (missing : List ℕ) (block : Block) (bytes : List ℕ) : Type 0 where
-  pub i : ℕ
-  pub extent : Extent
-  pub is_copy : IsCopyOn shapes block i extent
-  pub wrong : List ℕ
-  pub few : FewAreLost extent (absent_since old new missing ++ wrong)
-  pub stood : ExtentStands (content old) (absent_since old new missing ++ wrong) extent bytes
-
--- Where blocks were looked at over disks that answer truly, and of each block some copy stood on enough of them and no other bytes have its
--- digest, what is found is what is wrong on the disks.
+-- Where blocks were looked at over disks that answer truly, what is found is just what is wrong on them, beside the bytes that the blocks
+-- should have: some that have their digests.
 abbrev pub FindingsAreOfTheDisks : Type 0
 FindingsAreOfTheDisks =
     (shapes : List VdevShape) (old new : Disks) (missing : List ℕ) (blocks : List Block) (found : List Finding)
     → AreChecked shapes old new missing blocks found → OnlyReads old new → AreUntouched missing old new → IsHonestSince old new
-    → ((block : Block) → Contains blocks block → (bytes : List ℕ) × IsTold block bytes × StoodOnEnough shapes old new missing block bytes)
-    → AreOfFaults shapes old new missing blocks found
+    → (contents : List (Option (List ℕ))) × AreContents shapes old new missing blocks contents × AreOfFaults shapes old new missing blocks contents found
 
 -- ---- how often
 
