@@ -122,21 +122,11 @@ read_failed_more : (n : ℕ) (newer calls : List JointCall) (disk at count : ℕ
 read_failed_more n [] calls disk at count failed = failed
 read_failed_more n (made ∷ newer) calls disk at count failed = inr (read_failed_more n newer calls disk at count failed)
 
-read_failed_from : (n m : ℕ) (calls : List JointCall) (disk at count : ℕ) → n ≤ m → ReadFailedSince m calls disk at count → ReadFailedSince n calls disk at count
+pub read_failed_from : (n m : ℕ) (calls : List JointCall) (disk at count : ℕ) → n ≤ m → ReadFailedSince m calls disk at count → ReadFailedSince n calls disk at count
 read_failed_from n m [] disk at count le failed = failed
 read_failed_from n m (made ∷ calls) disk at count le failed = elim failed [
   | inl (since, is) ↦ inl (omega arith, is)
   | inr earlier ↦ inr (read_failed_from n m calls disk at count le earlier)
-]
-
--- where a read failed, a call did
-pub read_failed : (n : ℕ) (calls : List JointCall) (disk at count : ℕ) → ReadFailedSince n calls disk at count → Contains (failed_since n calls) disk
-read_failed n [] disk at count failed = absurd failed
-read_failed n (made ∷ calls) disk at count failed = elim failed [
-  | inl (since, is) ↦
-      subst (λ (m : JointCall). Contains (failed_since n (m ∷ calls)) disk) (sym is)
-      (failed_since-new n (on disk (FailedRead at count)) calls since refl)
-  | inr earlier ↦ failed_since-more n made calls disk (read_failed n calls disk at count earlier)
 ]
 
 pub absent_later : (old mid new : Disks) (missing : List ℕ) (disk : ℕ) → OnlyReads mid new → Contains (absent_since old mid missing) disk

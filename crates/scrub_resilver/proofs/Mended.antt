@@ -22,7 +22,7 @@ use Rattle.raidz_io.specs.Places.{IsOnDisks, disk_of, offset_of}
 use Rattle.raidz_io.specs.Reads.{AreReads, AreUntouched, GaveSince, IsRead, OnlyReads, absent_since}
 use Rattle.raidz_io.proofs.Calls.{Contains-none, failed_since-cases, failed_since-more, failed_since-new, failed_since-none}
 use Rattle.raidz_io.specs.Stands.{AreBytesOf, IsLayout, all_columns}
-use Rattle.scrub_resilver.proofs.Logs.{judged_at, read_failed, untouched_on}
+use Rattle.scrub_resilver.proofs.Logs.{judged_at, read_failed_from, untouched_on}
 use Rattle.scrub_resilver.specs.Looking.{IsJudged}
 use Rattle.scrub_resilver.specs.declared.fault.Fault.{Fault}
 use Rattle.scrub_resilver.specs.declared.fault.Fault.TheVariants.{Unreadable, Wrong}
@@ -167,8 +167,8 @@ reads_are_due (made ∷ newer) calls are =
     (λ since. read_is_due (length calls) (newer ++ calls) made.which made.call are.0, reads_are_due newer calls are.1)
 
 faulty_from : (n m : ℕ) (calls : List JointCall) (disk at : ℕ) (bytes : List ℕ) → n ≤ m → WasFaulty m calls disk at bytes → WasFaulty n calls disk at bytes
-faulty_from n m calls disk at bytes le (inl failed) = inl (failed_from n m calls disk le failed)
-faulty_from n m calls disk at bytes le (inr (others, apart, gave)) = inr (others, apart, gave_from n m calls disk at others le gave)
+faulty_from n m calls disk at bytes le (inl failed) = inl (read_failed_from n m calls disk at (length bytes) le failed)
+faulty_from n m calls disk at bytes le (inr (others, size, apart, gave)) = inr (others, size, apart, gave_from n m calls disk at others le gave)
 
 due_from : (n m : ℕ) (calls : List JointCall) (disk : ℕ) (call : Call) → n ≤ m → IsDue m calls disk call → IsDue n calls disk call
 due_from n m calls disk (Read at bytes) le is = tt
@@ -190,9 +190,9 @@ found_faulty : (old mid : Disks) (missing : List ℕ) (disk at : ℕ) (bytes : L
     → ¬ Contains missing disk → WasFaulty (length old.calls) mid.calls disk at bytes
 found_faulty old mid missing disk at bytes Unreadable is there = elim is [
   | inl gone ↦ absurd (there gone)
-  | inr failed ↦ inl (read_failed (length old.calls) mid.calls disk at (length bytes) failed)
+  | inr failed ↦ inl failed
 ]
-found_faulty old mid missing disk at bytes Wrong (others, gave, size, apart) there = inr (others, apart refl, gave)
+found_faulty old mid missing disk at bytes Wrong (others, gave, size, apart) there = inr (others, size, apart refl, gave)
 
 -- ---- repairs
 

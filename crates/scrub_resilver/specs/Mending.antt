@@ -15,6 +15,7 @@ use Rattle.raidz_io.specs.Places.{disk_of, offset_of}
 use Rattle.raidz_io.specs.Reads.{AreUntouched, GaveSince, absent_since}
 use Rattle.raidz_io.specs.Stands.{IsLayout, AreBytesOf, all_columns}
 use Rattle.scrub_resilver.specs.Copies.{IsCopyOn, IsExtentOn, AreUnread}
+use Rattle.scrub_resilver.specs.Looking.{ReadFailedSince}
 
 -- ---- what is written
 
@@ -52,9 +53,11 @@ pub record IsRightColumn (shapes : List VdevShape) (blocks : List Block) (disk a
   pub are_bytes : AreBytesOf extent content layout columns
   pub is_column : IsColumnIn extent layout (all_columns columns) disk at bytes
 
--- since there were n calls, a call on the disk failed, or a read there gave other bytes than these
+-- since there were n calls, a read of so many bytes there failed, or gave others than these
 abbrev pub WasFaulty : ℕ → List JointCall → ℕ → ℕ → List ℕ → Type 0
-WasFaulty n calls disk at bytes = Contains (failed_since n calls) disk ⊎ ((others : List ℕ) × (others ≢ bytes) × GaveSince n calls disk at others)
+WasFaulty n calls disk at bytes =
+    ReadFailedSince n calls disk at (length bytes)
+    ⊎ ((others : List ℕ) × (length others ≡ length bytes) × (others ≢ bytes) × GaveSince n calls disk at others)
 
 -- after these calls, where the call is a write, it was so with what it writes
 abbrev pub IsDue : ℕ → List JointCall → ℕ → Call → Type 0

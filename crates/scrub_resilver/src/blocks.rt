@@ -101,7 +101,7 @@ fn check_block<D: Disk + Drop>(
 }
 
 /// Looks at every column of every copy of these blocks, and tells what is wrong, in the order of the blocks, their copies and columns. A
-/// column is unreadable where its disk is missing or a call on it fails, and wrong where other bytes are read than those of the block: of the
+/// column is unreadable where its disk is missing or a read of it fails, and wrong where other bytes are read than those of the block: of the
 /// first copy that can be read by its digest. Where no copy can be, each column that is read is wrong. `BadPointer` where a copy lies in
 /// no vdev, or passes its end.
 pub fn check<D: Disk + Drop>(

@@ -3,7 +3,7 @@
 /// What is wrong with a column of a copy of a block.
 #[derive(Clone, Copy, PartialEq, Eq, Debug)]
 pub enum Fault {
-    /// Its disk is missing, or a call on it failed.
+    /// Its disk is missing, or a read of it failed.
     Unreadable,
     /// The disk gave other bytes than those of the block; or its bytes, where no copy of the block can be read.
     Wrong,
