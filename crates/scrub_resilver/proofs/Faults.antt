@@ -1,12 +1,12 @@
 -- What is found of blocks is what is wrong on the disks.
-use Rattle.std.proofs.Common.{ℕ, zero, suc, ◌≡◌, ◌≢◌, ◌⊎◌, inl, inr, ◌<◌, ◌≤◌, ◌+◌, ◌*◌, Bool, true, false, Option, Some, None, List, [], ◌∷◌, ◌++◌, length, map, get_or, slice_index, if◌then◌else◌, Contains, All, AllPairs, refl, sym, ap, subst, ◌∙◌, arith}
+use Rattle.std.proofs.Common.{ℕ, zero, suc, ◌≡◌, ◌≢◌, ◌⊎◌, inl, inr, ◌<◌, ◌≤◌, ◌+◌, ◌*◌, Bool, true, false, Option, Some, None, List, [], ◌∷◌, ◌++◌, length, map, get_or, slice_index, if◌then◌else◌, Contains, refl, sym, ap, subst, ◌∙◌, arith}
 use Rattle.std.specs.List.{slice_get}
 use Rattle.std.proofs.lemmas.List.{ext_get_or}
 use Rattle.std.proofs.lemmas.List.Elements.{Contains-append_left, Contains-append_right, Contains-append_cases}
 use Rattle.std.proofs.lemmas.Option.{slice_get-get_or, slice_get_within}
 use Rattle.sha2.specs.Sha256.{sha256}
 use Rattle.model_disk.specs.Call.{Call, Read}
-use Rattle.model_disk.specs.Joint.{JointCall, Disks, on, calls_on, content, failed_since, AreHonestSince}
+use Rattle.model_disk.specs.Joint.{JointCall, Disks, calls_on, content, AreHonestSince}
 use Rattle.model_disk.proofs.JointLemmas.{calls_on-same}
 use Rattle.block_pointer.specs.declared.block.Block.{Block}
 use Rattle.block_pointer.specs.declared.dva.Dva.{Dva}
@@ -16,15 +16,14 @@ use Rattle.raidz_map.specs.declared.column.Column.{Column}
 use Rattle.raidz_parity.specs.Layout.{Block as Columns}
 use Rattle.raidz_parity.specs.Parity.{weighted_sum_at}
 use Rattle.raidz_io.specs.declared.vdev.Extent.{Extent}
-use Rattle.raidz_io.specs.Choices.{HasNoChoice}
 use Rattle.raidz_io.specs.Places.{Stands, disk_of, offset_of}
-use Rattle.raidz_io.specs.Reads.{AreUntouched, FewAreLost, FewAreNotMore, GaveSince, HoldsColumn, IsHonestSince, MoreAreLost, OnlyReads, absent_since}
+use Rattle.raidz_io.specs.Reads.{AreUntouched, FewAreLost, FewAreNotMore, GaveSince, IsHonestSince, OnlyReads, absent_since}
 use Rattle.raidz_io.specs.Stands.{AreBytesOf, ExtentStands, all_columns}
 use Rattle.raidz_io.proofs.Calls.{content-OnlyReads, length-OnlyReads}
 use Rattle.raidz_io.proofs.Layouts.{layouts_agree, same_list}
 use Rattle.scrub_resilver.specs.Checking.{AreChecked, ArePlacesChecked, IsBlockChecked, IsPlaceChecked}
 use Rattle.scrub_resilver.specs.Copies.{AreUnread, IsUnread, IsUnreadAt, IsExtentOn}
-use Rattle.scrub_resilver.specs.Findings.{AreContents, AreOfFaults, ColumnShouldHave, CopyColumn, FindingsAreOfTheDisks, HasFault, IsColumnOfOne, IsFaulty, IsThere, ShouldHave, StoodOnEnough, its_disk, its_offset, told_of}
+use Rattle.scrub_resilver.specs.Findings.{ColumnShouldHave, CopyColumn, FindingsAreOfTheDisks, HasFault, IsColumnOfOne, IsFaulty, ShouldHave, StoodOnEnough, its_disk, its_offset, told_of}
 use Rattle.scrub_resilver.specs.Looking.{IsCopyChecked, IsJudged, ReadFailedSince, finding, findings_from}
 use Rattle.scrub_resilver.specs.declared.fault.Fault.{Fault}
 use Rattle.scrub_resilver.specs.declared.fault.Fault.TheVariants.{Unreadable, Wrong}
@@ -402,9 +401,9 @@ only_faults shapes old new missing blocks contents n block known bytes place ext
       },
       is ∙ ap (λ (f : Fault). told_of it f) same_fault,
       subst (λ (f : Fault). HasFault old new missing it f) same_fault
-      (fault_is old new missing it known part from.fault reads untouched honest refl
-      (size_at extent bytes copy.layout copy.columns from.k from.column part copy.are_bytes from.at part_is)
-      (copy.judged from.k from.column part (Some from.fault) from.at part_is from.fault_at)),
+          (fault_is old new missing it known part from.fault reads untouched honest refl
+          (size_at extent bytes copy.layout copy.columns from.k from.column part copy.are_bytes from.at part_is)
+          (copy.judged from.k from.column part (Some from.fault) from.at part_is from.fault_at)),
     )
 
 -- ---- of each
@@ -419,9 +418,9 @@ each_fault old new missing it known block part own reads untouched honest copy a
 each_fault old new missing it known block part own reads untouched honest copy at at' same faulty (Some fault) is = (
   fault,
   subst (λ (fs : List Finding). Contains fs (told_of it fault)) (sym copy.found_are)
-  (finding_here it.vdev it.extent 0 it.k it.k copy.layout copy.faults it.column fault (omega arith) at is),
+      (finding_here it.vdev it.extent 0 it.k it.k copy.layout copy.faults it.column fault (omega arith) at is),
   fault_is old new missing it known part fault reads untouched honest same
-  (size_at it.extent block copy.layout copy.columns it.k it.column part copy.are_bytes at at') (copy.judged it.k it.column part (Some fault) at at' is),
+      (size_at it.extent block copy.layout copy.columns it.k it.column part copy.are_bytes at at') (copy.judged it.k it.column part (Some fault) at at' is),
 )
 
 held_there : {X : Type 0} (xs : List X) (x : X) → Contains xs x → (i : ℕ) × (slice_get xs i ≡ Some x)
@@ -474,15 +473,15 @@ found_are_faults law shapes old new missing blocks found are reads untouched hon
             let of : IsOfBlock shapes old new missing blocks contents one = block_found shapes old new missing blocks found one are held in
             let at : IsOfPlace shapes old new missing of.block.property.sectors of.checked.known of.checked.content (dvas of.block.copies) one =
             place_found shapes old new missing of.block.property.sectors of.checked.known of.checked.content (dvas of.block.copies) of.own one of.checked.copies
-                of.held in
+            of.held in
             only_faults shapes old new missing blocks contents of.n of.block of.checked.known of.checked.content at.place at.checked.0 at.own one reads untouched
-                honest of.is_block of.content_is at.is_one at.checked.1 at.checked.2 at.held;
+            honest of.is_block of.content_is at.is_one at.checked.1 at.checked.2 at.held;
         all = λ it is faulty.
             let (i, at) = held_there (dvas is.block.copies) is.place is.is_copy in
             let of : IsBlockAt shapes old new missing found contents is.n is.block = block_at shapes old new missing blocks found are is.n is.block is.is_block in
             let (mine, among, (extent, there, copy)) =
             copy_of shapes old new missing is.block.property.sectors of.checked.known of.checked.content (dvas is.block.copies) of.own i is.place of.checked.copies
-                at in
+            at in
             let (fault, held, has) =
             column_found old new missing shapes blocks contents it of.checked.known of.checked.content extent mine reads untouched honest is
             (same_some _ _ (sym is.is_content ∙ of.content_is))

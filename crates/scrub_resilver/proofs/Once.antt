@@ -1,5 +1,5 @@
 -- No column is found twice.
-use Rattle.std.proofs.Common.{ℕ, zero, suc, ◌≡◌, ◌⊎◌, inl, inr, ◌<◌, ◌≤◌, ◌+◌, Bool, Option, Some, None, List, [], ◌∷◌, ◌++◌, length, Contains, All, AllPairs, refl, sym, ap, subst, ◌∙◌, arith}
+use Rattle.std.proofs.Common.{ℕ, suc, ◌≡◌, inl, inr, ◌+◌, Bool, Option, Some, None, List, [], ◌∷◌, ◌++◌, Contains, All, AllPairs, sym, ap, subst, ◌∙◌, arith}
 use Rattle.std.specs.Prelude.{slice_index_or}
 use Rattle.std.proofs.lemmas.List.Elements.{All-append, Contains-append_left, Contains-append_right, Contains-append_cases, Contains-get_or}
 use Rattle.std.proofs.lemmas.List.Kept.{AllPairs-cons}
@@ -57,7 +57,6 @@ pairs_append R (x ∷ xs) ys one other cross =
     (pairs_append R xs ys (pairs_tail R x xs one) other (λ z y held held'. cross z y (there_later x xs z held) held'))
 
 -- ---- findings
-
 
 -- those of one copy are of columns in order
 copy_once : (vdev : ℕ) (extent : Extent) (j : ℕ) (layout : List Column) (faults : List (Option Fault))
