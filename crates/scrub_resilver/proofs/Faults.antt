@@ -423,7 +423,7 @@ each_fault old new missing it known block part own reads untouched honest copy a
       (size_at it.extent block copy.layout copy.columns it.k it.column part copy.are_bytes at at') (copy.judged it.k it.column part (Some fault) at at' is),
 )
 
-held_there : {X : Type 0} (xs : List X) (x : X) → Contains xs x → (i : ℕ) × (slice_get xs i ≡ Some x)
+pub held_there : {X : Type 0} (xs : List X) (x : X) → Contains xs x → (i : ℕ) × (slice_get xs i ≡ Some x)
 held_there xs x (i, within, is) = (i, slice_get-get_or xs i x within ∙ ap (λ y. Some y) is)
 
 -- a column that should have these bytes was looked at beside them

@@ -1,21 +1,23 @@
 -- No column is found twice.
-use Rattle.std.proofs.Common.{ℕ, suc, ◌≡◌, inl, inr, ◌+◌, Bool, Option, Some, None, List, [], ◌∷◌, ◌++◌, Contains, All, AllPairs, sym, ap, subst, ◌∙◌, arith}
+use Rattle.std.proofs.Common.{ℕ, suc, ◌≡◌, ◌≢◌, inl, inr, ◌<◌, ◌+◌, Bool, Option, Some, None, List, [], ◌∷◌, ◌++◌, length, get_or, Contains, All, AllPairs, sym, ap, subst, ◌∙◌, arith}
 use Rattle.std.specs.Prelude.{slice_index_or}
 use Rattle.std.proofs.lemmas.List.Elements.{All-append, Contains-append_left, Contains-append_right, Contains-append_cases, Contains-get_or}
 use Rattle.std.proofs.lemmas.List.Kept.{AllPairs-cons}
+use Rattle.std.proofs.lemmas.Option.{slice_get-get_or}
 use Rattle.model_disk.specs.Joint.{Disks}
 use Rattle.block_pointer.specs.declared.block.Block.{Block}
 use Rattle.block_pointer.specs.declared.dva.Dva.{Dva}
 use Rattle.block_pointer.specs.Copies.{dvas}
+use Rattle.block_store.specs.Places.{ArePlacesApart}
 use Rattle.block_store.specs.declared.shape.VdevShape.{VdevShape}
 use Rattle.raidz_map.specs.declared.column.Column.{Column}
 use Rattle.raidz_io.specs.declared.vdev.Extent.{Extent}
 use Rattle.scrub_resilver.specs.Checking.{AreChecked, ArePlacesChecked, IsBlockChecked, IsPlaceChecked}
-use Rattle.scrub_resilver.specs.Findings.{AreOfSameColumn, AreSamePlace, ColumnsAreFoundOnce, all_places}
+use Rattle.scrub_resilver.specs.Findings.{AreOfSameColumn, ApartBlocksHaveOwnPlaces, AreSamePlace, ColumnsAreFoundOnce, all_places}
 use Rattle.scrub_resilver.specs.Looking.{finding, findings_from}
 use Rattle.scrub_resilver.specs.declared.fault.Fault.{Fault}
 use Rattle.scrub_resilver.specs.declared.fault.Finding.{Finding}
-use Rattle.scrub_resilver.proofs.Faults.{IsFindingFrom, IsOfPlace, cases_in, finding_from, none_there, place_found, there_first, there_later}
+use Rattle.scrub_resilver.proofs.Faults.{IsFindingFrom, IsOfPlace, cases_in, finding_from, held_there, none_there, place_found, there_first, there_later}
 
 -- ---- pairs of lists
 
@@ -158,3 +160,54 @@ found_once shapes old new missing (block ∷ blocks) found (here, rest, parts, i
     let at' : IsAtPlace (all_places blocks) other = at_places shapes old new missing blocks rest other are held' in
     apart_by one other at.place at'.place at.starts at'.starts
     (pairs_cross (λ (p other : Dva). ¬ AreSamePlace p other) (dvas block.copies) (all_places blocks) at.place at'.place differ at.is_one at'.is_one)))
+
+-- ---- blocks that lie apart
+
+apart_begin : (place other : Dva) → 0 < place.allocated → 0 < other.allocated → ArePlacesApart place other → ¬ AreSamePlace place other
+apart_begin place other some some' apart same = elim apart [
+  | inl differ ↦ differ same.0
+  | inr (inl before) ↦ omega (arith, before, some, same.1)
+  | inr (inr behind) ↦ omega (arith, behind, some', same.1)
+]
+
+-- whose copy lies at a place
+pub record IsOfOne (blocks : List Block) (place : Dva) : Type 0 where
+  pub block : Block
+  pub is_one : Contains blocks block
+  pub is_copy : Contains (dvas block.copies) place
+
+of_one : (blocks : List Block) (place : Dva) → Contains (all_places blocks) place → IsOfOne blocks place
+of_one [] place held = absurd (none_there place held)
+of_one (block ∷ blocks) place held = elim (Contains-append_cases (dvas block.copies) (all_places blocks) place held) [
+  | inl mine ↦ record { block = block; is_one = there_first block blocks; is_copy = mine }
+  | inr later ↦
+      let of : IsOfOne blocks place = of_one blocks place later in
+      record { block = of.block; is_one = there_later block blocks of.block of.is_one; is_copy = of.is_copy }
+]
+
+pub own_places : ApartBlocksHaveOwnPlaces
+own_places [] differ apart some = pairs_none (λ (p other : Dva). ¬ AreSamePlace p other)
+own_places (block ∷ blocks) differ apart some =
+    let places : List Dva = dvas block.copies in
+    let first : Contains (block ∷ blocks) block = there_first block blocks in
+    pairs_append (λ (p other : Dva). ¬ AreSamePlace p other) places (all_places blocks)
+    (λ i k d before within.
+    let within' : i < length places = omega (arith, before, within) in
+    elim (apart block block i k (get_or places i d) (get_or places k d) first first (slice_get-get_or places i d within') (slice_get-get_or places k d within)) [
+      | inl same ↦ absurd (omega (arith, before, same.1))
+      | inr apart' ↦
+          apart_begin (get_or places i d) (get_or places k d) (some block (get_or places i d) first (Contains-get_or places i d within'))
+          (some block (get_or places k d) first (Contains-get_or places k d within)) apart'
+    ])
+    (own_places blocks (pairs_tail (λ (b later : Block). b ≢ later) block blocks differ)
+    (λ b other i k place behind held held'. apart b other i k place behind (there_later block blocks b held) (there_later block blocks other held'))
+    (λ b place held. some b place (there_later block blocks b held)))
+    (λ place other held held'.
+    let of : IsOfOne blocks other = of_one blocks other held' in
+    let (i, at) = held_there places place held in
+    let (k, at') = held_there (dvas of.block.copies) other of.is_copy in
+    let later : Contains (block ∷ blocks) of.block = there_later block blocks of.block of.is_one in
+    elim (apart block of.block i k place other first later at at') [
+      | inl same ↦ absurd (pairs_head (λ (b later : Block). b ≢ later) block blocks of.block differ of.is_one same.0)
+      | inr apart' ↦ apart_begin place other (some block place first held) (some of.block other later of.is_copy) apart'
+    ])

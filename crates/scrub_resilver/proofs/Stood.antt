@@ -4,6 +4,7 @@ use Rattle.std.specs.List.{slice_get}
 use Rattle.std.proofs.lemmas.List.Elements.{Contains-append_left, Contains-append_right}
 use Rattle.std.proofs.lemmas.List.{length-map}
 use Rattle.std.proofs.lemmas.Option.{slice_get-get_or, slice_get_within}
+use Rattle.sha2.specs.Sha256.{sha256}
 use Rattle.model_disk.specs.Call.{Read}
 use Rattle.model_disk.specs.Honest.{IsTrueAnswer}
 use Rattle.model_disk.specs.Joint.{JointCall, Disks, on, bytes_of, calls_on, content, AreHonestSince}
@@ -22,7 +23,7 @@ use Rattle.raidz_io.proofs.Calls.{OnlyReads-more, OnlyReads-none, content-OnlyRe
 use Rattle.raidz_io.proofs.Layouts.{layouts_agree}
 use Rattle.scrub_resilver.specs.Checking.{AreChecked, ArePlacesChecked, IsBlockChecked, IsPlaceChecked}
 use Rattle.scrub_resilver.specs.Copies.{IsExtentOn}
-use Rattle.scrub_resilver.specs.Laws.{CheckedBlocksStand, IsKnownBut}
+use Rattle.scrub_resilver.specs.Laws.{CheckedBlocksStand, IsKnownBut, StandsAgain}
 use Rattle.scrub_resilver.specs.Looking.{IsCopyChecked, finding, findings_from}
 use Rattle.scrub_resilver.specs.declared.fault.Fault.{Fault}
 use Rattle.scrub_resilver.specs.declared.fault.Finding.{Finding}
@@ -233,29 +234,44 @@ unknown_stands old new missing left absent vdev extent content_is bytes found be
       (slice_get-get_or (all_columns copy.columns) k [] within) (get_or copy.faults k None) (fault_at copy.layout copy.faults k column copy.count here)));
 }
 
-copy_stands : (old new : Disks) (missing left absent : List ℕ) (vdev : ℕ) (extent : Extent) (known : Bool) (content_is bytes : List ℕ) (found : List Finding)
-    (before : Content) → OnlyReads old new → IsHonestSince old new → IsKnownBut new left extent → (known ≡ true → content_is ≡ bytes)
-    → IsCopyChecked old new missing vdev extent known content_is found → ((one : Finding) → Contains found one → Contains left one.disk)
-    → ExtentStands before absent extent bytes → ExtentStands (content new) left extent bytes
-copy_stands old new missing left absent vdev extent true content_is bytes found before reads honest known same copy in_left stood =
-    known_stands old new missing left vdev extent content_is bytes found reads honest known (same refl) copy in_left
-copy_stands old new missing left absent vdev extent false content_is bytes found before reads honest known same copy in_left stood =
-    unknown_stands old new missing left absent vdev extent content_is bytes found before copy in_left stood
-
 pub one_extent : (shapes : List VdevShape) (sectors : ℕ) (place : Dva) (extent other : Extent) → IsExtentOn shapes sectors place extent
     → IsExtentOn shapes sectors place other → extent ≡ other
 one_extent shapes sectors place extent other at at' =
     let same : at.shape ≡ at'.shape = same_some at.shape at'.shape (sym at.found ∙ at'.found) in
     same_extent extent other (at.vdev ∙ ap (λ (s : VdevShape). s.vdev) same ∙ sym at'.vdev) (at.start ∙ sym at'.start) (at.sectors_are ∙ sym at'.sectors_are)
 
+-- the copy of a block, where the bytes are known, or aren't
+again : (shapes : List VdevShape) (old new : Disks) (missing left : List ℕ) (block : Block) (known : Bool) (content_is given : List ℕ) (found : List Finding)
+    → OnlyReads old new → IsHonestSince old new → (known ≡ true → sha256 content_is ≡ block.checksum) → sha256 given ≡ block.checksum
+    → ArePlacesChecked shapes old new missing block.property.sectors known content_is (dvas block.copies) found
+    → ((one : Finding) → Contains found one → Contains left one.disk)
+    → (bytes : List ℕ) × (sha256 bytes ≡ block.checksum) × StandsAgain shapes new left block given bytes
+again shapes old new missing left block true content_is given found reads honest digest has are in_left = (
+  content_is,
+  digest refl,
+  λ i extent before absent is_copy stood known.
+      let (mine, among, (extent', there, copy)) =
+      copy_of shapes old new missing block.property.sectors true content_is (dvas block.copies) found i is_copy.place are is_copy.is_copy in
+      let same : extent' ≡ extent = one_extent shapes block.property.sectors is_copy.place extent' extent there is_copy.extent_is in
+      known_stands old new missing left is_copy.place.vdev extent content_is content_is mine reads honest known refl
+      (subst (λ (e : Extent). IsCopyChecked old new missing is_copy.place.vdev e true content_is mine) same copy)
+      (λ one held. in_left one (among one held)),
+)
+again shapes old new missing left block false content_is given found reads honest digest has are in_left = (
+  given,
+  has,
+  λ i extent before absent is_copy stood known.
+      let (mine, among, (extent', there, copy)) =
+      copy_of shapes old new missing block.property.sectors false content_is (dvas block.copies) found i is_copy.place are is_copy.is_copy in
+      let same : extent' ≡ extent = one_extent shapes block.property.sectors is_copy.place extent' extent there is_copy.extent_is in
+      unknown_stands old new missing left absent is_copy.place.vdev extent content_is given mine before
+      (subst (λ (e : Extent). IsCopyChecked old new missing is_copy.place.vdev e false content_is mine) same copy)
+      (λ one held. in_left one (among one held)) stood,
+)
+
 pub checked_stand : CheckedBlocksStand
-checked_stand shapes old new missing left blocks found are reads honest in_left block bytes absent i extent before (k, within, is) told is_copy stood known =
+checked_stand shapes old new missing left blocks found are reads honest in_left block given (k, within, is) has =
     let at : slice_get blocks k ≡ Some block = slice_get-get_or blocks k block within ∙ ap (λ b. Some b) is in
     let (own, among, checked) = block_of shapes old new missing blocks found block are k at in
-    let (mine, among', (extent', there, copy)) =
-    copy_of shapes old new missing block.property.sectors checked.known checked.content (dvas block.copies) own i is_copy.place checked.copies is_copy.is_copy in
-    let same : extent' ≡ extent = one_extent shapes block.property.sectors is_copy.place extent' extent there is_copy.extent_is in
-    copy_stands old new missing left absent is_copy.place.vdev extent checked.known checked.content bytes mine before reads honest known
-    (λ so. told.only checked.content (checked.digest so))
-    (subst (λ (e : Extent). IsCopyChecked old new missing is_copy.place.vdev e checked.known checked.content mine) same copy)
-    (λ one held. in_left one (among one (among' one held))) stood
+    again shapes old new missing left block checked.known checked.content given own reads honest checked.digest has checked.copies
+    (λ one held. in_left one (among one held))

@@ -4,6 +4,8 @@ use Rattle.sha2.specs.Sha256.{sha256}
 use Rattle.block_pointer.specs.declared.block.Block.{Block}
 use Rattle.block_pointer.specs.declared.dva.Dva.{Dva}
 use Rattle.block_pointer.specs.Copies.{dvas}
+use Rattle.block_store.specs.Blocks.{AreDistinct}
+use Rattle.block_store.specs.Opened.{AreBlocksApart}
 use Rattle.block_store.specs.declared.shape.VdevShape.{VdevShape}
 use Rattle.model_disk.specs.Joint.{Disks, content}
 use Rattle.raidz_map.specs.declared.column.Column.{Column}
@@ -145,6 +147,10 @@ all_places (block ∷ blocks) = dvas block.copies ++ all_places blocks
 abbrev pub AreSamePlace : Dva → Dva → Type 0
 AreSamePlace place other = (place.vdev ≡ other.vdev) × (place.offset ≡ other.offset)
 
+-- no two copies of these blocks do
+abbrev pub HaveOwnPlaces : List Block → Type 0
+HaveOwnPlaces blocks = AllPairs (λ place other. ¬ AreSamePlace place other) (all_places blocks)
+
 -- both are of the same column of what begins there, whatever is wrong with it
 abbrev pub AreOfSameColumn : Finding → Finding → Type 0
 AreOfSameColumn one other = (one.vdev ≡ other.vdev) × (one.start ≡ other.start) × (one.column ≡ other.column)
@@ -153,5 +159,10 @@ AreOfSameColumn one other = (one.vdev ≡ other.vdev) × (one.start ≡ other.st
 abbrev pub ColumnsAreFoundOnce : Type 0
 ColumnsAreFoundOnce =
     (shapes : List VdevShape) (old new : Disks) (missing : List ℕ) (blocks : List Block) (found : List Finding)
-    → AreChecked shapes old new missing blocks found → AllPairs (λ place other. ¬ AreSamePlace place other) (all_places blocks)
-    → AllPairs (λ one other. ¬ AreOfSameColumn one other) found
+    → AreChecked shapes old new missing blocks found → HaveOwnPlaces blocks → AllPairs (λ one other. ¬ AreOfSameColumn one other) found
+
+-- so it is with different blocks of which no two copies share a sector, if each copy has some
+abbrev pub ApartBlocksHaveOwnPlaces : Type 0
+ApartBlocksHaveOwnPlaces =
+    (blocks : List Block) → AreDistinct blocks → AreBlocksApart blocks
+    → ((block : Block) (place : Dva) → Contains blocks block → Contains (dvas block.copies) place → 0 < place.allocated) → HaveOwnPlaces blocks

@@ -17,18 +17,18 @@ use Rattle.scrub_resilver.specs.declared.fault.Finding.{Finding}
 abbrev pub IsKnownBut : Disks → List ℕ → Extent → Type 0
 IsKnownBut disks left extent = (disk i : ℕ) → ¬ Contains left disk → IsOfExtent extent disk i → (value : ℕ) × (content disks disk i ≡ Some value)
 
--- the bytes have the block's digest, and no others have it
-pub record IsTold (block : Block) (bytes : List ℕ) : Type 0 where
-  pub digest : sha256 bytes ≡ block.checksum
-  pub only : (other : List ℕ) → sha256 other ≡ block.checksum → other ≡ bytes
+-- each copy of the block that stood of the bytes that were given, with whichever disks absent, stands of these, but on the disks that are left
+abbrev pub StandsAgain : List VdevShape → Disks → List ℕ → Block → List ℕ → List ℕ → Type 0
+StandsAgain shapes new left block given bytes =
+    (i : ℕ) (extent : Extent) (before : Content) (absent : List ℕ) → IsCopyOn shapes block i extent → ExtentStands before absent extent given
+    → IsKnownBut new left extent → ExtentStands (content new) left extent bytes
 
 -- Where blocks were looked at over disks that answer truly, each copy of them stands, but for columns on disks of which something was found:
--- whatever stood of it before, with whichever disks absent, if no other bytes have its digest.
+-- whatever stood of it before. Its bytes have the digest of those that stood, and all copies of a block have the same.
 abbrev pub CheckedBlocksStand : Type 0
 CheckedBlocksStand =
     (shapes : List VdevShape) (old new : Disks) (missing left : List ℕ) (blocks : List Block) (found : List Finding)
     → AreChecked shapes old new missing blocks found → OnlyReads old new → IsHonestSince old new
     → ((one : Finding) → Contains found one → Contains left one.disk)
-    → (block : Block) (bytes absent : List ℕ) (i : ℕ) (extent : Extent) (before : Content) → Contains blocks block → IsTold block bytes
-    → IsCopyOn shapes block i extent → ExtentStands before absent extent bytes → IsKnownBut new left extent
-    → ExtentStands (content new) left extent bytes
+    → (block : Block) (given : List ℕ) → Contains blocks block → sha256 given ≡ block.checksum
+    → (bytes : List ℕ) × (sha256 bytes ≡ block.checksum) × StandsAgain shapes new left block given bytes

@@ -1,5 +1,5 @@
 //! What holds of blocks that were looked at.
-ghost use Rattle.scrub_resilver.specs.Findings.{ColumnsAreFoundOnce, FindingsAreOfTheDisks};
+ghost use Rattle.scrub_resilver.specs.Findings.{ApartBlocksHaveOwnPlaces, ColumnsAreFoundOnce, FindingsAreOfTheDisks};
 ghost use Rattle.scrub_resilver.specs.Laws.{CheckedBlocksStand};
 
 use raidz_io::few_are_not_more;
@@ -16,7 +16,12 @@ pub fn findings_are_of_the_disks()
     few_are_not_more();
 }
 
-/// No column is found twice.
+/// No column is found twice, where no two copies begin at one place.
 pub fn columns_are_found_once()
     ensures { ColumnsAreFoundOnce }
+{}
+
+/// No two copies of different blocks that lie apart begin at one place.
+pub fn apart_blocks_have_own_places()
+    ensures { ApartBlocksHaveOwnPlaces }
 {}

@@ -14,6 +14,9 @@ mod spread;
 
 pub use blocks::check;
 pub use fault::{Fault, Finding};
-pub use laws::{checked_blocks_stand, columns_are_found_once, findings_are_of_the_disks};
+pub use laws::{
+    apart_blocks_have_own_places, checked_blocks_stand, columns_are_found_once,
+    findings_are_of_the_disks,
+};
 pub use mending::mend;
 pub use refusal::Refusal;
