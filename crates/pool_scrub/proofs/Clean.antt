@@ -13,6 +13,7 @@ use Rattle.pool_open.specs.CoreState.{CoreState, config_of, disks_of, spans_of}
 use Rattle.pool_open.specs.Held.{HoldOver, IsStoreOver}
 use Rattle.pool_open.specs.Slots.{IsStampOf}
 use Rattle.pool_open.specs.Words.{stamp_of}
+use Rattle.sha2.specs.Sha256.{sha256}
 use Rattle.raidz_io.specs.declared.vdev.Extent.{Extent}
 use Rattle.raidz_io.specs.Reads.{IsHonestSince}
 use Rattle.raidz_io.specs.Stands.{ExtentStands}
@@ -96,13 +97,17 @@ held_behind law before core u counts stored pool is clean has known honest store
       stand = λ block bytes i extent is_stored copy.
           let on : IsCopyOn shapes block i extent =
           copy_on store.spaces shapes block i extent over.shapes_are (held.places block bytes is_stored) copy in
-          let stands : ExtentStands (content is.mid) missing extent bytes =
+          let digest : sha256 bytes ≡ block.checksum = sym (held.blocks block bytes is_stored).checksum in
+          let (right, is_right, again) =
           law shapes look.from is.mid missing missing it.blocks is.looked.healed.left.items look.checked look.reads
           (honest_part (disks_of before) look.from is.mid (disks_of core) (grew_on (disks_of before) it.mid look.from walked look.before) rest honest)
           (λ one found. out_from out 0 one.disk (clean.left one found))
-          block bytes (lost first block.birth) i extent (content (disks_of before))
-          (subst (λ (them : List Block). Contains them block) (sym blocks) (has.reached block bytes is_stored))
-          (has.told block bytes is_stored) on (held.stand block bytes i extent is_stored copy) (known block bytes i extent is_stored on) in
+          block bytes (subst (λ (them : List Block). Contains them block) (sym blocks) (has.reached block bytes is_stored)) digest in
+          let same : right ≡ bytes = has.told block bytes is_stored right (is_right ∙ sym digest) in
+          let stands : ExtentStands (content is.mid) missing extent bytes =
+          subst (λ (b : List ℕ). ExtentStands (content is.mid) missing extent b) same
+          (again i extent (content (disks_of before)) (lost first block.birth) on (held.stand block bytes i extent is_stored copy)
+          (known block bytes i extent is_stored on)) in
           subst (λ (d : Disks). ExtentStands (content d) (lost store block.birth) extent bytes) (sym over.disks_are)
           (stands_without (content is.mid) missing (lost store block.birth) extent bytes
           (λ disk gone. out_is_lost store out (length is.mid.starts) block.birth disk over.out_is over.since gone) stands);

@@ -5,6 +5,7 @@ use Rattle.block_store.specs.Blocks.{Contents}
 use Rattle.block_store.specs.Store.{is_out, is_stale, outs_from}
 use Rattle.dataset_snapshots.specs.Reach.{reach_of}
 use Rattle.model_disk.specs.Joint.{Disks}
+use Rattle.sha2.specs.Sha256.{sha256}
 use Rattle.raidz_io.specs.declared.vdev.Extent.{Extent}
 use Rattle.raidz_io.specs.Reads.{IsHonestSince}
 use Rattle.pool_model.specs.Pools.{PlainPool}
@@ -16,7 +17,7 @@ use Rattle.pool_open.specs.Represents.{Represents}
 use Rattle.pool_open.specs.Trees.{IsConfiguredFor, NamesConfigOf}
 use Rattle.pool_open.specs.Words.{vdevs_in}
 use Rattle.scrub_resilver.specs.Copies.{IsCopyOn}
-use Rattle.scrub_resilver.specs.Laws.{IsKnownBut, IsTold}
+use Rattle.scrub_resilver.specs.Laws.{IsKnownBut}
 use Rattle.scrub_resilver.specs.declared.fault.Finding.{Finding}
 use Rattle.uberblock_ring.specs.declared.uberblock.Uberblock.{Uberblock}
 use Rattle.volume_rules.specs.NowMoves.{IsMadeBy}
@@ -30,13 +31,17 @@ pub record IsCleanEnd (out : List Bool) (healed : Healed) : Type 0 where
   pub left : (one : Finding) → Contains healed.left.items one → is_out out one.disk ≡ true
   pub flushed : healed.unflushed.items ≡ []
 
+-- no other bytes have the digest of these
+abbrev pub HaveOwnDigest : List ℕ → Type 0
+HaveOwnDigest bytes = (other : List ℕ) → sha256 other ≡ sha256 bytes → other ≡ bytes
+
 -- The disks of the core have the blocks of a pool, which the uberblock's root leads to, but for those of groups that disks missed. No other
--- bytes have the digest that the pointer of one of them has.
+-- bytes have the digest of one of them.
 pub record HasPoolOn (before : CoreState) (layout : PoolLayout) (u : Uberblock) (stored : Contents) (pool : PlainPool) : Type 0 where
   pub held : HoldOver (disks_of before) layout.shapes.items layout.out.items layout.stale.items stored
   pub spells : SpellsWithMaps stored layout.shapes.items u.group u.root pool
   pub reached : (block : Block) (bytes : List ℕ) → stored block ≡ Some bytes → Contains (reach_of spells.0) block
-  pub told : (block : Block) (bytes : List ℕ) → stored block ≡ Some bytes → IsTold block bytes
+  pub told : (block : Block) (bytes : List ℕ) → stored block ≡ Some bytes → HaveOwnDigest bytes
   pub configured : IsConfiguredFor u stored pool
   pub named : NamesConfigOf u before
   pub made : IsMadeBy u.group pool
