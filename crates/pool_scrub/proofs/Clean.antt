@@ -97,7 +97,7 @@ held_behind law before core u counts stored pool is clean has known honest store
       stand = λ block bytes i extent is_stored copy.
           let on : IsCopyOn shapes block i extent =
           copy_on store.spaces shapes block i extent over.shapes_are (held.places block bytes is_stored) copy in
-          let digest : sha256 bytes ≡ block.checksum = sym (held.blocks block bytes is_stored).checksum in
+          let digest : sha256 bytes ≡ block.checksum = (held.blocks block bytes is_stored).digest in
           let (right, is_right, again) =
           law shapes look.from is.mid missing missing it.blocks is.looked.healed.left.items look.checked look.reads
           (honest_part (disks_of before) look.from is.mid (disks_of core) (grew_on (disks_of before) it.mid look.from walked look.before) rest honest)
