@@ -23,7 +23,8 @@ use Rattle.scrub_resilver.specs.declared.fault.Finding.{Finding}
 
 -- ---- the bytes that blocks should have
 
--- Some copy of the block stood on its disks, but for few: the missing ones, those on which a call failed since, and any others.
+-- Some copy of the block stood on its disks, but for at most as many as it has parities: the missing ones, those on which a call failed since,
+-- and any others.
 pub record StoodOnEnough (shapes : List VdevShape) (old new : Disks) (missing : List ℕ) (block : Block) (bytes : List ℕ) : Type 0 where
   pub i : ℕ
   pub extent : Extent
