@@ -38,7 +38,7 @@ abbrev pub ShouldHave : List VdevShape → Disks → Disks → List ℕ → Bloc
 ShouldHave shapes old new missing block (Some bytes) = sha256 bytes ≡ block.checksum
 ShouldHave shapes old new missing block None = (bytes : List ℕ) → sha256 bytes ≡ block.checksum → ¬ StoodOnEnough shapes old new missing block bytes
 
--- so it is with these blocks, in their order
+-- so it is with these blocks and their bytes, in order
 pub record AreContents (shapes : List VdevShape) (old new : Disks) (missing : List ℕ) (blocks : List Block) (contents : List (Option (List ℕ))) : Type 0 where
   pub count : length contents ≡ length blocks
   pub each : (n : ℕ) (block : Block) (bytes : Option (List ℕ)) → slice_get blocks n ≡ Some block → slice_get contents n ≡ Some bytes
@@ -54,10 +54,11 @@ pub record CopyColumn : Type 0 where
   pub column : Column
   pub bytes : Option (List ℕ)
 
--- the number of its disk, and the byte of it at which it begins
+-- the number of its disk
 abbrev pub its_disk : CopyColumn → ℕ
 its_disk it = disk_of it.extent.vdev it.column
 
+-- the byte of that disk at which it begins
 abbrev pub its_offset : CopyColumn → ℕ
 its_offset it = offset_of it.column
 
@@ -148,7 +149,7 @@ all_places (block ∷ blocks) = dvas block.copies ++ all_places blocks
 abbrev pub AreSamePlace : Dva → Dva → Type 0
 AreSamePlace place other = (place.vdev ≡ other.vdev) × (place.offset ≡ other.offset)
 
--- no two copies of these blocks do
+-- no two copies of these blocks begin at one place
 abbrev pub HaveOwnPlaces : List Block → Type 0
 HaveOwnPlaces blocks = AllPairs (λ place other. ¬ AreSamePlace place other) (all_places blocks)
 
@@ -162,7 +163,7 @@ ColumnsAreFoundOnce =
     (shapes : List VdevShape) (old new : Disks) (missing : List ℕ) (blocks : List Block) (found : List Finding)
     → AreChecked shapes old new missing blocks found → HaveOwnPlaces blocks → AllPairs (λ one other. ¬ AreOfSameColumn one other) found
 
--- so it is with different blocks of which no two copies share a sector, if each copy has some
+-- No two copies of different blocks begin at one place, if none share a sector, and each has some.
 abbrev pub ApartBlocksHaveOwnPlaces : Type 0
 ApartBlocksHaveOwnPlaces =
     (blocks : List Block) → AreDistinct blocks → AreBlocksApart blocks
