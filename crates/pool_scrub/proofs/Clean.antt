@@ -25,7 +25,7 @@ use Rattle.uberblock_ring.specs.declared.uberblock.Uberblock.{Uberblock}
 use Rattle.vdev_label.specs.Plain.{config_view}
 use Rattle.vdev_label.specs.declared.label.Config.{Config}
 use Rattle.pool_scrub.specs.Counting.{IsClean}
-use Rattle.pool_scrub.specs.Laws.{AreKnownOn, CleanScrubsGoOnWhole, HasPoolOn, IsCleanEnd, NonePresentIsStale}
+use Rattle.pool_scrub.specs.Laws.{CleanScrubsGoOnWhole, HasPoolOn, IsCleanEnd, NonePresentIsStale, StandAlone}
 use Rattle.pool_scrub.specs.Scrubbing.{IsScrubbedOver}
 use Rattle.pool_scrub.specs.declared.scrubbing.ScrubCounts.{ScrubCounts}
 use Rattle.pool_scrub.proofs.Whole.{Grew, IsLastLook, contained_at, copy_on, grew_by_reads, grew_on, healed_grew, honest_part, last_look, no_calls, out_is_lost, stands_without, whole_missed_none}
@@ -67,7 +67,7 @@ looked_grew before core u counts is =
 
 pub held_behind : CheckedBlocksStand → (before core : CoreState) (u : Uberblock) (counts : ScrubCounts) (stored : Contents) (pool : PlainPool)
     → (is : IsScrubbedOver before u core counts) → IsCleanEnd is.layout.out.items is.looked.healed → HasPoolOn before is.layout u stored pool
-    → AreKnownOn is.mid is.layout stored → IsHonestSince (disks_of before) (disks_of core)
+    → StandAlone is.mid is.layout stored → IsHonestSince (disks_of before) (disks_of core)
     → HoldOver is.mid is.layout.shapes.items is.layout.out.items core.commit.store.spans.stale stored
 held_behind law before core u counts stored pool is clean has known honest store over =
     let it = is.looked_is in
@@ -103,11 +103,11 @@ held_behind law before core u counts stored pool is clean has known honest store
           (honest_part (disks_of before) look.from is.mid (disks_of core) (grew_on (disks_of before) it.mid look.from walked look.before) rest honest)
           (λ one found. out_from out 0 one.disk (clean.left one found))
           block bytes (subst (λ (them : List Block). Contains them block) (sym blocks) (has.reached block bytes is_stored)) digest in
-          let same : right ≡ bytes = has.told block bytes is_stored right (is_right ∙ sym digest) in
+          let found : ExtentStands (content is.mid) missing extent right =
+          again i extent (content (disks_of before)) (lost first block.birth) on (held.stand block bytes i extent is_stored copy)
+          (known.known block bytes i extent is_stored on) in
           let stands : ExtentStands (content is.mid) missing extent bytes =
-          subst (λ (b : List ℕ). ExtentStands (content is.mid) missing extent b) same
-          (again i extent (content (disks_of before)) (lost first block.birth) on (held.stand block bytes i extent is_stored copy)
-          (known block bytes i extent is_stored on)) in
+          subst (λ (b : List ℕ). ExtentStands (content is.mid) missing extent b) (known.alone block bytes right i extent is_stored on found is_right) found in
           subst (λ (d : Disks). ExtentStands (content d) (lost store block.birth) extent bytes) (sym over.disks_are)
           (stands_without (content is.mid) missing (lost store block.birth) extent bytes
           (λ disk gone. out_is_lost store out (length is.mid.starts) block.birth disk over.out_is over.since gone) stands);

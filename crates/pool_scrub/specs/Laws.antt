@@ -4,10 +4,11 @@ use Rattle.block_pointer.specs.declared.block.Block.{Block}
 use Rattle.block_store.specs.Blocks.{Contents}
 use Rattle.block_store.specs.Store.{is_out, is_stale, outs_from}
 use Rattle.dataset_snapshots.specs.Reach.{reach_of}
-use Rattle.model_disk.specs.Joint.{Disks}
+use Rattle.model_disk.specs.Joint.{Disks, content}
 use Rattle.sha2.specs.Sha256.{sha256}
 use Rattle.raidz_io.specs.declared.vdev.Extent.{Extent}
 use Rattle.raidz_io.specs.Reads.{IsHonestSince}
+use Rattle.raidz_io.specs.Stands.{ExtentStands}
 use Rattle.pool_model.specs.Pools.{PlainPool}
 use Rattle.pool_model.specs.View.{opened_as}
 use Rattle.pool_open.specs.CoreState.{CoreState, disks_of}
@@ -31,26 +32,22 @@ pub record IsCleanEnd (out : List Bool) (healed : Healed) : Type 0 where
   pub left : (one : Finding) → Contains healed.left.items one → is_out out one.disk ≡ true
   pub flushed : healed.unflushed.items ≡ []
 
--- no other bytes have the digest of these
-abbrev pub HaveOwnDigest : List ℕ → Type 0
-HaveOwnDigest bytes = (other : List ℕ) → sha256 other ≡ sha256 bytes → other ≡ bytes
-
--- The disks of the core have the blocks of a pool, which the uberblock's root leads to, but for those of groups that disks missed. No other
--- bytes have the digest of one of them.
+-- The disks of the core have the blocks of a pool, which the uberblock's root leads to, but for those of groups that disks missed.
 pub record HasPoolOn (before : CoreState) (layout : PoolLayout) (u : Uberblock) (stored : Contents) (pool : PlainPool) : Type 0 where
   pub held : HoldOver (disks_of before) layout.shapes.items layout.out.items layout.stale.items stored
   pub spells : SpellsWithMaps stored layout.shapes.items u.group u.root pool
   pub reached : (block : Block) (bytes : List ℕ) → stored block ≡ Some bytes → Contains (reach_of spells.0) block
-  pub told : (block : Block) (bytes : List ℕ) → stored block ≡ Some bytes → HaveOwnDigest bytes
   pub configured : IsConfiguredFor u stored pool
   pub named : NamesConfigOf u before
   pub made : IsMadeBy u.group pool
 
--- each byte of these blocks is known on each disk that isn't out: no write failed there
-abbrev pub AreKnownOn : Disks → PoolLayout → Contents → Type 0
-AreKnownOn disks layout stored =
-    (block : Block) (bytes : List ℕ) (i : ℕ) (extent : Extent) → stored block ≡ Some bytes → IsCopyOn layout.shapes.items block i extent
-    → IsKnownBut disks (outs_from 0 layout.out.items) extent
+-- What the disks that aren't out have of these blocks is known, so that no write failed there; and no other bytes that stand of one of them happen
+-- to have its digest.
+pub record StandAlone (disks : Disks) (layout : PoolLayout) (stored : Contents) : Type 0 where
+  pub known : (block : Block) (bytes : List ℕ) (i : ℕ) (extent : Extent) → stored block ≡ Some bytes → IsCopyOn layout.shapes.items block i extent
+      → IsKnownBut disks (outs_from 0 layout.out.items) extent
+  pub alone : (block : Block) (bytes others : List ℕ) (i : ℕ) (extent : Extent) → stored block ≡ Some bytes → IsCopyOn layout.shapes.items block i extent
+      → ExtentStands (content disks) (outs_from 0 layout.out.items) extent others → sha256 others ≡ block.checksum → others ≡ bytes
 
 -- no disk that is there misses a group
 abbrev pub NonePresentIsStale : List Bool → CoreState → Type 0
@@ -62,7 +59,7 @@ NonePresentIsStale out core =
 abbrev pub CleanScrubsGoOnWhole : Type 0
 CleanScrubsGoOnWhole =
     (before core : CoreState) (u : Uberblock) (counts : ScrubCounts) (stored : Contents) (pool : PlainPool) → (is : IsScrubbedOver before u core counts)
-    → IsCleanEnd is.layout.out.items is.looked.healed → HasPoolOn before is.layout u stored pool → AreKnownOn is.mid is.layout stored
+    → IsCleanEnd is.layout.out.items is.looked.healed → HasPoolOn before is.layout u stored pool → StandAlone is.mid is.layout stored
     → IsHonestSince (disks_of before) (disks_of core)
     → Represents core (opened_as (vdevs_in is.layout.shapes.items) (is_out is.layout.out.items) (is_stale core.commit.store.spans.stale) u.group pool)
     × NonePresentIsStale is.layout.out.items core
