@@ -3,6 +3,7 @@
 #![tactic(auto)]
 
 mod changing;
+mod explaining;
 mod input;
 mod performing;
 mod pools;

@@ -4,6 +4,7 @@ use pool_model::Refusal;
 use pool_steps::PoolSteps;
 use std::alloc::{AllocError, Global};
 use std::fmt::Display;
+use std::io::Write;
 
 /// Where pools are found, by the files of their disks.
 pub trait Pools: Drop {
@@ -105,6 +106,37 @@ pub trait Pools: Drop {
         front: &Self::Front,
     ) -> Result<bool, AllocError>
         ensures { IfOk result (λ lost. lost ≡ has_lost pool.now front.now) };
+
+    /// Tells in lines that begin with the program's name which of these files are no disks of a pool, where one was not opened for this cause. What
+    /// is told here no clause says, and pools that know nothing more tell nothing.
+    fn explain_files<E: Write>(
+        &self,
+        alloc: Global,
+        files: &Files,
+        cause: &Self::Refusal,
+        program: &str,
+        errors: &mut E,
+    ) {
+        let _ = alloc;
+        let _ = files;
+        let _ = cause;
+        let _ = program;
+        let _ = errors;
+    }
+
+    /// Likewise what doesn't fit of a pool that was not made for this cause.
+    fn explain_new<E: Write>(
+        &self,
+        pool: &NewPool,
+        cause: &Self::Refusal,
+        program: &str,
+        errors: &mut E,
+    ) {
+        let _ = pool;
+        let _ = cause;
+        let _ = program;
+        let _ = errors;
+    }
 
     /// The volumes and snapshots, in the order of their names. `BadPointer` where a name is no text, which no pool has.
     fn rows(alloc: Global, pool: &Self::Pool) -> Result<Vec<VolumeRow>, Refusal>

@@ -7,6 +7,7 @@ ghost use Rattle.commands.specs.Lines.{EndsCommand};
 ghost use Rattle.commands.specs.Performs.{IsPlain, Streams};
 ghost use Rattle.commands.specs.Running.{IsLineOf, IsPerformed, IsUnperformed};
 
+use crate::explaining::explain;
 use crate::performing::perform;
 use crate::pools::Pools;
 use crate::serving::serve_volume;
@@ -36,18 +37,24 @@ fn tell<R: Display, E: Write>(errors: &mut E, program: &str, stop: &Stop<R>) -> 
     ExitStatus::of(stop)
 }
 
-/// How a command ended; and tells why, where that was before its end.
-fn end<R: Display, E: Write>(
+/// How the command of these words ended; and tells why, where that was before its end, and what helps.
+fn end<S: Pools, E: Write>(
+    alloc: Global,
+    pools: &S,
+    words: &[&str],
     errors: &mut E,
-    program: &str,
-    ended: &Result<(), Stop<R>>,
+    ended: &Result<(), Stop<S::Refusal>>,
 ) -> ExitStatus
     ensures { result ≡ status_by ended.now }
 {
-    match ended {
-        Ok(()) => ExitStatus::Done,
-        Err(stop) => tell(errors, program, stop),
+    let Err(stop) = ended else {
+        return ExitStatus::Done;
+    };
+    let status = tell(errors, words.first().copied().unwrap_or("zpool"), stop);
+    if let Stop::Pools(cause) = stop {
+        explain(alloc, pools, words, cause, errors);
     }
+    status
 }
 
 /// A command by how it prints.
@@ -108,7 +115,8 @@ fn perform_and_print<S: Pools, R: Read, W: Write>(
 }
 
 /// Runs a command line, whose first word is the name of the program, `zpool` or `zfs`: opens the pool on its files, takes its steps, commits,
-/// and prints then. Why it ended before its end is told on `errors` in a line, as `zpool: refused 22 TooManyMissing`.
+/// and prints then. Why it ended before its end is told on `errors` in a line, as `zpool: refused 22 TooManyMissing`,
+/// and what the pools know beside that in further lines.
 ///
 /// Faults of the line come first, before a file is opened; then those of standard input, of which a write of one range takes all before a file is
 /// opened; then what the pool answers. A whole volume is read, written and served as it comes.
@@ -138,19 +146,18 @@ pub fn command<S: Pools, R: Read, W: Write, E: Write>(
             return ExitStatus::Fault;
         }
     };
-    let program = words.first().copied().unwrap_or("zpool");
     match line_of(command) {
         Line::Plain(command) => {
             let ended = perform_and_print(alloc, pools, command, timestamp, input, output);
-            return end(errors, program, &ended);
+            return end(alloc, pools, words, errors, &ended);
         }
         Line::ReadAll { name, files } => {
             let ended = read_all(alloc, pools, &files, name, output);
-            return end(errors, program, &ended);
+            return end(alloc, pools, words, errors, &ended);
         }
         Line::Serve { name, files } => {
             let ended = serve_volume(alloc, pools, &files, name, timestamp, input, output);
-            return end(errors, program, &ended);
+            return end(alloc, pools, words, errors, &ended);
         }
     }
 }

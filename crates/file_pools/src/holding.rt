@@ -30,7 +30,7 @@ fn lock<F: Files<File = File>>(files: &F, path: &str) -> Result<Option<File>, Re
 }
 
 /// Whether the path is one of these.
-fn is_among(path: &str, paths: &[String]) -> bool {
+pub(crate) fn is_among(path: &str, paths: &[String]) -> bool {
     paths.iter().any(|other| other.as_str() == path)
 }
 

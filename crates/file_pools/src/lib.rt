@@ -2,6 +2,7 @@
 #![tactic(auto)]
 
 mod asking;
+mod explaining;
 mod guids;
 mod holding;
 mod pool;

@@ -4,7 +4,8 @@ ghost use Rattle.file_pools.specs.Opening.{IsMadePool, IsNotMade, IsNotOpened, I
 ghost use Rattle.pool_create.specs.CoreStateOf.{state_of};
 
 use crate::asking::asked;
-use crate::holding::{HeldDisks, hold, make, remove};
+use crate::explaining::{misfit_of, why_strange};
+use crate::holding::{HeldDisks, hold, is_among, make, remove};
 use crate::pool::PoolFront;
 use crate::refusal::Refusal;
 use crate::rows::volume_rows;
@@ -18,6 +19,7 @@ use pool_model::Refusal as StepRefusal;
 use pool_scrub::{ScrubCounts, Scrubbed, scrub};
 use std::alloc::{AllocError, Global};
 use std::fs::{File, Files};
+use std::io::Write;
 
 /// The core of a pool in files.
 pub type FileCore = Core<Member<FileDisk>>;
@@ -208,5 +210,41 @@ impl<'a, F: Files<File = File>> Pools for FilePools<'a, F> {
 
     fn status(alloc: Global, pool: &FileCore, front: &PoolFront) -> Result<PoolStatus, AllocError> {
         status_of(alloc, pool, &front.name, &front.uberblock)
+    }
+
+    fn explain_files<E: Write>(
+        &self,
+        alloc: Global,
+        files: &Paths,
+        cause: &Refusal,
+        program: &str,
+        errors: &mut E,
+    ) {
+        if !matches!(cause, Refusal::Pool(_)) {
+            return;
+        }
+        let paths = files.as_slice();
+        for i in 0..paths.len() {
+            let path = paths[i].as_str();
+            if is_among(path, &paths[..i]) {
+                continue;
+            }
+            if let Some(why) = why_strange(alloc, self.files, path) {
+                let _ = writeln!(errors, "{program}: {path}: {why}");
+            }
+        }
+    }
+
+    fn explain_new<E: Write>(
+        &self,
+        pool: &NewPool,
+        cause: &Refusal,
+        program: &str,
+        errors: &mut E,
+    ) {
+        if matches!(cause, Refusal::Pool(pool_create::Refusal::BadConfig)) {
+            let why = misfit_of(pool);
+            let _ = writeln!(errors, "{program}: {why}");
+        }
     }
 }

@@ -2,7 +2,7 @@
 use commands::command;
 use file_pools::FilePools;
 use std::alloc::{AllocError, Global};
-use std::fs;
+use std::fs::{self, OpenOptions};
 use std::test::Fail;
 
 /// A command line; standard input, which is so many bytes of this value; and the exit status, standard output and standard error that
@@ -168,21 +168,21 @@ const LIFE: [Case; 46] = [
         (0, 0),
         1,
         "",
-        "zpool: refused 24 BadConfig\n",
+        "zpool: refused 24 BadConfig\nzpool: --bytes: a file has from 8388608 to 8796093022208 bytes\n",
     ),
     (
         "zpool create --seed 8 --bytes 8388608 Tank raidz1 d e f",
         (0, 0),
         1,
         "",
-        "zpool: refused 24 BadConfig\n",
+        "zpool: refused 24 BadConfig\nzpool: no pool has this name: 1 to 27 of 'a-z', '0-9', '.', '_' and '-', the first a letter\n",
     ),
     (
         "zpool status d e f",
         (0, 0),
         1,
         "",
-        "zpool: refused 18 BadLabel tail\n",
+        "zpool: refused 18 BadLabel tail\nzpool: d: no such file\nzpool: e: no such file\nzpool: f: no such file\n",
     ),
     ("zfs write --all v a b c", (0xcc, 1024), 0, "", ""),
     ("zfs read v a c", (0, 0), 0, "ccx1024 ", ""),
@@ -227,11 +227,11 @@ const LIFE: [Case; 46] = [
         "",
     ),
     (
-        "zpool status x y z",
+        "zpool status x y x",
         (0, 0),
         1,
         "",
-        "zpool: refused 18 BadLabel tail\n",
+        "zpool: refused 18 BadLabel tail\nzpool: x: no such file\nzpool: y: no such file\n",
     ),
     (
         "zpool status a a b",
@@ -335,6 +335,73 @@ const AWAY: [Case; 19] = [
     ("zfs read v b c", (0, 0), 0, "ddx512 ccx512 ", ""),
 ];
 
+/// What is told beside a refusal. The file g is there, and no disk of a pool.
+const EXPLAINED: [Case; 9] = [
+    (
+        "zpool create --seed 9 --bytes 1073741824 tank raidz1 p q r",
+        (0, 0),
+        1,
+        "",
+        "zpool: refused 24 BadConfig\nzpool: 1529 metaslabs are more than 1024: give a larger --ms\n",
+    ),
+    (
+        "zpool create --seed 9 --bytes 8388608 --ms 14 tank raidz1 p q r",
+        (0, 0),
+        1,
+        "",
+        "zpool: refused 24 BadConfig\nzpool: --meta is 1 or more, and less than the 1 metaslabs that there are: give a smaller --ms or larger files\n",
+    ),
+    (
+        "zpool create --seed 9 --bytes 8388608 --ms 21 tank raidz1 p q r",
+        (0, 0),
+        1,
+        "",
+        "zpool: refused 24 BadConfig\nzpool: --ms: from 12 to 20\n",
+    ),
+    (
+        "zpool create --seed 9 --bytes 8388608 tank raidz2 p q",
+        (0, 0),
+        1,
+        "",
+        "zpool: refused 24 BadConfig\nzpool: a pool of this type has from 3 to 32 files\n",
+    ),
+    (
+        "zpool create --seed 9 --bytes 8388608 tank raidz1 p q r",
+        (0, 0),
+        0,
+        "",
+        "",
+    ),
+    (
+        "zpool status p nofile",
+        (0, 0),
+        1,
+        "",
+        "zpool: refused 22 TooManyMissing\nzpool: nofile: no such file\n",
+    ),
+    (
+        "zfs list g . p/q",
+        (0, 0),
+        1,
+        "",
+        "zfs: refused 18 BadLabel tail\nzfs: g: no disk of a pool\nzfs: .: can't be opened\nzfs: p/q: can't be opened\n",
+    ),
+    (
+        "zpool scrub g g",
+        (0, 0),
+        1,
+        "",
+        "zpool: refused 18 BadLabel tail\nzpool: g: no disk of a pool\n",
+    ),
+    (
+        "zpool status p p q",
+        (0, 0),
+        1,
+        "",
+        "zpool: refused 23 PoolMismatch\n",
+    ),
+];
+
 /// Bytes as they are printed here: a text as it stands, and of a read the length of each run of one byte.
 fn told(alloc: Global, line: &str, bytes: &[u8]) -> Result<String, AllocError> {
     let mut text = String::new(alloc);
@@ -379,10 +446,10 @@ fn run(rt: &HostRuntime, line: &str, given: (u8, usize)) -> Result<String, Fail>
     Ok(format!(in alloc; "{number} {shown}{wrong}")?)
 }
 
-/// Runs the lines on new files: the first one that ends otherwise than it should, and how.
-fn played(rt: &HostRuntime, cases: &[Case]) -> Result<String, Fail> {
+/// Runs the lines on new files: those that end otherwise than they should, and how.
+fn played(rt: &HostRuntime, paths: &[&str], cases: &[Case]) -> Result<String, Fail> {
     let alloc = rt.alloc();
-    for path in &["a", "b", "c", "d", "e", "f"] {
+    for path in paths {
         let _ = fs::remove_file(rt, path);
     }
     let mut wrong = String::new(alloc);
@@ -393,17 +460,30 @@ fn played(rt: &HostRuntime, cases: &[Case]) -> Result<String, Fail> {
             wrong.push_str(format!(in alloc; "{line}: {came}\n")?.as_str())?;
         }
     }
-    for path in &["a", "b", "c"] {
+    for path in paths {
         let _ = fs::remove_file(rt, path);
     }
     Ok(wrong)
 }
 
+/// The files of the sessions.
+const PATHS: [&str; 6] = ["a", "b", "c", "d", "e", "f"];
+
 #[test]
 fn pools_in_files_live(rt: HostRuntime) -> Result<(), Fail> {
-    let life = played(&rt, &LIFE)?;
+    let life = played(&rt, &PATHS, &LIFE)?;
     assert!(rt; life.is_empty(), "{life}");
-    let away = played(&rt, &AWAY)?;
+    let away = played(&rt, &PATHS, &AWAY)?;
     assert!(rt; away.is_empty(), "{away}");
+    Ok(())
+}
+
+#[test]
+fn refusals_are_explained(rt: HostRuntime) -> Result<(), Fail> {
+    let foreign = OpenOptions::new().write(true).create(true).open(&rt, "g")?;
+    foreign.set_len(2_097_152)?;
+    let told = played(&rt, &["p", "q", "r"], &EXPLAINED)?;
+    let _ = fs::remove_file(&rt, "g");
+    assert!(rt; told.is_empty(), "{told}");
     Ok(())
 }
