@@ -18,7 +18,7 @@ pub mod Stages
 pub mod Retried
 pub mod ExportStops
 pub mod PutAway
-pub mod Again
+pub mod Anew
 pub use Rattle.pool_core.proofs.SnapshotsLosses
 pub use Rattle.pool_core.proofs.SnapshotsReadings
 pub use Rattle.pool_core.proofs.SnapshotsStanding

@@ -77,5 +77,8 @@ pub fn core_again<D: Disk + Drop>(
         stale,
         disks: known,
     };
-    core_over(alloc, read.disks, shapes, out, claimed, root)
+    match core_over(alloc, read.disks, shapes, out, claimed, root) {
+        Ok(core) => Ok(core),
+        Err(failed) => Err(failed),
+    }
 }

@@ -119,8 +119,8 @@ pub clean_goes_on : CheckedBlocksStand → CleanScrubsGoOnWhole
 clean_goes_on law before core u counts stored pool is clean has known honest =
     let rest = grew_by_reads is.mid (disks_of core) is.begun.again.reads.only in (
       is.begun.again.represents stored pool (held_behind law before core u counts stored pool is clean has known honest) has.spells has.configured
-      (subst (λ (config : Config). IsStampOf (config_view config) u.claim (stamp_of u)) (sym is.begun.again.configured) has.named)
-      (honest_part (disks_of before) is.mid (disks_of core) (disks_of core) (looked_grew before core u counts is) (no_calls (disks_of core)) honest)
-      has.made,
+          (subst (λ (config : Config). IsStampOf (config_view config) u.claim (stamp_of u)) (sym is.begun.again.configured) has.named)
+          (honest_part (disks_of before) is.mid (disks_of core) (disks_of core) (looked_grew before core u counts is) (no_calls (disks_of core)) honest)
+          has.made,
       none_stale before core u counts is clean,
     )

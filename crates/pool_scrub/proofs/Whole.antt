@@ -98,20 +98,20 @@ pub last_look : (shapes : List VdevShape) (blocks : List Block) (missing : List 
     → IsHealed shapes blocks missing old new healed → IsLastLook shapes blocks missing old new healed.left.items
 last_look shapes blocks missing old new healed is = elim is.rest [
   | inl (none, left, flushed, same) ↦ record {
-      from = old;
-      before = no_calls old;
-      reads = subst (λ (d : Disks). OnlyReads old d) (sym same) is.reads;
-      checked =
-          subst (λ (d : Disks). AreChecked shapes old d missing blocks healed.left.items) (sym same)
-          (subst (λ (found : List Finding). AreChecked shapes old is.mid missing blocks found) (none ∙ sym left) is.found);
-    }
+    from = old;
+    before = no_calls old;
+    reads = subst (λ (d : Disks). OnlyReads old d) (sym same) is.reads;
+    checked =
+        subst (λ (d : Disks). AreChecked shapes old d missing blocks healed.left.items) (sym same)
+        (subst (λ (found : List Finding). AreChecked shapes old is.mid missing blocks found) (none ∙ sym left) is.found);
+  }
   | inr mended ↦ record {
-      from = mended.mended;
-      before = grew_on old is.mid mended.mended (grew_by_reads old is.mid is.reads)
-          (record { starts = mended.mends.makes.starts; newer = mended.mends.makes.newer; calls = mended.mends.makes.calls });
-      reads = mended.reads;
-      checked = mended.left;
-    }
+    from = mended.mended;
+    before = grew_on old is.mid mended.mended (grew_by_reads old is.mid is.reads)
+        (record { starts = mended.mends.makes.starts; newer = mended.mends.makes.newer; calls = mended.mends.makes.calls });
+    reads = mended.reads;
+    checked = mended.left;
+  }
 ]
 
 pub healed_grew : (shapes : List VdevShape) (blocks : List Block) (missing : List ℕ) (old new : Disks) (healed : Healed)

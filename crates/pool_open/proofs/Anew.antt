@@ -108,10 +108,13 @@ root_misplaced old new shapes out u config spans by stale contents refusal reads
   reads = reads;
   why = elim why [
     | inl memory ↦ inl memory
-    | inr (bad, misplaced) ↦ inr (inr (inr (inr (bad, record {
+    | inr (bad, misplaced) ↦ inr (inr (inr (inr (
+      bad,
+      record {
         contents = contents;
         read = subst (λ (them : List (Option GroupSpan)). IsReadOfRoot old new shapes out them u.group u.root contents) same is;
         why = subst (λ (them : List (Option GroupSpan)). AreMisplacedOver new shapes out them contents) left_out misplaced;
-      }))))
+      },
+    ))))
   ];
 }
