@@ -1,5 +1,5 @@
 -- Pools of which a scrub left nothing to be mended.
-use Rattle.std.proofs.Common.{ℕ, ◌≡◌, ◌≢◌, ◌<◌, Bool, true, false, Some, List, [], length, Contains, replicate, refl, sym, ap, subst, ◌∙◌, arith}
+use Rattle.std.proofs.Common.{ℕ, ◌≡◌, ◌≢◌, ◌<◌, ◌+◌, Bool, true, false, Some, List, [], length, Contains, replicate, refl, sym, ap, subst, ◌∙◌, arith}
 use Rattle.std.specs.List.{slice_get}
 use Rattle.block_pointer.specs.declared.block.Block.{Block}
 use Rattle.block_pointer.specs.Copies.{dvas}
@@ -58,6 +58,12 @@ none_stale before core u counts is clean disk birth within there =
 
 -- ---- what stands
 
+-- a disk that is out is among those
+among : (out : List Bool) (disk : ℕ) → is_out out disk ≡ true → Contains (outs_from 0 out) disk
+among out disk is =
+    let same : 0 + disk ≡ disk = omega arith in
+    subst (λ (d : ℕ). Contains (outs_from 0 out) d) same (out_from out 0 disk is)
+
 -- each call up to the last look, and what it was
 looked_grew : (before core : CoreState) (u : Uberblock) (counts : ScrubCounts) (is : IsScrubbedOver before u core counts) → Grew (disks_of before) is.mid
 looked_grew before core u counts is =
@@ -101,7 +107,7 @@ held_behind law before core u counts stored pool is clean has known honest store
           let (right, is_right, again) =
           law shapes look.from is.mid missing missing it.blocks is.looked.healed.left.items look.checked look.reads
           (honest_part (disks_of before) look.from is.mid (disks_of core) (grew_on (disks_of before) it.mid look.from walked look.before) rest honest)
-          (λ one found. out_from out 0 one.disk (clean.left one found))
+          (λ one found. among out one.disk (clean.left one found))
           block bytes (subst (λ (them : List Block). Contains them block) (sym blocks) (has.reached block bytes is_stored)) digest in
           let found : ExtentStands (content is.mid) missing extent right =
           again i extent (content (disks_of before)) (lost first block.birth) on (held.stand block bytes i extent is_stored copy)

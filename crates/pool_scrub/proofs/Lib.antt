@@ -1,3 +1,4 @@
+pub mod Begun
 pub mod Clean
 pub mod Marks
 pub mod Results

@@ -12,7 +12,6 @@ ghost use Rattle.pool_scrub.specs.Scrubbing.{IsScrubbed, IsScrubbedOver, IsUnloo
 use crate::counting::{missing_of, whole_of};
 use crate::healing::{Healed, heal};
 use crate::walking::{PoolLayout, walk};
-use block_store::writes_elsewhere_keep;
 use model_disk::{Disk, DiskArray, Member};
 use pool_open::{Core, KnownDisks, NotOpened, OpenedFrom, OpenedPool, Refusal, core_again, open};
 use scrub_resilver::checked_blocks_stand;
@@ -123,14 +122,17 @@ fn begin_again<D: Disk + Drop>(
     let Ok(known) = known_behind(alloc, known, looked.whole.as_slice()) else {
         return Err((Refusal::NoMemory, disks));
     };
-    core_again(
+    match core_again(
         alloc,
         disks,
         layout.shapes.as_slice(),
         layout.out.as_slice(),
         uberblock,
         known,
-    )
+    ) {
+        Ok(core) => Ok(core),
+        Err(failed) => Err(failed),
+    }
 }
 
 /// Takes a pool apart that is at rest, looks at all blocks that it leads to, mends them, and begins its core anew.
@@ -204,6 +206,5 @@ pub fn scrub<D: Disk + Drop>(alloc: Global, disks: Vec<D>) -> Result<Scrubbed<D>
 pub fn clean_scrubs_go_on_whole()
     ensures { CleanScrubsGoOnWhole }
 {
-    writes_elsewhere_keep();
     checked_blocks_stand();
 }
