@@ -30,7 +30,7 @@ pub trait Pools: Drop {
     // It is not, for this cause.
     ghost refuses: { Self → List (List ℕ) → Self.Refusal → Self → Type 0 };
 
-    // The pool on these files is opened, every block that its last group leads to is looked at and mended, and it is opened again.
+    // The pool on these files is opened, every block that its last group leads to is looked at and mended, and it goes on.
     ghost scrubs: { Self → List (List ℕ) → Self.Pool → Self.Front → ScrubReport → Self → Type 0 };
 
     // It is not, for this cause.

@@ -48,7 +48,7 @@ IsNotOpened refusal.Busy = Unit {0}
 IsNotOpened (refusal.Pool cause) = IsRefusedOpen cause
 IsNotOpened other = ⊥
 
--- the pool was opened, scrubbed and opened again, goes by the name that its labels have, and so much was counted
+-- the pool was opened and scrubbed, goes by the name that its labels have, and so much was counted
 pub record IsScrubbedPool (core : CoreState) (front : PoolFront) (report : ScrubReport) : Type 0 where
   pub disks : List FileDisk
   pub from : OpenedFrom FileDisk

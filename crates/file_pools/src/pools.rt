@@ -58,7 +58,7 @@ fn opened(alloc: Global, held: HeldDisks) -> Result<(FileCore, PoolFront), Refus
     Ok((core, front))
 }
 
-/// The pool on these disks, scrubbed and opened again, and what was counted.
+/// The pool on these disks, opened and scrubbed, and what was counted.
 fn scrubbed(alloc: Global, held: HeldDisks) -> Result<(FileCore, PoolFront, ScrubReport), Refusal>
     ensures scrubbed { IfOk result (λ scrubbed.
         IsScrubbedPool (state_of scrubbed.0) scrubbed.1 scrubbed.2) }

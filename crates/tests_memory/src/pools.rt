@@ -143,7 +143,7 @@ fn opened(
     }
 }
 
-/// The pool on these disks, scrubbed and opened again, and what was counted; or why not, and the disks.
+/// The pool on these disks, opened and scrubbed, and what was counted; or why not, and the disks.
 fn scrubbed(
     alloc: Global,
     disks: Vec<TimedDisk>,

@@ -73,7 +73,7 @@ const LIFE: [Case; 24] = [
     (
         "zpool status a c",
         (0, 0),
-        "0 pool tank\nclaim 20\ngroup 10\nvdev 0 raidz1\n  disk 0 00000000000002be online\n  disk 1 00000000000002bf absent\n  disk 2 00000000000002c0 online\n",
+        "0 pool tank\nclaim 19\ngroup 10\nvdev 0 raidz1\n  disk 0 00000000000002be online\n  disk 1 00000000000002bf absent\n  disk 2 00000000000002c0 online\n",
     ),
     ("zfs read --at 510 --len 4 v@s b c", (0, 0), "0 aax2 00x2 "),
 ];
