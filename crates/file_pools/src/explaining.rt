@@ -8,7 +8,9 @@ use std::alloc::Global;
 use std::fmt;
 use std::fs::{File, Files};
 use std::io::ErrorKind;
-use vdev_label::{LABEL_LEN, LABELS, MAX_SLAB_SHIFT, MAX_SLABS, MIN_SLAB_SHIFT, Refusal, read_label};
+use vdev_label::{
+    LABEL_LEN, LABELS, MAX_SLAB_SHIFT, MAX_SLABS, MIN_SLAB_SHIFT, Refusal, read_label,
+};
 
 /// The most files of a vdev.
 const MAX_FILES: u64 = 32;

@@ -7,6 +7,8 @@ mod changed_disks;
 #[cfg(test)]
 mod counted_reads;
 #[cfg(test)]
+mod known;
+#[cfg(test)]
 mod making;
 #[cfg(test)]
 mod many_blocks;
@@ -22,5 +24,3 @@ mod runs;
 mod schedules;
 #[cfg(test)]
 mod test_disk;
-#[cfg(test)]
-mod known;
