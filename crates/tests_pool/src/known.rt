@@ -25,7 +25,9 @@ fn the_span_of_a_disk_that_is_out_is_known(rt: HostRuntime) -> Result<(), Fail> 
     let known = player.core.known_disks(alloc)?;
     let rows = known.spans.rows();
     assert!(rt; rows.len() == 1 && rows[0].from == 4);
-    let disk = rows[0].disk;
-    assert!(rt; known.config.as_ref().vdevs[0].children[1] == disk);
+    let Some(vdev) = known.config.as_ref().vdevs.first() else {
+        return Err(Fail::new("no vdev"));
+    };
+    assert!(rt; vdev.children.get(1).copied() == Some(rows[0].disk));
     Ok(())
 }
