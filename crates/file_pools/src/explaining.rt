@@ -4,6 +4,7 @@ ghost use Rattle.std.specs.Prelude.{◌<◌};
 use block_store::sectors_for_blocks;
 use model_disk::{DiskArray, DiskError, FileDisk};
 use pool_command::NewPool;
+use raidz_map::MAX_CHILDREN;
 use std::alloc::Global;
 use std::fmt;
 use std::fs::{File, Files};
@@ -11,9 +12,6 @@ use std::io::ErrorKind;
 use vdev_label::{
     LABEL_LEN, LABELS, MAX_SLAB_SHIFT, MAX_SLABS, MIN_SLAB_SHIFT, Refusal, read_label,
 };
-
-/// The most files of a vdev.
-const MAX_FILES: u64 = 32;
 
 /// Why a file is no disk of a pool.
 #[derive(Clone, Copy)]
@@ -92,7 +90,7 @@ impl fmt::Display for Misfit {
             ),
             Misfit::FileCount { least } => write!(
                 f,
-                "a pool of this type has from {least} to {MAX_FILES} files"
+                "a pool of this type has from {least} to {MAX_CHILDREN} files"
             ),
             Misfit::MetaslabSize => write!(f, "--ms: from {MIN_SLAB_SHIFT} to {MAX_SLAB_SHIFT}"),
             Misfit::TooManyMetaslabs { count } => write!(
@@ -119,7 +117,7 @@ pub(crate) fn misfit_of(pool: &NewPool) -> Misfit {
     };
     let count = pool.files.as_slice().len() as u64;
     let least = u64::from(pool.parities).saturating_add(1);
-    if count < least || MAX_FILES < count {
+    if count < least || u64::from(MAX_CHILDREN) < count {
         return Misfit::FileCount { least };
     }
     if pool.shift < MIN_SLAB_SHIFT || MAX_SLAB_SHIFT < pool.shift {

@@ -1,12 +1,13 @@
--- Pools of which a scrub left nothing to be mended.
-use Rattle.std.proofs.Common.{ℕ, ◌≡◌, ◌≢◌, ◌<◌, ◌+◌, Bool, true, false, Some, List, [], length, Contains, replicate, refl, sym, ap, subst, ◌∙◌, arith}
+-- What a pool goes on with behind a scrub.
+use Rattle.std.proofs.Common.{ℕ, ◌≡◌, ◌≢◌, ◌<◌, ◌+◌, ◌++◌, inl, inr, Bool, true, false, Option, Some, List, [], length, map, Contains, replicate, refl, sym, ap, subst, ◌∙◌, arith}
+use Rattle.std.proofs.lemmas.List.Elements.{Contains-append_cases, Contains-append_left, Contains-append_right}
 use Rattle.std.specs.List.{slice_get}
 use Rattle.block_pointer.specs.declared.block.Block.{Block}
 use Rattle.block_pointer.specs.Copies.{dvas}
 use Rattle.block_store.specs.Blocks.{Contents}
 use Rattle.block_store.specs.Places.{IsCopy, shapes_of}
-use Rattle.block_store.specs.Store.{Store, Holds, is_out, is_stale, lost, outs_from}
-use Rattle.block_store.proofs.Outs.{out_from}
+use Rattle.block_store.specs.Store.{Store, Holds, is_out, is_stale, lost, outs, outs_from}
+use Rattle.disk_set.specs.declared.stale.GroupSpan.{GroupSpan}
 use Rattle.model_disk.specs.Joint.{Disks, content}
 use Rattle.pool_model.specs.Pools.{PlainPool}
 use Rattle.pool_open.specs.CoreState.{CoreState, config_of, disks_of, spans_of}
@@ -25,15 +26,26 @@ use Rattle.uberblock_ring.specs.declared.uberblock.Uberblock.{Uberblock}
 use Rattle.vdev_label.specs.Plain.{config_view}
 use Rattle.vdev_label.specs.declared.label.Config.{Config}
 use Rattle.pool_scrub.specs.Counting.{IsClean}
-use Rattle.pool_scrub.specs.Laws.{CleanScrubsGoOnWhole, HasPoolOn, IsCleanEnd, NonePresentIsStale, StandAlone}
+use Rattle.pool_scrub.specs.Laws.{CleanScrubsGoOnWhole, HasPoolOn, HoldOnLeft, IsCleanEnd, NonePresentIsStale, NoWholeIsStale, ScrubsGoOn, StandAlone, disks_left}
 use Rattle.pool_scrub.specs.Scrubbing.{IsScrubbedOver}
+use Rattle.pool_scrub.specs.declared.healing.Healed.{Healed}
 use Rattle.pool_scrub.specs.declared.scrubbing.ScrubCounts.{ScrubCounts}
+use Rattle.pool_scrub.specs.declared.walking.PoolLayout.{PoolLayout}
+use Rattle.pool_scrub.proofs.Left.{StandOnLeft, disk_among, finding_of, out_among, stands_on_left}
 use Rattle.pool_scrub.proofs.Whole.{Grew, IsLastLook, contained_at, copy_on, grew_by_reads, grew_on, healed_grew, honest_part, last_look, no_calls, out_is_lost, stands_without, whole_missed_none}
 
 never : (b : Bool) → b ≡ true → b ≡ false → ⊥
 never b is not = cc
 
--- ---- no disk that is there is stale
+-- ---- which disks are stale no more
+
+pub none_whole_stale : (before core : CoreState) (u : Uberblock) (counts : ScrubCounts) (is : IsScrubbedOver before u core counts)
+    → NoWholeIsStale is.looked.whole.items core
+none_whole_stale before core u counts is disk birth marked =
+    let guids : Config → List ℕ = λ config. guids_in (config_view config) in
+    is.begun.again.stale disk birth
+    ∙ ap (λ (config : Config). is_stale (stale_groups (spans_of core) (guids config)) disk birth) is.begun.again.configured
+    ∙ whole_missed_none (guids (config_of before)) is.looked.whole.items (spans_of before) (spans_of core) disk birth is.begun.cleared marked
 
 none_of_it : (out : List Bool) (left : List Finding) (disk : ℕ) → ((one : Finding) → Contains left one → is_out out one.disk ≡ true)
     → is_out out disk ≡ false → IsClean left disk
@@ -43,26 +55,17 @@ none_of_it out left disk all there at one is same =
 empty : (items : List ℕ) (disk : ℕ) → items ≡ [] → ¬ Contains items disk
 empty items disk none (k, within, is) = omega (arith, within, ap (λ (them : List ℕ). length them) none)
 
-pub none_stale : (before core : CoreState) (u : Uberblock) (counts : ScrubCounts) (is : IsScrubbedOver before u core counts)
+none_stale : (before core : CoreState) (u : Uberblock) (counts : ScrubCounts) (is : IsScrubbedOver before u core counts)
     → IsCleanEnd is.layout.out.items is.looked.healed → NonePresentIsStale is.layout.out.items core
 none_stale before core u counts is clean disk birth within there =
-    let marked : is_out is.looked.whole.items disk ≡ true = (is.looked_is.whole.marked disk within).1 (
+    none_whole_stale before core u counts is disk birth
+    ((is.looked_is.whole.marked disk within).1 (
       there,
       none_of_it is.layout.out.items is.looked.healed.left.items disk clean.left there,
       empty is.looked.healed.unflushed.items disk clean.flushed,
-    ) in
-    let guids : Config → List ℕ = λ config. guids_in (config_view config) in
-    is.begun.again.stale disk birth
-    ∙ ap (λ (config : Config). is_stale (stale_groups (spans_of core) (guids config)) disk birth) is.begun.again.configured
-    ∙ whole_missed_none (guids (config_of before)) is.looked.whole.items (spans_of before) (spans_of core) disk birth is.begun.cleared marked
+    ))
 
 -- ---- what stands
-
--- a disk that is out is among those
-among : (out : List Bool) (disk : ℕ) → is_out out disk ≡ true → Contains (outs_from 0 out) disk
-among out disk is =
-    let same : 0 + disk ≡ disk = omega arith in
-    subst (λ (d : ℕ). Contains (outs_from 0 out) d) same (out_from out 0 disk is)
 
 -- each call up to the last look, and what it was
 looked_grew : (before core : CoreState) (u : Uberblock) (counts : ScrubCounts) (is : IsScrubbedOver before u core counts) → Grew (disks_of before) is.mid
@@ -72,14 +75,17 @@ looked_grew before core u counts is =
     (healed_grew is.layout.shapes.items it.blocks (outs_from 0 is.layout.out.items) it.mid is.mid is.looked.healed it.healed)
 
 pub held_behind : CheckedBlocksStand → (before core : CoreState) (u : Uberblock) (counts : ScrubCounts) (stored : Contents) (pool : PlainPool)
-    → (is : IsScrubbedOver before u core counts) → IsCleanEnd is.layout.out.items is.looked.healed → HasPoolOn before is.layout u stored pool
-    → StandAlone is.mid is.layout stored → IsHonestSince (disks_of before) (disks_of core)
+    → (is : IsScrubbedOver before u core counts) → HasPoolOn before is.layout u stored pool
+    → StandAlone is.mid is.layout (outs_from 0 is.layout.out.items ++ disks_left is.looked.healed) stored
+    → HoldOnLeft is.mid is.layout (disks_left is.looked.healed) core.commit.store.spans.stale stored → IsHonestSince (disks_of before) (disks_of core)
     → HoldOver is.mid is.layout.shapes.items is.layout.out.items core.commit.store.spans.stale stored
-held_behind law before core u counts stored pool is clean has known honest store over =
+unfolding StandOnLeft
+held_behind law before core u counts stored pool is has known on_left honest store over =
     let it = is.looked_is in
     let shapes = is.layout.shapes.items in
     let out = is.layout.out.items in
     let missing = outs_from 0 out in
+    let left = disks_left is.looked.healed in
     let grew = looked_grew before core u counts is in
     let rest = grew_by_reads is.mid (disks_of core) is.begun.again.reads.only in
     let look = last_look shapes it.blocks missing it.mid is.mid is.looked.healed it.healed in
@@ -105,28 +111,81 @@ held_behind law before core u counts stored pool is clean has known honest store
           copy_on store.spaces shapes block i extent over.shapes_are (held.places block bytes is_stored) copy in
           let digest : sha256 bytes ≡ block.checksum = (held.blocks block bytes is_stored).digest in
           let (right, is_right, again) =
-          law shapes look.from is.mid missing missing it.blocks is.looked.healed.left.items look.checked look.reads
+          law shapes look.from is.mid missing (missing ++ left) it.blocks is.looked.healed.left.items look.checked look.reads
           (honest_part (disks_of before) look.from is.mid (disks_of core) (grew_on (disks_of before) it.mid look.from walked look.before) rest honest)
-          (λ one found. among out one.disk (clean.left one found))
+          (λ one found. Contains-append_right missing left one.disk (disk_among is.looked.healed.left.items one found))
           block bytes (subst (λ (them : List Block). Contains them block) (sym blocks) (has.reached block bytes is_stored)) digest in
-          let found : ExtentStands (content is.mid) missing extent right =
+          let found : ExtentStands (content is.mid) (missing ++ left) extent right =
           again i extent (content (disks_of before)) (lost first block.birth) on (held.stand block bytes i extent is_stored copy)
           (known.known block bytes i extent is_stored on) in
-          let stands : ExtentStands (content is.mid) missing extent bytes =
-          subst (λ (b : List ℕ). ExtentStands (content is.mid) missing extent b) (known.alone block bytes right i extent is_stored on found is_right) found in
+          let stands : ExtentStands (content is.mid) (missing ++ left) extent bytes =
+          subst (λ (b : List ℕ). ExtentStands (content is.mid) (missing ++ left) extent b) (known.alone block bytes right i extent is_stored on found is_right) found in
+          let outs_are : outs store ≡ missing = ap (λ (marks : List Bool). outs_from 0 marks) over.out_is in
+          let lost_out : (disk : ℕ) → Contains missing disk → Contains (lost store block.birth) disk =
+          λ disk gone. out_is_lost store out (length is.mid.starts) block.birth disk over.out_is over.since gone in
           subst (λ (d : Disks). ExtentStands (content d) (lost store block.birth) extent bytes) (sym over.disks_are)
-          (stands_without (content is.mid) missing (lost store block.birth) extent bytes
-          (λ disk gone. out_is_lost store out (length is.mid.starts) block.birth disk over.out_is over.since gone) stands);
+          (stands_on_left (content is.mid) store left block.birth extent bytes
+          (λ disk marked. lost_out disk (out_among out disk (subst (λ (marks : List Bool). is_out marks disk ≡ true) over.out_is marked)))
+          (λ disk gone. lost_out disk (subst (λ (them : List ℕ). Contains them disk) outs_are gone))
+          (subst (λ (them : List ℕ). ExtentStands (content is.mid) (them ++ left) extent bytes) (sym outs_are) stands)
+          (λ disk at part layout columns is_layout are_bytes is_column among_left there fresh.
+          on_left block bytes on.place disk at part is_stored (contained_at (dvas block.copies) i on.place on.is_copy)
+          (record {
+            extent = extent;
+            extent_is = on.extent_is;
+            layout = layout;
+            columns = columns;
+            is_layout = is_layout;
+            are_bytes = are_bytes;
+            is_column = is_column;
+          })
+          among_left (subst (λ (marks : List Bool). is_out marks disk ≡ false) over.out_is there)
+          (subst (λ (spans : List (Option GroupSpan)). is_stale spans disk block.birth ≡ false) over.stale_is fresh)));
     }
 
 -- ---- the core
 
-pub clean_goes_on : CheckedBlocksStand → CleanScrubsGoOnWhole
-clean_goes_on law before core u counts stored pool is clean has known honest =
+pub goes_on : CheckedBlocksStand → ScrubsGoOn
+goes_on law before core u counts stored pool is has known on_left honest =
     let rest = grew_by_reads is.mid (disks_of core) is.begun.again.reads.only in (
-      is.begun.again.represents stored pool (held_behind law before core u counts stored pool is clean has known honest) has.spells has.configured
+      is.begun.again.represents stored pool (held_behind law before core u counts stored pool is has known on_left honest) has.spells has.configured
           (subst (λ (config : Config). IsStampOf (config_view config) u.claim (stamp_of u)) (sym is.begun.again.configured) has.named)
           (honest_part (disks_of before) is.mid (disks_of core) (disks_of core) (looked_grew before core u counts is) (no_calls (disks_of core)) honest)
           has.made,
-      none_stale before core u counts is clean,
+      none_whole_stale before core u counts is,
     )
+
+-- ---- clean ends
+
+-- each disk of which something is left is out
+left_out : (out : List Bool) (healed : Healed) (disk : ℕ) → IsCleanEnd out healed → Contains (disks_left healed) disk → is_out out disk ≡ true
+left_out out healed disk clean held =
+    let (one, found, same) = finding_of healed.left.items disk held in
+    subst (λ (d : ℕ). is_out out d ≡ true) same (clean.left one found)
+
+-- so that no more disks are left aside
+alone_too : (mid : Disks) (layout : PoolLayout) (healed : Healed) (stored : Contents) → IsCleanEnd layout.out.items healed
+    → StandAlone mid layout (outs_from 0 layout.out.items) stored → StandAlone mid layout (outs_from 0 layout.out.items ++ disks_left healed) stored
+alone_too mid layout healed stored clean alone =
+    let missing = outs_from 0 layout.out.items in
+    let left = disks_left healed in
+    record {
+      known = λ block bytes i extent is_stored on disk at there of.
+          alone.known block bytes i extent is_stored on disk at (λ held. there (Contains-append_left missing left disk held)) of;
+      alone = λ block bytes others i extent is_stored on stands digest.
+          alone.alone block bytes others i extent is_stored on
+          (stands_without (content mid) (missing ++ left) missing extent others
+          (λ disk held. elim (Contains-append_cases missing left disk held) [
+            | inl is ↦ is
+            | inr is ↦ out_among layout.out.items disk (left_out layout.out.items healed disk clean is)
+          ]) stands)
+          digest;
+    }
+
+pub clean_goes_on : ScrubsGoOn → CleanScrubsGoOnWhole
+clean_goes_on law before core u counts stored pool is clean has known honest = (
+  (law before core u counts stored pool is has (alone_too is.mid is.layout is.looked.healed stored clean known)
+      (λ block bytes place disk at part is_stored held is_column among_left there fresh.
+      absurd (never (is_out is.layout.out.items disk) (left_out is.layout.out.items is.looked.healed disk clean among_left) there)) honest).0,
+  none_stale before core u counts is clean,
+)

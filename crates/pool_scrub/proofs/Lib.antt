@@ -1,5 +1,6 @@
 pub mod Begun
 pub mod Clean
+pub mod Left
 pub mod Marks
 pub mod Results
 pub mod Room

@@ -1,5 +1,6 @@
 -- Disks that have every block again.
-use Rattle.std.proofs.Common.{ℕ, zero, suc, ◌≡◌, ◌≢◌, ◌<◌, ◌≤◌, ◌+◌, ◌==◌, inl, inr, Bool, true, false, Option, Some, None, List, [], ◌∷◌, ◌++◌, length, filter, nat_le, Contains, replicate, refl, sym, ap, subst, ◌∙◌, arith, if◌then◌else◌, length-append}
+use Rattle.std.proofs.Common.{ℕ, zero, suc, ◌≡◌, ◌≢◌, ◌<◌, ◌≤◌, ◌+◌, ◌*◌, ◌/◌, ◌%◌, ◌==◌, inl, inr, Bool, true, false, Option, Some, None, List, [], ◌∷◌, ◌++◌, length, filter, nat_le, Contains, replicate, refl, sym, ap, subst, ◌∙◌, arith, if◌then◌else◌, length-append, mul-le-mul_right}
+use Rattle.std.proofs.lemmas.Nat.{div-add-mod'}
 use Rattle.std.specs.List.{slice_get, find, slice_index}
 use Rattle.std.specs.Prelude.{cond, option_map, slice_index_or}
 use Rattle.std.proofs.Math.Dec.{leb-zero}
@@ -16,8 +17,6 @@ use Rattle.block_store.specs.Shapes.{vdev_sectors, metaslab_sectors}
 use Rattle.block_store.specs.Spaces.{VdevSpace}
 use Rattle.block_store.specs.Store.{Store, Holds, is_out, is_stale, lost, missed, outs, outs_from}
 use Rattle.block_store.specs.declared.shape.VdevShape.{VdevShape}
-use Rattle.block_store.proofs.Outs.{out_from}
-use Rattle.block_store.proofs.Taking.{ends_before}
 use Rattle.disk_set.specs.Outs.{is_in}
 use Rattle.disk_set.specs.declared.stale.GroupSpan.{GroupSpan}
 use Rattle.meta_objset.specs.declared.stale_spans.StaleSpan.{StaleSpan}
@@ -166,6 +165,14 @@ shape_at : (spaces : List VdevSpace) (v : ℕ) (space : VdevSpace) → slice_get
 shape_at [] v space at = absurd (cc)
 shape_at (first ∷ spaces) zero space at = ap (λ (found : Option VdevSpace). option_map (λ s. s.shape) found) at
 shape_at (first ∷ spaces) (suc v) space at = shape_at spaces v space at
+
+-- what lies in one metaslab that ends within the vdev ends within it
+ends_before : (a b n size : ℕ) → a / size < b / size → a % size + n ≤ size → a + n ≤ b
+ends_before a b n size less fits =
+    let split : a / size * size + a % size ≡ a = div-add-mod' a size in
+    let split' : b / size * size + b % size ≡ b = div-add-mod' b size in
+    let next : (suc (a / size)) * size ≤ (b / size) * size = mul-le-mul_right size less in
+    omega (arith, split, split', fits, next)
 
 -- a copy that lies in its place lies there by the shapes of the vdevs
 pub copy_on : (spaces : List VdevSpace) (shapes : List VdevShape) (block : Block) (i : ℕ) (extent : Extent) → shapes_of spaces ≡ shapes

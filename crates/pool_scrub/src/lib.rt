@@ -8,4 +8,4 @@ mod walking;
 
 pub use healing::Healed;
 pub use pool_open::Refusal;
-pub use scrubbing::{ScrubCounts, Scrubbed, clean_scrubs_go_on_whole, scrub};
+pub use scrubbing::{ScrubCounts, Scrubbed, clean_scrubs_go_on_whole, scrub, scrubs_go_on};

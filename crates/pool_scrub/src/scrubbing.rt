@@ -5,7 +5,7 @@ ghost use Rattle.pool_open.specs.CoreStateOf.{disks_in, state_of};
 ghost use Rattle.pool_open.specs.Opens.{refusal_of};
 ghost use Rattle.stale_disks.specs.Rules.{AreSpansWithout, guids_in};
 ghost use Rattle.vdev_label.specs.Plain.{config_view};
-ghost use Rattle.pool_scrub.specs.Laws.{CleanScrubsGoOnWhole};
+ghost use Rattle.pool_scrub.specs.Laws.{CleanScrubsGoOnWhole, ScrubsGoOn};
 ghost use Rattle.pool_scrub.specs.Scrubbing.{IsBegunAgain, IsLayoutOf, IsLooked, IsNotBegunAgain, IsNotScrubbedOver};
 ghost use Rattle.pool_scrub.specs.Scrubbing.{IsScrubbed, IsScrubbedOver, IsUnlooked, ScrubRefuses, back_of};
 
@@ -202,9 +202,17 @@ pub fn scrub<D: Disk + Drop>(alloc: Global, disks: Vec<D>) -> Result<Scrubbed<D>
     }
 }
 
+/// A law: the pool goes on as the open found it, where the disks of which something is left to be mended have what they didn't miss by the
+/// spans that stay; and no disk is stale that has every block again.
+pub fn scrubs_go_on()
+    ensures { ScrubsGoOn }
+{
+    checked_blocks_stand();
+}
+
 /// A law: where nothing is left to be mended of a disk that is there, the pool goes on as the open found it, and no disk that is there is stale.
 pub fn clean_scrubs_go_on_whole()
     ensures { CleanScrubsGoOnWhole }
 {
-    checked_blocks_stand();
+    scrubs_go_on();
 }
