@@ -1,11 +1,9 @@
 -- What a pool goes on with behind a scrub.
-use Rattle.std.proofs.Common.{ℕ, ◌≡◌, ◌≢◌, ◌<◌, ◌+◌, ◌++◌, inl, inr, Bool, true, false, Option, Some, List, [], length, map, Contains, replicate, refl, sym, ap, subst, ◌∙◌, arith}
+use Rattle.std.proofs.Common.{ℕ, ◌≡◌, ◌++◌, inl, inr, Bool, true, false, Option, List, [], length, Contains, replicate, refl, sym, ap, subst, ◌∙◌, arith}
 use Rattle.std.proofs.lemmas.List.Elements.{Contains-append_cases, Contains-append_left, Contains-append_right}
-use Rattle.std.specs.List.{slice_get}
 use Rattle.block_pointer.specs.declared.block.Block.{Block}
 use Rattle.block_pointer.specs.Copies.{dvas}
 use Rattle.block_store.specs.Blocks.{Contents}
-use Rattle.block_store.specs.Places.{IsCopy, shapes_of}
 use Rattle.block_store.specs.Store.{Store, Holds, is_out, is_stale, lost, outs, outs_from}
 use Rattle.disk_set.specs.declared.stale.GroupSpan.{GroupSpan}
 use Rattle.model_disk.specs.Joint.{Disks, content}
@@ -15,13 +13,12 @@ use Rattle.pool_open.specs.Held.{HoldOver, IsStoreOver}
 use Rattle.pool_open.specs.Slots.{IsStampOf}
 use Rattle.pool_open.specs.Words.{stamp_of}
 use Rattle.sha2.specs.Sha256.{sha256}
-use Rattle.raidz_io.specs.declared.vdev.Extent.{Extent}
 use Rattle.raidz_io.specs.Reads.{IsHonestSince}
 use Rattle.raidz_io.specs.Stands.{ExtentStands}
 use Rattle.scrub_resilver.specs.Copies.{IsCopyOn}
 use Rattle.scrub_resilver.specs.Laws.{CheckedBlocksStand}
 use Rattle.scrub_resilver.specs.declared.fault.Finding.{Finding}
-use Rattle.stale_disks.specs.Rules.{AreSpansWithout, guids_in, stale_groups}
+use Rattle.stale_disks.specs.Rules.{guids_in, stale_groups}
 use Rattle.uberblock_ring.specs.declared.uberblock.Uberblock.{Uberblock}
 use Rattle.vdev_label.specs.Plain.{config_view}
 use Rattle.vdev_label.specs.declared.label.Config.{Config}
@@ -31,8 +28,8 @@ use Rattle.pool_scrub.specs.Scrubbing.{IsScrubbedOver}
 use Rattle.pool_scrub.specs.declared.healing.Healed.{Healed}
 use Rattle.pool_scrub.specs.declared.scrubbing.ScrubCounts.{ScrubCounts}
 use Rattle.pool_scrub.specs.declared.walking.PoolLayout.{PoolLayout}
-use Rattle.pool_scrub.proofs.Left.{StandOnLeft, disk_among, finding_of, out_among, stands_on_left}
-use Rattle.pool_scrub.proofs.Whole.{Grew, IsLastLook, contained_at, copy_on, grew_by_reads, grew_on, healed_grew, honest_part, last_look, no_calls, out_is_lost, stands_without, whole_missed_none}
+use Rattle.pool_scrub.proofs.Left.{disk_among, finding_of, out_among, stands_on_left}
+use Rattle.pool_scrub.proofs.Whole.{Grew, contained_at, copy_on, grew_by_reads, grew_on, healed_grew, honest_part, last_look, no_calls, out_is_lost, stands_without, whole_missed_none}
 
 never : (b : Bool) → b ≡ true → b ≡ false → ⊥
 never b is not = cc
@@ -79,7 +76,6 @@ pub held_behind : CheckedBlocksStand → (before core : CoreState) (u : Uberbloc
     → StandAlone is.mid is.layout (outs_from 0 is.layout.out.items ++ disks_left is.looked.healed) stored
     → HoldOnLeft is.mid is.layout (disks_left is.looked.healed) core.commit.store.spans.stale stored → IsHonestSince (disks_of before) (disks_of core)
     → HoldOver is.mid is.layout.shapes.items is.layout.out.items core.commit.store.spans.stale stored
-unfolding StandOnLeft
 held_behind law before core u counts stored pool is has known on_left honest store over =
     let it = is.looked_is in
     let shapes = is.layout.shapes.items in

@@ -1,6 +1,5 @@
 -- What stands where something is left to be mended of some disks.
-use Rattle.std.proofs.Common.{ℕ, zero, suc, ◌≡◌, ◌≢◌, ◌⊎◌, ◌<◌, ◌+◌, inl, inr, Bool, true, false, Option, Some, None, List, [], ◌∷◌, ◌++◌, length, map, Contains, replicate, refl, sym, ap, subst, arith, if◌then◌else◌}
-use Rattle.std.specs.List.{slice_get}
+use Rattle.std.proofs.Common.{ℕ, zero, suc, ◌≡◌, ◌≢◌, ◌⊎◌, ◌+◌, inl, inr, Bool, true, false, Option, List, [], ◌∷◌, ◌++◌, map, Contains, refl, sym, ap, subst, arith, if◌then◌else◌}
 use Rattle.std.proofs.lemmas.List.Elements.{Contains-append_cases, Contains-append_right}
 use Rattle.block_store.specs.Store.{Store, is_out, is_stale, lost, missed, outs, outs_from, stale_from}
 use Rattle.disk_set.specs.Outs.{is_in}
@@ -100,7 +99,7 @@ stale_is_lost store birth disk is =
 -- ---- what stands
 
 -- of these disks, each column of the bytes that is on one which isn't out, and didn't miss their group
-pub StandOnLeft : Content → Store → List ℕ → ℕ → Extent → List ℕ → Type 0
+abbrev pub StandOnLeft : Content → Store → List ℕ → ℕ → Extent → List ℕ → Type 0
 StandOnLeft content store left birth extent bytes =
     (disk at : ℕ) (part : List ℕ) (layout : List Column) (columns : ColumnsOf) → IsLayout extent layout → AreBytesOf extent bytes layout columns
     → IsColumnIn extent layout (all_columns columns) disk at part → Contains left disk → is_out store.out disk ≡ false
@@ -111,7 +110,6 @@ pub stands_on_left : (content : Content) (store : Store) (left : List ℕ) (birt
     → ((disk : ℕ) → is_out store.out disk ≡ true → Contains (lost store birth) disk) → ((disk : ℕ) → Contains (outs store) disk → Contains (lost store birth) disk)
     → ExtentStands content (outs store ++ left) extent bytes → StandOnLeft content store left birth extent bytes
     → ExtentStands content (lost store birth) extent bytes
-unfolding StandOnLeft
 stands_on_left content store left birth extent bytes marked out stands on_left = record {
   layout = stands.layout;
   columns = stands.columns;

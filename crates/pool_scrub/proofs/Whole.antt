@@ -9,13 +9,11 @@ use Rattle.std.proofs.lemmas.List.Elements.{Contains-append_left}
 use Rattle.std.proofs.lemmas.Option.{slice_get_within}
 use Rattle.model_disk.specs.Joint.{JointCall, Disks, content, AreHonestSince}
 use Rattle.block_pointer.specs.declared.block.Block.{Block}
-use Rattle.block_pointer.specs.declared.dva.Dva.{Dva}
 use Rattle.block_pointer.specs.Copies.{dvas}
-use Rattle.block_store.specs.Blocks.{Contents}
 use Rattle.block_store.specs.Places.{ArePlacesIn, IsCopy, IsPlaceIn, shapes_of}
 use Rattle.block_store.specs.Shapes.{vdev_sectors, metaslab_sectors}
 use Rattle.block_store.specs.Spaces.{VdevSpace}
-use Rattle.block_store.specs.Store.{Store, Holds, is_out, is_stale, lost, missed, outs, outs_from}
+use Rattle.block_store.specs.Store.{Store, is_out, is_stale, lost, missed, outs, outs_from}
 use Rattle.block_store.specs.declared.shape.VdevShape.{VdevShape}
 use Rattle.disk_set.specs.Outs.{is_in}
 use Rattle.disk_set.specs.declared.stale.GroupSpan.{GroupSpan}
@@ -25,12 +23,10 @@ use Rattle.raidz_io.specs.declared.vdev.Extent.{Extent}
 use Rattle.raidz_io.specs.Places.{Content}
 use Rattle.raidz_io.specs.Reads.{IsHonestSince, OnlyReads}
 use Rattle.raidz_io.specs.Stands.{ExtentStands}
-use Rattle.stale_disks.specs.Rules.{AreSpansWithout, IsOfDisk, groups_of, stale_groups}
+use Rattle.stale_disks.specs.Rules.{AreSpansWithout, groups_of, stale_groups}
 use Rattle.scrub_resilver.specs.Checking.{AreChecked}
 use Rattle.scrub_resilver.specs.Copies.{IsCopyOn}
 use Rattle.scrub_resilver.specs.declared.fault.Finding.{Finding}
-use Rattle.pool_open.specs.Held.{IsStoreOver}
-use Rattle.pool_scrub.specs.Counting.{AreWhole}
 use Rattle.pool_scrub.specs.Healing.{IsHealed}
 use Rattle.pool_scrub.specs.declared.healing.Healed.{Healed}
 

@@ -1,4 +1,4 @@
-use Rattle.std.proofs.Common.{◌≡◌, ◌≤◌, ◌^◌, List, Option, length, refl, ap, ◌∙◌, arith}
+use Rattle.std.proofs.Common.{◌≡◌, ◌≤◌, ◌^◌, List, Option, length, ap, ◌∙◌, arith}
 use Rattle.disk_set.specs.declared.stale.GroupSpan.{GroupSpan}
 use Rattle.model_disk.specs.Joint.{Disks}
 use Rattle.block_store.specs.Store.{Store}
