@@ -3,44 +3,90 @@ ghost use Rattle.std.specs.Prelude.{◌≡◌, ◌<◌, ◌^◌, All, length, If
 ghost use Rattle.dnode.specs.Node.{FitsNode};
 ghost use Rattle.dnode_tree.specs.Writes.{AreInOrder};
 
-use crate::stores::{Store, new_store, store_plan};
+use crate::lines::{Bench, Call, wrong_lines};
+use crate::stores::{COPIES, Store, block_text, blocks_text, new_store, store_plan};
 use block_pointer::{Block, BlockPtr};
-use block_store::CopyCount;
-use dnode::ObjectNode;
+use dnode::{Dnode, ObjectNode};
 use dnode_tree::{
-    BlockWrite, CopyCounts, Refusal, Rewrite, free_blocks, get, put_many, walk, walk_within,
+    BlockWrite, Refusal, Rewrite, free_blocks, get, put_many, walk, walk_within, walk_younger,
 };
 use std::alloc::{AllocError, Global};
 use std::test::Fail;
 
+/// Object 0 has one place for a block of 512 bytes, which is a hole. `put` has an object and a group, the first id that the group
+/// writes, how far each is behind the one before, and how many there are: it makes the next object, by number, of that one. Its
+/// highest id and levels are told, and how many blocks gave way. `reads` has an object: whether it reads as a plain array that is
+/// written alike, each block, and each fifth with any one disk missing. `without` has the disks that are missing for `get`, which
+/// has an object and ids. `walk` has an object, `within` an object and how many blocks may be read, `younger` besides a group
+/// since which blocks are sought, and `freed` the object before and the one after: which blocks only the first has.
+const TREES: &[(&str, &str)] = &[
+    // Thousands of blocks read as a plain array. The last write's are 500 blocks, the 28 indirect blocks above them and the root,
+    // each once.
+    (
+        "put 0 1 0 1 1; reads 1; put 1 2 0 3 40; reads 2; put 2 3 1 1 4000; reads 3;
+            put 3 4 5 7 500; reads 4; freed 4 3",
+        "to 0, levels 1, 0 gave way; as the array: true; to 117, levels 2, 1 gave way; as the array: true;
+            to 4000, levels 3, 40 gave way; as the array: true;
+            to 4000, levels 3, 529 gave way; as the array: true; 529 blocks since 4",
+    ),
+    // An object grows and reads as it was written: a root, and below it for each of the two blocks two indirect blocks and the
+    // block itself. A walk reads as many of the five blocks above the data as it may.
+    (
+        "put 0 1 0 20000 2; get 1 0 20000 1 20001; walk 1; within 1 9; within 1 5; within 1 4",
+        "to 20000, levels 4, 0 gave way; 1*512 239*512 hole hole; 7 blocks since 1;
+            the same 7 blocks since 1, 4 left; the same 7 blocks since 1, 0 left; BadPointer, 0 left",
+    ),
+    // The object before stays: the block 129, the two indirect blocks above the blocks written, and the root gave way.
+    (
+        "put 0 1 1 128 2; put 1 2 2 127 2; freed 1 2; get 1 129; without 1; get 1 129; without; get 2 129 1",
+        "to 129, levels 3, 0 gave way; to 129, levels 3, 4 gave way; the same 4 blocks since 1;
+            130*512; so; 130*512; so; 131*512 2*512",
+    ),
+    // What is younger than a group is found by reading nothing else. Of all, a root, and below it for each of the two blocks an
+    // indirect block and the block itself. Of group 6, the root, the indirect block above 200, and 200.
+    (
+        "put 0 5 0 200 2; put 1 6 200 1 1; walk 2; younger 2 20 4; freed 2 1; younger 2 20 5; younger 2 20 6",
+        "to 200, levels 3, 0 gave way; to 200, levels 3, 3 gave way; 5 blocks since 5;
+            the same 5 blocks since 5, 17 left; 3 blocks since 6;
+            the same 3 blocks since 6, 18 left; 0 blocks since 0, 20 left",
+    ),
+];
+
 /// One past the greatest id of a block.
 const MAX_BLOCKS: u64 = 1 << 35;
 
-const COPIES: CopyCounts = CopyCounts {
-    data: CopyCount::One,
-    indirect: CopyCount::Two,
-};
+/// How many blocks are compared with the plain array.
+const ARRAY_BLOCKS: usize = 4_001;
 
 /// An object with one place for a block of 512 bytes, which is a hole.
-pub(crate) const ONE_PLACE: ObjectNode = ObjectNode {
+const ONE_PLACE: ObjectNode = ObjectNode {
     object_type: 23,
     data_sectors: 1,
     highest: 0,
     pointer: BlockPtr::Hole,
 };
 
-/// What stands for a hole where a byte is told.
-const HOLE: usize = 256;
+/// An object by the group that made it and the bytes of its dnode.
+#[derive(Clone, Copy)]
+struct KeptNode {
+    group: u64,
+    bytes: [u8; 512],
+}
 
-/// What all bytes of a block are that a group writes.
-fn value(id: u64, birth: u64) -> u8 {
-    (id % 241) as u8 + (birth % 15) as u8
+#[derive(Drop)]
+struct Trees {
+    store: Store,
+    kept: Vec<KeptNode>,
+    /// What all bytes of each of the first blocks are, once they are written.
+    array: Vec<Option<u8>>,
+    found: Vec<Block>,
+    missing: Vec<usize>,
 }
 
 /// Blocks by the first id, how far each is behind the one before, and their number.
-pub(crate) type Places = (u64, u64, u64);
+type Places = (u64, u64, u64);
 
-/// The blocks that a group writes at these places.
+/// The blocks that a group writes at these places: each has bytes of one value, by its id and the group.
 fn blocks_at(alloc: Global, places: Places, birth: u64) -> Result<Vec<BlockWrite>, AllocError>
     ensures ids { IfOk result (λ writes. All (λ write. write.id < 128 ^ 5) writes.items) }
     ensures order { IfOk result (λ writes. AreInOrder writes.items) }
@@ -55,15 +101,30 @@ fn blocks_at(alloc: Global, places: Places, birth: u64) -> Result<Vec<BlockWrite
         if id >= MAX_BLOCKS {
             break;
         }
-        let bytes = vec![in alloc; value(id, birth); 512]?;
+        let value = (id % 241) as u8 + (birth % 15) as u8;
+        let bytes = vec![in alloc; value; 512]?;
         writes.push(BlockWrite { id, bytes })?;
         id += step;
     }
     Ok(writes)
 }
 
+/// An object and the group that made it.
+fn node_at(kept: &[KeptNode], number: u64) -> Result<(ObjectNode, u64), Fail>
+    ensures fits { IfOk result (λ found. FitsNode found.0) }
+    ensures sectors { IfOk result (λ found. found.0.data_sectors ≡ 1) }
+{
+    if let Some(it) = kept.get(number as usize)
+        && let Ok(Dnode::Object(node)) = Dnode::decode(&it.bytes)
+        && node.data_sectors == 1
+    {
+        return Ok((node, it.group));
+    }
+    Err(Fail::new("no such object"))
+}
+
 /// The object with these blocks, once they are stored.
-fn put_writes(
+fn written(
     node: &ObjectNode,
     store: &mut Store,
     alloc: Global,
@@ -77,7 +138,6 @@ fn put_writes(
     requires whole { All (λ write. length write.bytes.items ≡ 512) writes.now }
     requires born { 0 < birth }
     ensures node { IfOk result (λ done. FitsNode done.node) }
-    ensures sectors { IfOk result (λ done. done.node.data_sectors ≡ 1) }
 {
     store.drop_plan(birth);
     let done = put_many(node, store, alloc, writes, birth, COPIES, &[])?;
@@ -85,310 +145,145 @@ fn put_writes(
     Ok(done)
 }
 
-/// The object with the blocks that a group writes at these places, once they are stored.
-pub(crate) fn put(
-    node: &ObjectNode,
-    store: &mut Store,
-    alloc: Global,
-    places: Places,
-    birth: u64,
-) -> Result<Rewrite, Refusal>
-    requires node { FitsNode node.now }
-    requires sectors { node.now.data_sectors ≡ 1 }
-    requires born { 0 < birth }
-    ensures node { IfOk result (λ done. FitsNode done.node) }
-    ensures sectors { IfOk result (λ done. done.node.data_sectors ≡ 1) }
-{
-    let writes = blocks_at(alloc, places, birth)?;
-    put_writes(node, store, alloc, &writes, birth)
-}
-
-/// What all bytes of a block are, `HOLE` where there is none, and more where they differ or are not 512.
-fn byte_of(block: Option<&[u8]>) -> usize {
-    match block {
-        None => HOLE,
-        Some([first, rest @ ..]) if rest.len() == 511 && rest.iter().all(|byte| byte == first) => {
-            usize::from(*first)
-        }
-        Some(_) => HOLE + 1,
-    }
-}
-
-fn byte_at(
-    node: &ObjectNode,
-    store: &mut Store,
-    alloc: Global,
-    id: u64,
-    birth: u64,
-    missing: &[usize],
-) -> Result<usize, Refusal>
-    requires { node.now.highest < 128 ^ 5 }
-{
-    let block = get(node, store, alloc, id, birth, missing)?;
-    Ok(byte_of(block.as_deref()))
-}
-
-fn walked(node: &ObjectNode, store: &mut Store, alloc: Global, birth: u64) -> Result<usize, Refusal>
-    requires { node.now.highest < 128 ^ 5 }
-{
-    let blocks = walk(node, store, alloc, birth, &[])?;
-    Ok(blocks.len())
-}
-
-/// The blocks that only the object before has are those that the write named.
-fn are_freed(
-    before: &ObjectNode,
-    after: &ObjectNode,
-    store: &mut Store,
-    alloc: Global,
-    birth: u64,
-    replaced: &[Block],
-) -> Result<bool, Refusal>
-    requires before { before.now.highest < 128 ^ 5 }
-    requires after { after.now.highest < 128 ^ 5 }
-{
-    let freed = free_blocks(before, after, store, alloc, birth, &[])?;
-    Ok(freed.as_slice() == replaced)
-}
-
-/// How many blocks only the object before has.
-fn freed(
-    before: &ObjectNode,
-    after: &ObjectNode,
-    store: &mut Store,
-    alloc: Global,
-    birth: u64,
-) -> Result<usize, Refusal>
-    requires before { before.now.highest < 128 ^ 5 }
-    requires after { after.now.highest < 128 ^ 5 }
-{
-    let freed = free_blocks(before, after, store, alloc, birth, &[])?;
-    Ok(freed.len())
-}
-
-/// The object after a write, and how many blocks gave way.
-#[derive(Clone, Copy)]
-struct Grown {
-    node: ObjectNode,
-    replaced: usize,
-    /// Whether it reads as what was written, with any one disk missing and with none.
-    reads: bool,
-}
-
-/// Notes for each block the group that wrote it last.
-fn mark(births: &mut [u64], places: Places, birth: u64) {
-    let (first, step, count) = places;
-    for (id, born) in births.iter_mut().enumerate() {
-        let id = id as u64;
-        if step > 0 && id >= first && (id - first) % step == 0 && (id - first) / step < count {
-            *born = birth;
-        }
-    }
-}
-
-/// Whether the object reads as what was written: each block, or with a disk missing one of five.
+/// Whether the object reads as the array, with no disk missing and with any one of them, where one of five blocks is read.
 fn reads_as(
     node: &ObjectNode,
     store: &mut Store,
     alloc: Global,
-    births: &[u64],
+    array: &[Option<u8>],
     birth: u64,
-    missing: &[usize],
 ) -> Result<bool, Refusal>
-    requires { node.now.highest < 128 ^ 5 }
+    requires { FitsNode node.now }
 {
-    let mut same = true;
-    for (id, born) in births.iter().enumerate() {
-        let id = id as u64;
-        if missing.is_empty() || id % 5 == 0 {
-            let byte = byte_at(node, store, alloc, id, birth, missing)?;
-            let wanted = if *born == 0 {
-                HOLE
-            } else {
-                usize::from(value(id, *born))
-            };
-            same = same && byte == wanted;
+    for missing in [[].as_slice(), &[0], &[1], &[2]] {
+        for (id, value) in array.iter().enumerate() {
+            if missing.is_empty() || id % 5 == 0 {
+                let block = get(node, store, alloc, id as u64, birth, missing)?;
+                let same = match (block.as_deref(), value) {
+                    (None, None) => true,
+                    (Some(bytes), Some(value)) => {
+                        bytes.len() == 512 && bytes.iter().all(|byte| byte == value)
+                    }
+                    _ => false,
+                };
+                if !same {
+                    return Ok(false);
+                }
+            }
         }
     }
-    Ok(same)
+    Ok(true)
 }
 
-fn reads_always(
+/// What blocks of an object are.
+fn blocks_of(
     node: &ObjectNode,
     store: &mut Store,
     alloc: Global,
-    births: &[u64],
+    ids: &[usize],
     birth: u64,
-) -> Result<bool, Refusal>
-    requires { node.now.highest < 128 ^ 5 }
+    missing: &[usize],
+) -> Result<String, Fail>
+    requires { FitsNode node.now }
 {
-    let mut same = true;
-    for missing in [[].as_slice(), &[0], &[1], &[2]] {
-        same = same && reads_as(node, store, alloc, births, birth, missing)?;
+    let mut text = String::new(alloc);
+    for id in ids {
+        let block = get(node, store, alloc, *id as u64, birth, missing);
+        text.push_str(block_text(alloc, &block)?.as_str())?;
+        text.push_str(" ")?;
     }
-    Ok(same)
+    Ok(text)
 }
 
-/// Puts blocks, and reads the whole object.
-fn grow(
-    node: &ObjectNode,
-    store: &mut Store,
-    alloc: Global,
-    places: Places,
-    birth: u64,
-    births: &mut [u64],
-) -> Result<Grown, Refusal>
-    requires node { FitsNode node.now }
-    requires sectors { node.now.data_sectors ≡ 1 }
-    requires born { 0 < birth }
-    ensures node { IfOk result (λ grown. FitsNode grown.node) }
-    ensures sectors { IfOk result (λ grown. grown.node.data_sectors ≡ 1) }
-{
-    let Rewrite { node, replaced } = put(node, store, alloc, places, birth)?;
-    let replaced = replaced.len();
-    mark(births, places, birth);
-    let reads = reads_always(&node, store, alloc, births, birth)?;
-    Ok(Grown {
-        node,
-        replaced,
-        reads,
-    })
+impl Trees {
+    /// Puts blocks, in the array too.
+    fn put(&mut self, alloc: Global, call: &Call, node: &ObjectNode) -> Result<String, Fail>
+        requires node { FitsNode node.now }
+        requires sectors { node.now.data_sectors ≡ 1 }
+    {
+        let group = call.number(1).max(1);
+        let places = (call.number(2), call.number(3), call.number(4));
+        let writes = blocks_at(alloc, places, group)?;
+        for write in &writes {
+            if let Some(value) = self.array.get_mut(write.id as usize) {
+                *value = write.bytes.first().copied();
+            }
+        }
+        let Rewrite { node, replaced } = written(node, &mut self.store, alloc, &writes, group)?;
+        let bytes = Dnode::Object(node).encode();
+        self.kept.push(KeptNode { group, bytes })?;
+        self.found = replaced;
+        let (highest, levels, gone) = (node.highest, node.levels(), self.found.len());
+        Ok(format!(in alloc; "to {highest}, levels {levels}, {gone} gave way")?)
+    }
+
+    /// The blocks that are found of an object, which a group made.
+    fn found(
+        &mut self,
+        alloc: Global,
+        call: &Call,
+        node: &ObjectNode,
+        group: u64,
+    ) -> Result<String, Fail>
+        requires { FitsNode node.now }
+    {
+        let mut left = call.number(1);
+        let store = &mut self.store;
+        let blocks = match call.name {
+            "freed" => {
+                let (other, later) = node_at(&self.kept, left)?;
+                free_blocks(node, &other, store, alloc, group.max(later), &[])
+            }
+            "within" => walk_within(node, store, alloc, group, &mut left, &[]),
+            "younger" => walk_younger(node, store, alloc, group, call.number(2), &mut left, &[]),
+            _ => walk(node, store, alloc, group, &[]),
+        };
+        blocks_text(alloc, call, blocks, left, &mut self.found)
+    }
 }
 
-/// Of four writes: whether each reads rightly; the levels after each; how many blocks the last replaced and added.
-fn grow_four(
-    store: &mut Store,
-    alloc: Global,
-    births: &mut [u64],
-) -> Result<([bool; 4], [u8; 4], [usize; 2]), Refusal> {
-    let one = grow(&ONE_PLACE, store, alloc, (0, 1, 1), 1, births)?;
-    let two = grow(&one.node, store, alloc, (0, 3, 40), 2, births)?;
-    let three = grow(&two.node, store, alloc, (1, 1, 4_000), 3, births)?;
-    let four = grow(&three.node, store, alloc, (5, 7, 500), 4, births)?;
-    let added = freed(&four.node, &three.node, store, alloc, 4)?;
-    Ok((
-        [one.reads, two.reads, three.reads, four.reads],
-        [
-            one.node.levels(),
-            two.node.levels(),
-            three.node.levels(),
-            four.node.levels(),
-        ],
-        [four.replaced, added],
-    ))
-}
+impl Bench for Trees {
+    fn new(alloc: Global) -> Result<Trees, Fail> {
+        let mut kept = Vec::new(alloc);
+        let bytes = Dnode::Object(ONE_PLACE).encode();
+        kept.push(KeptNode { group: 0, bytes })?;
+        let array = vec![in alloc; None; ARRAY_BLOCKS]?;
+        let (found, missing) = (Vec::new(alloc), Vec::new(alloc));
+        let store = new_store(alloc, 0x100_0000)?;
+        Ok(Trees {
+            store,
+            kept,
+            array,
+            found,
+            missing,
+        })
+    }
 
-fn grow_four_in_memory(
-    alloc: Global,
-) -> Result<Result<([bool; 4], [u8; 4], [usize; 2]), Refusal>, Fail> {
-    let mut births = vec![in alloc; 0; 4_001]?;
-    let mut store = new_store(alloc)?;
-    Ok(grow_four(&mut store, alloc, &mut births))
-}
-
-#[test]
-fn thousands_of_blocks_read_as_a_plain_array(rt: HostRuntime) -> Result<(), Fail> {
-    // 500 blocks, the 28 indirect blocks above them and the root, each once.
-    let wanted = ([true; 4], [1, 2, 3, 3], [529, 529]);
-    assert!(rt; grow_four_in_memory(rt.alloc())? == Ok(wanted));
-    Ok(())
-}
-
-/// Of an object with the blocks 0 and 20,000: its highest id, levels, replaced blocks, bytes, and how many blocks it has.
-fn far_apart(store: &mut Store, alloc: Global) -> Result<([usize; 3], [usize; 4], usize), Refusal> {
-    let Rewrite { node, replaced } = put(&ONE_PLACE, store, alloc, (0, 20_000, 2), 1)?;
-    let replaced = replaced.len();
-    let bytes = [
-        byte_at(&node, store, alloc, 0, 1, &[])?,
-        byte_at(&node, store, alloc, 20_000, 1, &[])?,
-        byte_at(&node, store, alloc, 1, 1, &[])?,
-        byte_at(&node, store, alloc, 20_001, 1, &[])?,
-    ];
-    let walked = walked(&node, store, alloc, 1)?;
-    Ok((
-        [node.highest as usize, usize::from(node.levels()), replaced],
-        bytes,
-        walked,
-    ))
-}
-
-fn far_apart_in_memory(
-    alloc: Global,
-) -> Result<Result<([usize; 3], [usize; 4], usize), Refusal>, Fail> {
-    let mut store = new_store(alloc)?;
-    Ok(far_apart(&mut store, alloc))
+    fn answer(&mut self, alloc: Global, call: &Call) -> Result<String, Fail> {
+        if call.name == "without" {
+            self.missing = call.numbers.clone()?;
+            return Ok(format!(in alloc; "so")?);
+        }
+        let (node, group) = node_at(&self.kept, call.number(0))?;
+        match call.name {
+            "put" => self.put(alloc, call, &node),
+            "reads" => {
+                let same = reads_as(&node, &mut self.store, alloc, &self.array, group)?;
+                Ok(format!(in alloc; "as the array: {same}")?)
+            }
+            "get" => {
+                let ids = call.numbers.get(1..).unwrap_or(&[]);
+                blocks_of(&node, &mut self.store, alloc, ids, group, &self.missing)
+            }
+            "freed" | "walk" | "within" | "younger" => self.found(alloc, call, &node, group),
+            _ => Err(Fail::new(format_args!("no call {}", call.name))),
+        }
+    }
 }
 
 #[test]
-fn an_object_grows_and_reads_as_it_was_written(rt: HostRuntime) -> Result<(), Fail> {
-    // A root, and below it for each of the two blocks two indirect blocks and the block itself.
-    let wanted = ([20_000, 4, 0], [1, 239, HOLE, HOLE], 7);
-    assert!(rt; far_apart_in_memory(rt.alloc())? == Ok(wanted));
-    Ok(())
-}
-
-/// How many blocks a walk finds that may read so many, if it is not refused, and how many it may still read.
-fn within(node: &ObjectNode, store: &mut Store, alloc: Global, reads: u64) -> (Option<usize>, u64)
-    requires { node.now.highest < 128 ^ 5 }
-{
-    let mut left = reads;
-    let found = match walk_within(node, store, alloc, 1, &mut left, &[]) {
-        Ok(blocks) => Some(blocks.len()),
-        Err(_) => None,
-    };
-    (found, left)
-}
-
-/// Walks over an object with five indirect blocks and two of data, that may read more, as many, and fewer.
-fn walks_within(store: &mut Store, alloc: Global) -> Result<[(Option<usize>, u64); 3], Refusal> {
-    let node = put(&ONE_PLACE, store, alloc, (0, 20_000, 2), 1)?.node;
-    Ok([
-        within(&node, store, alloc, 9),
-        within(&node, store, alloc, 5),
-        within(&node, store, alloc, 4),
-    ])
-}
-
-fn walks_within_in_memory(
-    alloc: Global,
-) -> Result<Result<[(Option<usize>, u64); 3], Refusal>, Fail> {
-    let mut store = new_store(alloc)?;
-    Ok(walks_within(&mut store, alloc))
-}
-
-#[test]
-fn a_walk_reads_as_many_blocks_as_it_may(rt: HostRuntime) -> Result<(), Fail> {
-    let wanted = [(Some(7), 4), (Some(7), 0), (None, 0)];
-    assert!(rt; walks_within_in_memory(rt.alloc())? == Ok(wanted));
-    Ok(())
-}
-
-/// Of an object that is written twice: how many blocks gave way, whether those are what only it had before, and bytes:
-/// of the block 129 before, with a disk missing and not, and after, and of the block 1 after.
-fn twice(store: &mut Store, alloc: Global) -> Result<(usize, bool, [usize; 4]), Refusal> {
-    let one = put(&ONE_PLACE, store, alloc, (1, 128, 2), 1)?.node;
-    let two = put(&one, store, alloc, (2, 127, 2), 2)?;
-    let node = two.node;
-    let same = are_freed(&one, &node, store, alloc, 2, &two.replaced)?;
-    let replaced = two.replaced.len();
-    let bytes = [
-        byte_at(&one, store, alloc, 129, 1, &[])?,
-        byte_at(&one, store, alloc, 129, 1, &[1])?,
-        byte_at(&node, store, alloc, 129, 2, &[])?,
-        byte_at(&node, store, alloc, 1, 2, &[])?,
-    ];
-    Ok((replaced, same, bytes))
-}
-
-fn twice_in_memory(alloc: Global) -> Result<Result<(usize, bool, [usize; 4]), Refusal>, Fail> {
-    let mut store = new_store(alloc)?;
-    Ok(twice(&mut store, alloc))
-}
-
-#[test]
-fn the_object_before_stays(rt: HostRuntime) -> Result<(), Fail> {
-    // The block 129, the two indirect blocks above the blocks written, and the root gave way.
-    let wanted = (4, true, [130, 130, 131, 2]);
-    assert!(rt; twice_in_memory(rt.alloc())? == Ok(wanted));
+fn objects_are_plain_arrays(rt: HostRuntime) -> Result<(), Fail> {
+    let wrong = wrong_lines::<Trees, HostRuntime>(&rt, rt.alloc(), TREES)?;
+    assert!(rt; wrong.is_empty(), "{wrong}");
     Ok(())
 }
