@@ -11,11 +11,10 @@ pub pushed : (writes : List NodeWrite) (next : ℕ) (write : NodeWrite) → next
     → All (λ it. it.number < write.number + 1) (writes ++ write ∷ []) × AreNodeWrites (writes ++ write ∷ [])
 pushed writes next write low fits below good =
     let before : All (λ it. it.number < write.number) writes = λ k d within. (let one = below k d within in omega (arith, one, low)) in
-    let until : All (λ it. it.number < write.number + 1) writes = λ k d within. (let one = before k d within in omega (arith, one)) in
-    (
+    let until : All (λ it. it.number < write.number + 1) writes = λ k d within. (let one = before k d within in omega (arith, one)) in (
       All-push (λ it. it.number < write.number + 1) writes write until (omega arith),
       record {
         order = all_pairs_push (λ it later. it.number < later.number) writes write good.order (λ k d within. before k d within);
-        each = All-push FitsWrite writes write good.each fits
+        each = All-push FitsWrite writes write good.each fits;
       },
     )

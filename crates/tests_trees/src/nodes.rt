@@ -141,10 +141,9 @@ pub(crate) fn dnodes_text(
         let found = get_node(set, store, alloc, *number as u64, birth, missing);
         let word = match found.map(|found| found.dnode) {
             Ok(Dnode::Free) => format!(in alloc; "free ")?,
-            Ok(Dnode::Object(node)) 
-                if node.object_type == 23 && node.highest == 9 && node.pointer == BlockPtr::Hole => {
-                format!(in alloc; "{} ", node.data_sectors)?
-            }
+            Ok(Dnode::Object(node))
+                if node.object_type == 23 && node.highest == 9 && node.pointer == BlockPtr::Hole =>
+                { format!(in alloc; "{} ", node.data_sectors)? }
             Ok(_) => format!(in alloc; "other ")?,
             Err(refusal) => format!(in alloc; "{refusal:?} ")?,
         };

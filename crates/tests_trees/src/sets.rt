@@ -10,9 +10,7 @@ use crate::stores::{Store, blocks_text, new_store, store_plan};
 use block_pointer::Block;
 use dnode::{ObjectSet, ObjectSetKind};
 use dnode_tree::free_blocks;
-use objset::{
-    Refusal, SetCopies, SetRewrite, plan_set, read_set, walk, walk_within, walk_younger,
-};
+use objset::{Refusal, SetCopies, SetRewrite, plan_set, read_set, walk, walk_within, walk_younger};
 use std::alloc::Global;
 use std::test::Fail;
 

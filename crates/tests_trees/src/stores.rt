@@ -86,11 +86,7 @@ pub(crate) fn blocks_text(
 ) -> Result<String, Fail> {
     let mut text = match blocks {
         Ok(blocks) => {
-            let same = if blocks == *found {
-                "the same "
-            } else {
-                ""
-            };
+            let same = if blocks == *found { "the same " } else { "" };
             let count = blocks.len();
             let first = blocks.iter().map(|block| block.birth).min().unwrap_or(0);
             *found = blocks;

@@ -9,11 +9,11 @@ loop-pair-preserved c =
     let write : NodeWrite = record { number = slice_index_or c.in-Some.pair.now 0 0; node = c.dnode_of-node.result } in
     let (some, below, good) = c.loop-pair.invariant in
     let fits : FitsWrite write =
-      record {
-        some = omega (arith, some, c.if-number-next.false);
-        number = omega (arith, c.if-number-ge-NUMBERS_END.false);
-        node = c.dnode_of-node.ensures
-      } in
+    record {
+      some = omega (arith, some, c.if-number-next.false);
+      number = omega (arith, c.if-number-ge-NUMBERS_END.false);
+      node = c.dnode_of-node.ensures;
+    } in
     let both = pushed c.loop-pair.writes.items c.loop-pair.next write (omega (arith, c.if-number-next.false)) fits below good in
     subst (λ (items : List NodeWrite). (0 < write.number + 1) × All (λ it. it.number < write.number + 1) items × AreNodeWrites items)
     (sym c.in_ok-push.ensures.items)
