@@ -5,7 +5,7 @@ use crate::shelf::Shelf;
 use crate::telling::{has_lost, vdevs_of, volume_rows};
 use block_store::sectors_for_blocks;
 use commands::Pools;
-use model_disk::{Fault, Member};
+use model_disk::Member;
 use pool_command::{Files, NewPool, PoolStatus, ScrubReport, VolumeRow};
 use pool_create::{Core, PoolIdentity, create};
 use pool_members::HandedIn;
@@ -35,20 +35,6 @@ pub(crate) struct PoolFront {
 #[derive(Drop)]
 pub(crate) struct MemPools {
     pub(crate) shelf: Shelf,
-}
-
-impl MemPools {
-    /// Over no disk.
-    pub(crate) fn new(alloc: Global) -> Result<MemPools, AllocError> {
-        let shelf = Shelf::new(alloc)?;
-        Ok(MemPools { shelf })
-    }
-
-    /// Over disks that hold the same, of which the first three fail so.
-    pub(crate) fn copied(&self, alloc: Global, faults: [Fault; 3]) -> Result<MemPools, AllocError> {
-        let shelf = self.shelf.copied(alloc, faults)?;
-        Ok(MemPools { shelf })
-    }
 }
 
 /// The guid of that number: 0 is the pool's, 1 the vdev's, and from 2 on they are the disks'.
@@ -242,9 +228,8 @@ impl Pools for MemPools {
             Ok(asked) => asked,
             Err(cause) => return Err(Refusal::Pool(cause)),
         };
-        let before = self.shelf.len();
         let bytes = usize::try_from(pool.bytes).unwrap_or(0);
-        self.shelf.add(alloc, &pool.files, bytes)?;
+        let before = self.shelf.add(alloc, &pool.files, bytes)?;
         let disks = self.shelf.take(alloc, &pool.files)?;
         let (ended, disks) = made(alloc, disks, asked);
         self.shelf.put_back(disks);

@@ -1,6 +1,7 @@
 //! A session: command lines in turn, each with what it is given, and what it prints and answers.
 use crate::lines::run;
 use crate::pools::MemPools;
+use crate::shelf::Shelf;
 use std::alloc::{AllocError, Global};
 use std::test::Fail;
 
@@ -80,7 +81,9 @@ const LIFE: [Case; 24] = [
 
 /// The lines that end otherwise than they should.
 fn wrong_lines(alloc: Global, cases: &[Case]) -> Result<String, AllocError> {
-    let mut pools = MemPools::new(alloc)?;
+    let mut pools = MemPools {
+        shelf: Shelf::new(alloc)?,
+    };
     let mut wrong = String::new(alloc);
     for (line, given, wanted) in cases {
         let came = run(alloc, &mut pools, line, *given)?;

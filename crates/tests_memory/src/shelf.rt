@@ -20,7 +20,7 @@ struct ShelvedDisk {
 #[derive(Drop)]
 pub(crate) struct Shelf {
     disks: Vec<ShelvedDisk>,
-    faults: [Fault; 3],
+    pub(crate) faults: [Fault; 3],
     moments: Moments,
 }
 
@@ -48,11 +48,6 @@ impl Shelf {
         Ok(shelf)
     }
 
-    /// From now on none fails.
-    pub(crate) fn mend(&mut self) {
-        self.faults = [NEVER; 3];
-    }
-
     fn place_of(&self, name: &str) -> Option<usize> {
         self.disks
             .iter()
@@ -67,17 +62,14 @@ impl Shelf {
             .any(|name| self.place_of(name.as_str()).is_some())
     }
 
-    pub(crate) fn len(&self) -> usize {
-        self.disks.len()
-    }
-
-    /// Adds disks of so many zeros.
+    /// Adds disks of so many zeros, and tells how many there were before.
     pub(crate) fn add(
         &mut self,
         alloc: Global,
         names: &Files,
         bytes: usize,
-    ) -> Result<(), AllocError> {
+    ) -> Result<usize, AllocError> {
+        let before = self.disks.len();
         for name in names.as_slice() {
             self.disks.push(ShelvedDisk {
                 name: name.clone()?,
@@ -85,7 +77,7 @@ impl Shelf {
                 calls: Vec::new(alloc),
             })?;
         }
-        Ok(())
+        Ok(before)
     }
 
     /// Keeps so many disks, the oldest.

@@ -2,6 +2,7 @@
 use crate::disks::NEVER;
 use crate::lines::run;
 use crate::pools::MemPools;
+use crate::shelf::Shelf;
 use model_disk::Fault;
 use std::alloc::{AllocError, Global};
 use std::test::Fail;
@@ -45,7 +46,9 @@ const STOPPED: [&str; 4] = [
 
 /// A pool whose volume has a block of `aa`.
 fn written(alloc: Global) -> Result<MemPools, AllocError> {
-    let mut pools = MemPools::new(alloc)?;
+    let mut pools = MemPools {
+        shelf: Shelf::new(alloc)?,
+    };
     let lines = [
         (
             "zpool create --seed 7 --bytes 8388608 tank raidz1 a b c",
@@ -62,7 +65,9 @@ fn written(alloc: Global) -> Result<MemPools, AllocError> {
 
 /// The pool after the command, which met nothing: its calls are known.
 fn recorded(alloc: Global, base: &MemPools, tried: Tried) -> Result<MemPools, AllocError> {
-    let mut pools = base.copied(alloc, [NEVER; 3])?;
+    let mut pools = MemPools {
+        shelf: base.shelf.copied(alloc, [NEVER; 3])?,
+    };
     let _ = run(alloc, &mut pools, tried.0, tried.1)?;
     Ok(pools)
 }
@@ -83,9 +88,11 @@ fn tried_on(
     faults: [Fault; 3],
     next: &str,
 ) -> Result<Came, AllocError> {
-    let mut pools = base.copied(alloc, faults)?;
+    let mut pools = MemPools {
+        shelf: base.shelf.copied(alloc, faults)?,
+    };
     let first = run(alloc, &mut pools, tried.0, tried.1)?;
-    pools.shelf.mend();
+    pools.shelf.faults = [NEVER; 3];
     let next = run(alloc, &mut pools, next, (0, 0))?;
     Ok(Came {
         moment,
@@ -114,17 +121,14 @@ impl Seen {
         }
     }
 
-    fn is_refusal(&self, first: &str) -> bool {
-        self.refused.iter().any(|end| first.ends_with(*end))
-    }
-
     /// The next command shows the new bytes where the tried write was done, and else the old ones or the new ones.
     fn see(&mut self, came: Came) {
-        let next = came.next.as_str();
-        let is_stated = came.first.starts_with("0 ") || self.is_refusal(came.first.as_str());
+        let (first, next) = (came.first.as_str(), came.next.as_str());
+        let is_refused = self.refused.iter().any(|end| first.ends_with(*end));
+        let is_stated = is_refused || first.starts_with("0 ");
         if is_stated && next == NEW {
             self.new = self.new.saturating_add(1);
-        } else if is_stated && next == OLD && came.first.as_str() != DONE {
+        } else if is_stated && next == OLD && first != DONE {
             self.old = self.old.saturating_add(1);
         } else if self.wrong.is_none() {
             self.wrong = Some(came);
