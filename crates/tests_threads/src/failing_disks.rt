@@ -1,8 +1,9 @@
 //! Threads over a pool of which a disk fails in the middle.
 ghost use Rattle.std.specs.Prelude.{◌≡◌, ◌+◌, ◌<◌, ◌≤◌, IfOk};
 
-use crate::rounds::{end_of, ends_behind_a_commit, first_astray, replies_in, rounds};
-use crate::shared_plans::{commit, named, quiesce};
+use crate::made::{VOLUME, name};
+use crate::rounds::{end_of, first_astray, replies_in, rounds};
+use crate::shared_plans::{commit, quiesce};
 use block_store::VdevConfig;
 use line_steps::first_step;
 use model_disk::{Fault, FaultDisk, MemDisk};
@@ -52,6 +53,7 @@ impl PoolSteps for Failing {
 
 /// A pool of three disks with one parity, of which the second has this fault; and a volume of 16 blocks of 512 bytes.
 fn pool(alloc: Global, second: Fault) -> Result<Failing, Fail> {
+    let volume = name(alloc, VOLUME)?;
     let mut disks = Vec::new(alloc);
     for fault in [Fault::At(u64::MAX), second, Fault::At(u64::MAX)] {
         disks.push(FaultDisk::new(MemDisk::new(alloc, 0x80_0000)?, fault))?;
@@ -66,7 +68,7 @@ fn pool(alloc: Global, second: Fault) -> Result<Failing, Fail> {
         writer: 1,
         number: 1,
         change: Change::Create {
-            name: named(alloc)?,
+            name: volume,
             size: 8192,
             block_size: 512,
         },
@@ -172,7 +174,9 @@ fn replayed<R: Threads + Wait + Abort + Sync>(
     let lines = rounds(alloc, turns)?;
     let text = shared_text(rt, alloc, threads, second, lines.as_str())?;
     let end = end_of(alloc, turns)?;
-    assert!(rt; ends_behind_a_commit(text.as_str(), end.as_str()), "{text}");
+    let front = text.as_str().strip_suffix(end.as_str()).unwrap_or("");
+    let (_, last) = front.rsplit_once('\n').unwrap_or(("", ""));
+    assert!(rt; last.starts_with("# committed "), "{text}");
     let astray = first_astray(alloc, lines.as_str(), text.as_str())?;
     assert_eq!(rt; astray, None);
     let mut again = pool(alloc, second)?;

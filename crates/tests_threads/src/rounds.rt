@@ -16,19 +16,10 @@ threads
 /// How often a writer asks for a hold that it gets once.
 const HOLDS: u32 = 8;
 
-fn push_holds(alloc: Global, text: &mut String, writer: u64) -> Result<(), AllocError> {
-    let line = format!(in alloc; "hold {writer}\n")?;
-    for _ in 0..HOLDS {
-        text.push_str(line.as_str())?;
-    }
-    Ok(())
-}
-
-/// The lines of one writer's turn: a write, or a snapshot.
+/// The lines of one writer's turn: holds, and then a write or a snapshot.
 fn push_turn(alloc: Global, text: &mut String, writer: u64, round: u64) -> Result<(), AllocError>
     requires { (writer < 100) × (round < 100000) }
 {
-    push_holds(alloc, text, writer)?;
     let line = if writer == 16 {
         format!(in alloc; "snapshot 16 {round} v s{round}\nrelease 16\n")?
     } else {
@@ -37,6 +28,10 @@ fn push_turn(alloc: Global, text: &mut String, writer: u64, round: u64) -> Resul
         let byte = round % 90 + 10;
         format!(in alloc; "write {writer} {number} v {offset} 512 {byte}\nrelease {writer}\n")?
     };
+    let hold = format!(in alloc; "hold {writer}\n")?;
+    for _ in 0..HOLDS {
+        text.push_str(hold.as_str())?;
+    }
     text.push_str(line.as_str())
 }
 
@@ -63,17 +58,6 @@ pub(crate) fn end_of(alloc: Global, rounds: u64) -> Result<String, AllocError> {
     format!(in alloc; "\nread v 512 512\n# {byte}x512\nread v@s1 0 0\n# empty\n")
 }
 
-/// Whether a record ends so, behind a commit.
-pub(crate) fn ends_behind_a_commit(record: &str, end: &str) -> bool {
-    let Some(front) = record.strip_suffix(end) else {
-        return false;
-    };
-    match front.rsplit_once('\n') {
-        Some((_, last)) => last.starts_with("# committed "),
-        None => false,
-    }
-}
-
 /// How many replies stand in a schedule as comments.
 pub(crate) fn replies_in(text: &str) -> u64 {
     let mut count = 0u64;
@@ -85,20 +69,18 @@ pub(crate) fn replies_in(text: &str) -> u64 {
     count
 }
 
-/// The second word of a line.
-fn second_word(line: &str) -> Option<&str> {
-    let (_, rest) = line.split_once(' ')?;
-    match rest.split_once(' ') {
-        Some((word, _)) => Some(word),
-        None => Some(rest),
-    }
-}
-
-/// The lines of one writer, whose number this word is.
+/// The lines of one writer, whose number this word is: the second of each.
 fn lines_by(alloc: Global, text: &str, writer: &str) -> Result<String, AllocError> {
     let mut own = String::new(alloc);
     for line in text.lines() {
-        if second_word(line) == Some(writer) {
+        let Some((_, rest)) = line.split_once(' ') else {
+            continue;
+        };
+        let word = match rest.split_once(' ') {
+            Some((word, _)) => word,
+            None => rest,
+        };
+        if word == writer {
             own.push_str(line)?;
             own.push_str("\n")?;
         }

@@ -4,7 +4,7 @@ ghost use Rattle.std.specs.Prelude.{◌<◌, ◌≤◌};
 use crate::rounds::{FRONT, end_of, replies_in, rounds};
 use programs::{Alone, PoolOnDisks, Workers, schedule};
 use shared_pool::ROOM;
-use std::alloc::{AllocError, Global};
+use std::alloc::Global;
 use std::process::Abort;
 use std::sync::Wait;
 use std::test::*;
@@ -45,33 +45,29 @@ fn told_in_threads<R: Threads + Wait + Sync>(
     })
 }
 
-/// What one thread replies to a schedule, and the number at the end.
-fn replied(alloc: Global, input: &str) -> Result<String, Fail> {
+/// Whether one thread replies to a schedule what stands in it as comments, and runs it to its end.
+fn replays(alloc: Global, recounted: &str) -> Result<bool, Fail> {
+    let mut said = String::new(alloc);
+    for line in recounted.lines() {
+        if let Some(reply) = line.strip_prefix("# ") {
+            said.push_str(reply)?;
+            said.push_str("\n")?;
+        }
+    }
+    said.push_str("0")?;
     let mut output = Vec::new(alloc);
     let mut errors = Vec::new(alloc);
     let status = schedule::<PoolOnDisks, _, _, _, _>(
         &Alone,
         alloc,
-        input.as_bytes(),
+        recounted.as_bytes(),
         &mut output,
         &mut errors,
     );
     let output = String::from_utf8(output)?;
     let errors = String::from_utf8(errors)?;
-    Ok(format!(in alloc; "{output}{errors}{}", status.number())?)
-}
-
-/// The replies that stand in a schedule as comments, and the number of one that is run to its end.
-fn said(alloc: Global, recounted: &str) -> Result<String, AllocError> {
-    let mut text = String::new(alloc);
-    for line in recounted.lines() {
-        if let Some(reply) = line.strip_prefix("# ") {
-            text.push_str(reply)?;
-            text.push_str("\n")?;
-        }
-    }
-    text.push_str("0")?;
-    Ok(text)
+    let replied = format!(in alloc; "{output}{errors}{}", status.number())?;
+    Ok(replied == said)
 }
 
 /// What so many threads print of a schedule that is run to its end: its last part is this, and it replays.
@@ -87,12 +83,8 @@ fn expect_replay<R: Threads + Wait + Abort + Sync>(
     let told = told_in_threads(rt, alloc, threads, input)?;
     assert_eq!(rt; (told.errors.as_str(), told.number), ("", 0));
     assert!(rt; told.output.as_str().ends_with(last), "{}", told.output);
-    let replies = replied(alloc, told.output.as_str())?;
-    assert!(rt;
-        replies == said(alloc, told.output.as_str())?,
-        "{}",
-        told.output
-    );
+    let is_same = replays(alloc, told.output.as_str())?;
+    assert!(rt; is_same, "{}", told.output);
     Ok(told.output)
 }
 
