@@ -1,7 +1,7 @@
 //! Random lives of a pool of five disks and two parities of which the same two disks are away now and then: each read gives what was written.
 use crate::random_schedules::Dice;
 use crate::telling::{expect_none, ran};
-use programs::PoolOnDisks;
+use programs::{Alone, PoolOnDisks};
 use std::alloc::Global;
 use std::test::Fail;
 
@@ -166,7 +166,7 @@ fn lived_otherwise(alloc: Global, seed: u64) -> Result<String, Fail> {
     life.rows
         .push_str(format!(in alloc; "out {third} -> out\n")?.as_str())?;
     life.read(alloc)?;
-    let (told, wanted) = ran::<PoolOnDisks>(alloc, &[life.rows.as_str()])?;
+    let (told, wanted) = ran::<PoolOnDisks, _>(&Alone, alloc, &[life.rows.as_str()])?;
     let mut wrong = told.lines().count() != wanted.lines().count();
     for (row, (came, right)) in told.lines().zip(wanted.lines()).enumerate() {
         if came != right && (row < exact || came != "refused 2 DiskFault") {

@@ -2,7 +2,7 @@
 ghost use Rattle.std.specs.Prelude.{◌≡◌};
 ghost use Rattle.pool_model.specs.declared.refusal.Refusal.TheVariants.{BadConfig};
 
-use crate::telling::{expect_none, told_of, told_otherwise};
+use crate::telling::{expect_none, told_by, told_otherwise};
 use plain_machine::Machine;
 use pool_model::{Phase, Refusal, Reply, Step};
 use programs::{Alone, ExitStatus, Planner, Refusal as Cause, StepMachine, schedule, written_len};
@@ -59,11 +59,6 @@ const TOLD: [(&str, &str); 16] = [
     ),
 ];
 
-#[test]
-fn faults_of_lines_are_told(rt: HostRuntime) -> Result<(), Fail> {
-    expect_none(&rt, told_otherwise::<Machine>(rt.alloc(), &TOLD))
-}
-
 /// Commits group 4 over and over, each time by these replies to Device. It can't be made over no disks.
 #[derive(Drop)]
 struct Scripted {
@@ -118,7 +113,8 @@ const SCRIPTED: [(&str, &str); 3] = [
 ];
 
 #[test]
-fn commits_go_on_to_their_end(rt: HostRuntime) -> Result<(), Fail> {
+fn faults_are_told_and_commits_go_on_to_their_end(rt: HostRuntime) -> Result<(), Fail> {
+    expect_none(&rt, told_otherwise::<Machine>(rt.alloc(), &TOLD))?;
     expect_none(&rt, told_otherwise::<Scripted>(rt.alloc(), &SCRIPTED))
 }
 
@@ -132,17 +128,14 @@ impl Read for Broken {
     }
 }
 
-fn told_of_broken(alloc: Global) -> Result<String, Fail> {
-    let text = "pool 1 3 8388608 12 2\nhold 1\nhold 1";
-    let input = BufReader::new(alloc, text.as_bytes().chain(Broken))?;
-    told_of::<Scripted, _>(alloc, input)
-}
-
 const BROKEN: &str = "pool 3 claim 1\nrefused 4 Suspended\npoolrun: input\n2";
 
 #[test]
 fn a_reader_may_fail(rt: HostRuntime) -> Result<(), Fail> {
-    assert!(rt; told_of_broken(rt.alloc())?.as_str() == BROKEN);
+    let text = "pool 1 3 8388608 12 2\nhold 1\nhold 1";
+    let input = BufReader::new(rt.alloc(), text.as_bytes().chain(Broken))?;
+    let told = told_by::<Scripted, _, _>(&Alone, rt.alloc(), input)?;
+    assert!(rt; told.as_str() == BROKEN);
     Ok(())
 }
 
@@ -182,47 +175,34 @@ const WRITERS: [((usize, bool), usize, ExitStatus); 6] = [
     ((22, true), 0, ExitStatus::Done),
 ];
 
-fn status_with(alloc: Global, (room, flushes): (usize, bool), told: usize) -> ExitStatus {
+/// The end where the output has this room.
+fn status_with<W: Write>(
+    alloc: Global,
+    (room, flushes): (usize, bool),
+    errors: &mut W,
+) -> ExitStatus {
     let mut output = Narrow { room, flushes };
-    let mut errors = Narrow {
-        room: told,
-        flushes: false,
-    };
     let text = "pool 1 3 8388608 12 2\nhold 1\n";
-    schedule::<Machine, _, _, _, _>(&Alone, alloc, text.as_bytes(), &mut output, &mut errors)
+    schedule::<Machine, _, _, _, _>(&Alone, alloc, text.as_bytes(), &mut output, errors)
 }
 
+/// An output that fails is told too, where that has room.
 #[test]
-fn writers_may_fail(rt: HostRuntime) {
-    for (output, errors, wanted) in &WRITERS {
-        assert!(rt; status_with(rt.alloc(), *output, *errors) == *wanted);
-    }
-}
-
-/// What is told where the output has this room.
-fn errors_with(alloc: Global, (room, flushes): (usize, bool)) -> Result<String, Fail> {
-    let mut output = Narrow { room, flushes };
-    let mut errors = Vec::new(alloc);
-    let text = "pool 1 3 8388608 12 2\nhold 1\n";
-    let _ = schedule::<Machine, _, _, _, _>(
-        &Alone,
-        alloc,
-        text.as_bytes(),
-        &mut output,
-        &mut errors,
-    );
-    Ok(String::from_utf8(errors)?)
-}
-
-#[test]
-fn an_output_that_fails_is_told(rt: HostRuntime) -> Result<(), Fail> {
-    for (output, _, status) in &WRITERS {
+fn writers_may_fail(rt: HostRuntime) -> Result<(), Fail> {
+    for (output, room, status) in &WRITERS {
+        let mut narrow = Narrow {
+            room: *room,
+            flushes: false,
+        };
+        assert!(rt; status_with(rt.alloc(), *output, &mut narrow) == *status);
         let wanted = if *status == ExitStatus::Done {
             ""
         } else {
             "poolrun: output\n"
         };
-        assert!(rt; errors_with(rt.alloc(), *output)?.as_str() == wanted);
+        let mut errors = Vec::new(rt.alloc());
+        let _ = status_with(rt.alloc(), *output, &mut errors);
+        assert!(rt; String::from_utf8(errors)?.as_str() == wanted);
     }
     Ok(())
 }

@@ -5,7 +5,7 @@ use crate::telling::{expect_none, ran_otherwise, reply_to};
 use model_disk::MemDisk;
 use plain_machine::Machine;
 use pool_model::Reply;
-use programs::Core;
+use programs::{Alone, Core};
 use schedule_lines::reply_text;
 use std::alloc::Global;
 use std::test::Fail;
@@ -111,28 +111,19 @@ impl Writers {
         }
     }
 
-    // The next number of the writer, and seldom another one.
-    fn number(&mut self) -> u64 {
-        if self.dice.below(20) == 0 {
-            return self.dice.below(40);
-        }
-        self.numbers.get(self.writer).copied().unwrap_or(0)
-    }
-
-    // A group that is kept, or one that is not.
-    fn group(&mut self) -> u64 {
-        self.committed
-            .saturating_add(1)
-            .saturating_sub(self.dice.below(6))
-    }
-
+    /// A line of a writer, with its next number and seldom another one, of a group that is kept or one that is not.
     fn line(&mut self, alloc: Global) -> Result<String, Fail> {
         self.writer = self.dice.below(4) as usize;
         let writer = self.writer as u32 + 1;
-        let number = self.number();
+        let number = if self.dice.below(20) == 0 {
+            self.dice.below(40)
+        } else {
+            self.numbers.get(self.writer).copied().unwrap_or(0)
+        };
         let byte = self.dice.below(256) as u8;
         let block_size = BLOCK_SIZES[self.dice.below(6) as usize];
-        let group = self.group();
+        let kept = self.committed.saturating_add(1);
+        let group = kept.saturating_sub(self.dice.below(6));
         let name = NAMES[self.dice.below(16) as usize];
         let part = PARTS[self.dice.below(4) as usize];
         let clone = CLONES[self.dice.below(6) as usize];
@@ -271,23 +262,26 @@ fn other_replies(alloc: Global, seed: u64, is_out: bool) -> Result<String, Fail>
     } else {
         rows
     };
-    ran_otherwise::<Core<MemDisk>>(alloc, &[POOL, rows.as_str()])
+    let parts = [POOL, rows.as_str()];
+    ran_otherwise::<Core<MemDisk>, _>(&Alone, alloc, &[parts.as_slice()])
 }
 
-fn all_other_replies(alloc: Global, seeds: &[u64], is_out: bool) -> Result<String, Fail> {
-    let mut others = String::new(alloc);
-    for seed in seeds {
-        others.push_str(other_replies(alloc, *seed, is_out)?.as_str())?;
-    }
-    Ok(others)
-}
+const SEEDS: [u64; 3] = [57, 107, 250];
+
+const SEEDS_WITH_ONE_OUT: [u64; 3] = [152, 211, 333];
 
 #[test]
 fn disks_reply_as_memory_does(rt: HostRuntime) -> Result<(), Fail> {
-    expect_none(&rt, all_other_replies(rt.alloc(), &[57, 107, 250], false))
+    for seed in &SEEDS {
+        expect_none(&rt, other_replies(rt.alloc(), *seed, false))?;
+    }
+    Ok(())
 }
 
 #[test]
 fn disks_reply_as_memory_does_with_one_out(rt: HostRuntime) -> Result<(), Fail> {
-    expect_none(&rt, all_other_replies(rt.alloc(), &[152, 211, 333], true))
+    for seed in &SEEDS_WITH_ONE_OUT {
+        expect_none(&rt, other_replies(rt.alloc(), *seed, true))?;
+    }
+    Ok(())
 }

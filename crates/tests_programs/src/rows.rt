@@ -1,8 +1,8 @@
 //! Schedules with their whole output, against the machine in memory and the core over disks.
-use crate::telling::{all_ran_otherwise, expect_none};
+use crate::telling::{expect_none, ran_otherwise};
 use model_disk::MemDisk;
 use plain_machine::Machine;
-use programs::Core;
+use programs::{Alone, Core};
 use std::test::Fail;
 
 /// The pool's core over disks in memory.
@@ -488,15 +488,18 @@ const POOLS: [&[&str]; 8] = [
 
 #[test]
 fn the_machine_in_memory_replies(rt: HostRuntime) -> Result<(), Fail> {
-    expect_none(&rt, all_ran_otherwise::<Machine>(rt.alloc(), &IN_MEMORY))
+    expect_none(
+        &rt,
+        ran_otherwise::<Machine, _>(&Alone, rt.alloc(), &IN_MEMORY),
+    )
 }
 
 #[test]
 fn the_core_over_disks_replies(rt: HostRuntime) -> Result<(), Fail> {
-    expect_none(&rt, all_ran_otherwise::<OverDisks>(rt.alloc(), &OVER_DISKS))
-}
-
-#[test]
-fn pools_are_made_or_refused(rt: HostRuntime) -> Result<(), Fail> {
-    expect_none(&rt, all_ran_otherwise::<OverDisks>(rt.alloc(), &POOLS))
+    let others = ran_otherwise::<OverDisks, _>(&Alone, rt.alloc(), &OVER_DISKS);
+    expect_none(&rt, others)?;
+    expect_none(
+        &rt,
+        ran_otherwise::<OverDisks, _>(&Alone, rt.alloc(), &POOLS),
+    )
 }

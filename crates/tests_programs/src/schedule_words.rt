@@ -138,20 +138,27 @@ fn said_otherwise(alloc: Global, lines: &[(&str, &str)]) -> Result<String, Fail>
     Ok(others)
 }
 
-#[test]
-fn lines_are_read(rt: HostRuntime) -> Result<(), Fail> {
-    expect_none(&rt, said_otherwise(rt.alloc(), &LINES))
+/// The disks that a line leaves out.
+fn absent(alloc: Global, line: &str) -> Result<Vec<u32>, Fail> {
+    match parse(alloc, line.as_bytes())? {
+        Line::Command(Command::Reopen(reopen)) => Ok(reopen.absent.into_vec()),
+        _ => Ok(Vec::new(alloc)),
+    }
 }
 
-fn fault(alloc: Global, line: &str) -> Option<Refusal> {
-    parse(alloc, line.as_bytes()).err()
+#[test]
+fn lines_are_read(rt: HostRuntime) -> Result<(), Fail> {
+    expect_none(&rt, said_otherwise(rt.alloc(), &LINES))?;
+    let absent = absent(rt.alloc(), "reopen 1 3 0 3")?;
+    assert!(rt; DiskNumbers::new(absent).as_slice() == [3, 0, 3].as_slice());
+    Ok(())
 }
 
 /// Why the lines among these say nothing that are not refused.
 fn not_refused(alloc: Global, lines: &[(&str, &str)]) -> Result<String, Fail> {
     let mut others = String::new(alloc);
     for (line, why) in lines {
-        if fault(alloc, line) != Some(Refusal::Fault) {
+        if parse(alloc, line.as_bytes()).err() != Some(Refusal::Fault) {
             others.push_str(why)?;
         }
     }
@@ -199,29 +206,10 @@ fn reply_texts(alloc: Global) -> Result<String, Fail> {
 }
 
 #[test]
-fn replies_have_texts(rt: HostRuntime) -> Result<(), Fail> {
+fn replies_and_pools_have_texts(rt: HostRuntime) -> Result<(), Fail> {
     assert!(rt; reply_texts(rt.alloc())?.as_str() == TEXTS);
-    Ok(())
-}
-
-#[test]
-fn pools_have_texts(rt: HostRuntime) -> Result<(), Fail> {
     assert!(rt; opened_text(rt.alloc(), 7, 2)?.as_str() == "opened 7 claim 2");
     assert!(rt; made_text(rt.alloc(), 3, 1)?.as_str() == "pool 3 claim 1");
-    Ok(())
-}
-
-fn absent(alloc: Global, line: &str) -> Result<Vec<u32>, Fail> {
-    match parse(alloc, line.as_bytes())? {
-        Line::Command(Command::Reopen(reopen)) => Ok(reopen.absent.into_vec()),
-        _ => Ok(Vec::new(alloc)),
-    }
-}
-
-#[test]
-fn absent_disks_are_listed(rt: HostRuntime) -> Result<(), Fail> {
-    let numbers = absent(rt.alloc(), "reopen 1 3 0 3")?;
-    assert!(rt; DiskNumbers::new(numbers).as_slice() == [3, 0, 3].as_slice());
     Ok(())
 }
 
@@ -231,11 +219,6 @@ fn text_of(alloc: Global, parts: &[(u8, usize)]) -> Result<String, Fail> {
         bytes.extend_from_slice(vec![in alloc; *byte; *count]?.as_slice())?;
     }
     Ok(runs_text(alloc, bytes.as_slice())?)
-}
-
-fn is_one_run(alloc: Global) -> Result<bool, Fail> {
-    let found = runs(alloc, &[9, 9])?;
-    Ok(found.as_slice() == [Run { byte: 9, count: 2 }].as_slice())
 }
 
 /// Bytes, each so often, and their text.
@@ -251,6 +234,7 @@ fn runs_are_found_and_printed(rt: HostRuntime) -> Result<(), Fail> {
     for (parts, wanted) in &PRINTED {
         assert!(rt; text_of(rt.alloc(), parts)?.as_str() == *wanted);
     }
-    assert!(rt; is_one_run(rt.alloc())?);
+    let found = runs(rt.alloc(), &[9, 9])?;
+    assert!(rt; found.as_slice() == [Run { byte: 9, count: 2 }].as_slice());
     Ok(())
 }

@@ -7,48 +7,26 @@ use std::io::BufRead;
 use std::process::Abort;
 use std::test::Fail;
 
-/// The lines of rows `LINE -> REPLY`.
-fn fronts(alloc: Global, parts: &[&str]) -> Result<String, Fail> {
-    let mut text = String::new(alloc);
+/// The lines of rows `LINE -> REPLY`; and what they say that is told of them: the replies, and that the schedule was run to its end.
+fn parted(alloc: Global, parts: &[&str]) -> Result<(String, String), Fail> {
+    let mut lines = String::new(alloc);
+    let mut replies = String::new(alloc);
     for rows in parts {
         for row in rows.lines() {
-            let (line, _) = row.split_once(" -> ").unwrap_or((row, ""));
-            text.push_str(line)?;
-            text.push_str("\n")?;
+            let (line, reply) = row.split_once(" -> ").unwrap_or((row, row));
+            lines.push_str(line)?;
+            lines.push_str("\n")?;
+            replies.push_str(reply)?;
+            replies.push_str("\n")?;
         }
     }
-    Ok(text)
+    replies.push_str("0")?;
+    Ok((lines, replies))
 }
 
-/// The replies of rows, and that the schedule was run to its end.
-fn backs(alloc: Global, parts: &[&str]) -> Result<String, Fail> {
-    let mut text = String::new(alloc);
-    for rows in parts {
-        for row in rows.lines() {
-            let (_, reply) = row.split_once(" -> ").unwrap_or(("", row));
-            text.push_str(reply)?;
-            text.push_str("\n")?;
-        }
-    }
-    text.push_str("0")?;
-    Ok(text)
-}
-
-/// The output, then what is told of a fault, then the number that the process ends with.
-pub fn told<P: SchedulePool>(alloc: Global, input: &str) -> Result<String, Fail> {
-    told_of::<P, _>(alloc, input.as_bytes())
-}
-
-/// The same of any reader.
-pub fn told_of<P: SchedulePool, R: BufRead + Drop>(
-    alloc: Global,
-    input: R,
-) -> Result<String, Fail> {
-    told_by::<P, _, R>(&Alone, alloc, input)
-}
-
-/// The same where that planner makes the plans.
-fn told_by<P: SchedulePool, X: Planner, R: BufRead + Drop>(
+/// What is told of a schedule where that planner makes the plans: the output, then what is told of a fault, then the number that the process
+/// ends with.
+pub fn told_by<P: SchedulePool, X: Planner, R: BufRead + Drop>(
     planner: &X,
     alloc: Global,
     input: R,
@@ -63,13 +41,6 @@ fn told_by<P: SchedulePool, X: Planner, R: BufRead + Drop>(
     Ok(format!(in alloc; "{output}{errors}{}", status.number())?)
 }
 
-/// What running rows tells, and what they say that it does.
-pub fn ran<P: SchedulePool>(alloc: Global, parts: &[&str]) -> Result<(String, String), Fail> {
-    let input = fronts(alloc, parts)?;
-    let told = told::<P>(alloc, input.as_str())?;
-    Ok((told, backs(alloc, parts)?))
-}
-
 /// What is told of the schedules among these that something else is told of than stands beside them, one behind another.
 pub fn told_otherwise<P: SchedulePool>(
     alloc: Global,
@@ -77,7 +48,7 @@ pub fn told_otherwise<P: SchedulePool>(
 ) -> Result<String, Fail> {
     let mut others = String::new(alloc);
     for (input, wanted) in schedules {
-        let told = told::<P>(alloc, input)?;
+        let told = told_by::<P, _, _>(&Alone, alloc, input.as_bytes())?;
         if told.as_str() != *wanted {
             others.push_str(told.as_str())?;
         }
@@ -85,18 +56,21 @@ pub fn told_otherwise<P: SchedulePool>(
     Ok(others)
 }
 
-/// What running rows tells, where they don't say that.
-pub fn ran_otherwise<P: SchedulePool>(alloc: Global, parts: &[&str]) -> Result<String, Fail> {
-    let (told, wanted) = ran::<P>(alloc, parts)?;
-    Ok(if told == wanted {
-        String::new(alloc)
-    } else {
-        told
-    })
+/// What running rows tells where that planner makes the plans, and what they say that it does.
+pub fn ran<P: SchedulePool, X: Planner>(
+    planner: &X,
+    alloc: Global,
+    parts: &[&str],
+) -> Result<(String, String), Fail>
+    requires { X.ready }
+{
+    let (input, wanted) = parted(alloc, parts)?;
+    let told = told_by::<P, X, _>(planner, alloc, input.as_bytes())?;
+    Ok((told, wanted))
 }
 
 /// What rows tell where that planner makes the plans, and they don't say that, one behind another.
-pub fn planned_otherwise<P: SchedulePool, X: Planner>(
+pub fn ran_otherwise<P: SchedulePool, X: Planner>(
     planner: &X,
     alloc: Global,
     schedules: &[&[&str]],
@@ -105,23 +79,10 @@ pub fn planned_otherwise<P: SchedulePool, X: Planner>(
 {
     let mut others = String::new(alloc);
     for parts in schedules {
-        let input = fronts(alloc, parts)?;
-        let told = told_by::<P, X, _>(planner, alloc, input.as_bytes())?;
-        if told != backs(alloc, parts)? {
+        let (told, wanted) = ran::<P, X>(planner, alloc, parts)?;
+        if told != wanted {
             others.push_str(told.as_str())?;
         }
-    }
-    Ok(others)
-}
-
-/// The same of several schedules, one behind another.
-pub fn all_ran_otherwise<P: SchedulePool>(
-    alloc: Global,
-    schedules: &[&[&str]],
-) -> Result<String, Fail> {
-    let mut others = String::new(alloc);
-    for parts in schedules {
-        others.push_str(ran_otherwise::<P>(alloc, parts)?.as_str())?;
     }
     Ok(others)
 }
