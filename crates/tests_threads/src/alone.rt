@@ -28,20 +28,9 @@ fn over_the_machine<L: Ledger, M: Ledger, R: Abort>(
     requires calls { (calls.name ≡ M.name) × (calls.parts ≡ M.parts) }
     requires one { (steps.parts ≡ 1) × (calls.parts ≡ 1) }
 {
-    let (books, all) = Books::<L, M>::open(steps, calls);
-    let recorded = fresh(alloc, books)?;
-    recorded_alone(rt, alloc, recorded, Machine::create(alloc), all)
-}
-
-fn recorded_alone<C: PoolSteps, L: Ledger, M: Ledger, R: Abort>(
-    rt: &R,
-    alloc: Global,
-    mut recorded: Recorded<C, L, M>,
-    mut other: C,
-    mut all: Shares<L, M>,
-) -> Result<(), Fail>
-    requires { (all.steps.parts ≡ 1) × (L.parts ≡ 1) × (M.parts ≡ 1) }
-{
+    let (books, mut all) = Books::<L, M>::open(steps, calls);
+    let mut recorded = fresh(alloc, books)?;
+    let mut other = Machine::create(alloc);
     sealed_twice(rt, alloc, &mut recorded, &mut other, &mut all)?;
     filled(rt, alloc, &mut recorded, &mut all)?;
     recorded.audit(&mut all);
