@@ -27,20 +27,16 @@ pub(crate) enum Pattern {
     },
 }
 
-fn in_turn(number: u64) -> Left {
-    match number % 4 {
-        0 => Left::Old,
-        1 => Left::New,
-        2 => Left::Filled,
-        _ => Left::Torn,
-    }
-}
-
 impl Pattern {
     fn left(self, written: u64) -> Left {
         match self {
             Pattern::Every(left) => left,
-            Pattern::InTurn(first) => in_turn(written.wrapping_add(first)),
+            Pattern::InTurn(first) => match written.wrapping_add(first) % 4 {
+                0 => Left::Old,
+                1 => Left::New,
+                2 => Left::Filled,
+                _ => Left::Torn,
+            },
             Pattern::Except {
                 moment,
                 left,
@@ -69,18 +65,6 @@ fn leave(image: &mut [u8], at: usize, bytes: &[u8], left: Left) {
     }
 }
 
-/// How many of the calls before that moment the disk's last flush is behind.
-fn count_flushed(calls: &[TimedCall], cut: u64) -> usize {
-    let mut count = 0;
-    for number in 0..calls.len() {
-        let call = &calls[number];
-        if call.moment < cut && matches!(call.asked, Asked::Flush) {
-            count = number;
-        }
-    }
-    count
-}
-
 /// What a stop at that moment leaves of a disk, which held these bytes before the first of the calls. What was flushed stands.
 pub(crate) fn image_of(
     alloc: Global,
@@ -89,8 +73,14 @@ pub(crate) fn image_of(
     cut: u64,
     pattern: Pattern,
 ) -> Result<Vec<u8>, AllocError> {
+    let mut flushed = 0usize;
+    for number in 0..calls.len() {
+        let call = &calls[number];
+        if call.moment < cut && matches!(call.asked, Asked::Flush) {
+            flushed = number;
+        }
+    }
     let mut image = Vec::from_slice(alloc, start)?;
-    let flushed = count_flushed(calls, cut);
     for number in 0..calls.len() {
         let call = &calls[number];
         if call.moment < cut {

@@ -1,5 +1,4 @@
 //! Whether a pool is as it is to be after a stop.
-use crate::history::is_possible;
 use crate::reopening::{Seen, reopened};
 use crate::runs::Run;
 use crate::stopping::{Away, Stop, stop_at};
@@ -14,26 +13,17 @@ pub(crate) type Stops = [Option<u64>; 3];
 /// The first of them, or why none was found.
 pub(crate) type Outcome = Result<Option<Stops>, Refusal>;
 
-fn is_right(run: &Run, cut: u64, seen: Result<Seen, Refusal>) -> bool {
-    match seen {
-        Ok(seen) => is_possible(&run.history, cut, seen.first) && seen.last == seen.wanted,
-        Err(_) => false,
-    }
-}
-
 /// The stop, where what was seen after it is wrong.
 pub(crate) fn failure_of(run: &Run, stop: Stop, seen: Result<Seen, Refusal>) -> Option<Stops> {
-    if is_right(run, stop.cut, seen) {
-        return None;
+    let Ok(seen) = seen else {
+        return Some([Some(stop.cut), None, None]);
+    };
+    for it in &run.history {
+        if it.covers(stop.cut) && it.shown == seen.first && seen.last == seen.wanted {
+            return None;
+        }
     }
     Some([Some(stop.cut), None, None])
-}
-
-/// Opens the pool after a stop of a run.
-fn tried(alloc: Global, run: &Run, stop: Stop) -> Result<Option<Stops>, AllocError> {
-    let images = run.images(alloc, stop.cut, stop.pattern)?;
-    let seen = reopened(alloc, images, stop.absent, stop.goes_on);
-    Ok(failure_of(run, stop, seen))
 }
 
 /// Some of the stops of a run: of so many that follow each other one.
@@ -43,7 +33,7 @@ pub(crate) struct Part {
     pub(crate) of: u64,
 }
 
-/// The first failure among these stops of a run.
+/// The first failure among these stops of a run, after each of which the pool is opened.
 pub(crate) fn first_failure(
     alloc: Global,
     run: &Run,
@@ -52,7 +42,10 @@ pub(crate) fn first_failure(
 ) -> Result<Option<Stops>, AllocError> {
     for cut in 0..run.end.saturating_add(1) {
         if cut.checked_rem(part.of) == Some(part.first) {
-            let failure = tried(alloc, run, stop_at(cut, cut, away))?;
+            let stop = stop_at(cut, cut, away);
+            let images = run.images(alloc, cut, stop.pattern)?;
+            let seen = reopened(alloc, images, stop.absent, stop.goes_on);
+            let failure = failure_of(run, stop, seen);
             if failure.is_some() {
                 return Ok(failure);
             }
@@ -78,7 +71,15 @@ pub(crate) fn failure_after(
 ) -> Outcome {
     Ok(match first_failure(alloc, run, part, away)? {
         Some(stops) => Some(behind(stop, stops)),
-        None => failure_of(before, stop, Ok(run.seen())),
+        None => failure_of(
+            before,
+            stop,
+            Ok(Seen {
+                first: run.opened,
+                wanted: run.opened,
+                last: run.opened,
+            }),
+        ),
     })
 }
 

@@ -2,7 +2,7 @@
 #![tactic(auto)]
 
 #[cfg(test)]
-mod commits;
+mod cases;
 #[cfg(test)]
 mod history;
 #[cfg(test)]

@@ -1,13 +1,13 @@
 //! Stops of opens that come after a stop, and of the opens after these.
 use crate::images::{Left, Pattern};
-use crate::judging::{Outcome, Part, behind, failure_after, failure_of, judge};
+use crate::judging::{Outcome, Part, behind, failure_after, failure_of};
+use crate::pools::Doing;
 use crate::runs::Run;
-use crate::stages::{first_run, next_run};
+use crate::stages::next_run;
 use crate::stopping::{Away, Stop, stop_at};
 use std::alloc::Global;
-use std::test::*;
 
-/// Stops of group 8 by what was made of its slots: disk 0 has all four of its own, or disk 1 two more.
+/// Stops of group 8 by what was made of its slots, from the first of which `cut` counts: disk 0 has all four of its own, or disk 1 two more.
 const IN_SLOTS: [Stop; 3] = [
     Stop {
         cut: 3,
@@ -30,10 +30,17 @@ const IN_SLOTS: [Stop; 3] = [
     },
 ];
 
-/// The first failure of an open after a stop, and among stops of its own.
-fn stopped(alloc: Global, run: &Run, stop: Stop, part: Part) -> Outcome {
-    match next_run(alloc, run, stop, &[]) {
-        Ok(opening) => failure_after(alloc, run, stop, &opening, part, Away::Any),
+/// The first failure of an open after a stop, which commits these groups, and among stops of its own.
+pub(crate) fn stopped(
+    alloc: Global,
+    run: &Run,
+    stop: Stop,
+    groups: &[&[Doing]],
+    part: Part,
+    away: Away,
+) -> Outcome {
+    match next_run(alloc, run, stop, groups) {
+        Ok(opening) => failure_after(alloc, run, stop, &opening, part, away),
         Err(refusal) => Ok(failure_of(run, stop, Err(refusal))),
     }
 }
@@ -46,7 +53,8 @@ fn stopped_again(alloc: Global, opening: &Run, stop: Stop, part: Part) -> Outcom
                 first: cut % 5,
                 of: 5,
             };
-            let failure = stopped(alloc, opening, stop_at(cut, cut, Away::Any), again)?;
+            let next = stop_at(cut, cut, Away::Any);
+            let failure = stopped(alloc, opening, next, &[], again, Away::Any)?;
             if let Some(stops) = failure {
                 return Ok(Some(behind(stop, stops)));
             }
@@ -60,44 +68,19 @@ fn stopped_twice(alloc: Global, run: &Run, stop: Stop, part: Part) -> Outcome {
     stopped_again(alloc, &opening, stop, part)
 }
 
-/// The stop of the run that one of its group's slots is told by.
-fn told(run: &Run, stop: Stop) -> Stop {
-    Stop {
-        cut: run.slots_of(8).saturating_add(stop.cut),
-        ..stop
-    }
-}
-
 /// The first failure of an open after one of the stops: the open is stopped too, or it and the one after it.
-fn first_stopped(alloc: Global, run: &Run, part: Part, is_twice: bool) -> Outcome {
+pub(crate) fn first_stopped(alloc: Global, run: &Run, part: Part, is_twice: bool) -> Outcome {
     for stop in &IN_SLOTS {
-        let stop = told(run, *stop);
+        let mut stop = *stop;
+        stop.cut = run.slots_of(8).saturating_add(stop.cut);
         let failure = if is_twice {
             stopped_twice(alloc, run, stop, part)?
         } else {
-            stopped(alloc, run, stop, part)?
+            stopped(alloc, run, stop, &[], part, Away::Any)?
         };
         if failure.is_some() {
             return Ok(failure);
         }
     }
     Ok(None)
-}
-
-fn all_stopped(alloc: Global, part: Part, is_twice: bool) -> Outcome {
-    let run = first_run(alloc)?;
-    first_stopped(alloc, &run, part, is_twice)
-}
-
-#[test]
-fn opens_are_stopped(rt: HostRuntime) {
-    judge(
-        &rt,
-        all_stopped(rt.alloc(), Part { first: 0, of: 1 }, false),
-    );
-}
-
-#[test]
-fn opens_are_stopped_twice(rt: HostRuntime) {
-    judge(&rt, all_stopped(rt.alloc(), Part { first: 2, of: 7 }, true));
 }

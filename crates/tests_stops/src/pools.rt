@@ -2,8 +2,9 @@
 use model_disk::{Disk, MemDisk, Member};
 use pool_create::{Core, OpenedPool, Refusal, create, open};
 use pool_format::PoolIdentity;
-use pool_model::{Action, Bytes, Change, Name, Reply, Step, Write};
+use pool_model::{Action, Bytes, Change, Name, Phase, Reply, Step, Write};
 use std::alloc::{AllocError, Global};
+use std::cell::Cell;
 use vdev_label::{Config, Vdev};
 
 /// Of each disk.
@@ -20,14 +21,17 @@ pub(crate) enum Which {
     W,
 }
 
-/// What a group does.
+/// What is done to a volume.
 #[derive(Clone, Copy)]
-pub(crate) enum Doing {
-    /// Makes the volume, whose blocks are zeros.
-    Makes(Which),
-    /// Fills a block of it with that byte.
-    Fills(Which, usize, u8),
+pub(crate) enum Act {
+    /// It is made, and its blocks are zeros.
+    Makes,
+    /// A block of it is filled with that byte.
+    Fills(usize, u8),
 }
+
+/// What a group does.
+pub(crate) type Doing = (Which, Act);
 
 /// A volume as it is read.
 #[derive(Clone, Copy, PartialEq, Eq)]
@@ -49,10 +53,10 @@ pub(crate) struct Shown {
 }
 
 impl Volume {
-    fn done(self, doing: Doing) -> Volume {
-        match (self, doing) {
-            (Volume::Absent, Doing::Makes(_)) => Volume::Blocks([0; BLOCKS]),
-            (Volume::Blocks(blocks), Doing::Fills(_, block, byte)) => {
+    fn done(self, act: Act) -> Volume {
+        match (self, act) {
+            (Volume::Absent, Act::Makes) => Volume::Blocks([0; BLOCKS]),
+            (Volume::Blocks(blocks), Act::Fills(block, byte)) => {
                 let mut blocks = blocks;
                 if block < BLOCKS {
                     blocks[block] = byte;
@@ -64,32 +68,15 @@ impl Volume {
     }
 }
 
-fn which_of(doing: Doing) -> Which {
-    match doing {
-        Doing::Makes(which) | Doing::Fills(which, _, _) => which,
-    }
-}
-
 impl Shown {
-    /// What it shows once this is done.
-    pub(crate) fn done(self, doing: Doing) -> Shown {
-        match which_of(doing) {
-            Which::V => Shown {
-                v: self.v.done(doing),
-                ..self
-            },
-            Which::W => Shown {
-                w: self.w.done(doing),
-                ..self
-            },
-        }
-    }
-
     /// What the next group shows which does that.
     pub(crate) fn next(self, doings: &[Doing]) -> Shown {
         let mut shown = self;
-        for doing in doings {
-            shown = shown.done(*doing);
+        for (which, act) in doings {
+            match which {
+                Which::V => shown.v = shown.v.done(*act),
+                Which::W => shown.w = shown.w.done(*act),
+            }
         }
         shown.group = shown.group.saturating_add(1);
         shown
@@ -152,29 +139,6 @@ fn name_of(alloc: Global, which: Which) -> Result<Name, AllocError> {
     Ok(Name::new(Vec::from_slice(alloc, text.as_bytes())?))
 }
 
-/// What writer 1 does as its item of that number.
-fn step_of(alloc: Global, doing: Doing, number: u64) -> Result<Step, AllocError> {
-    let name = name_of(alloc, which_of(doing))?;
-    Ok(match doing {
-        Doing::Makes(_) => Step::Act(Action {
-            writer: 1,
-            number,
-            change: Change::Create {
-                name,
-                size: 2048,
-                block_size: 512,
-            },
-        }),
-        Doing::Fills(_, block, byte) => Step::Write(Write {
-            writer: 1,
-            number,
-            volume: name,
-            offset: (block as u64).saturating_mul(512),
-            bytes: Bytes::new(vec![in alloc; byte; BLOCK_BYTES]?),
-        }),
-    })
-}
-
 /// The open group does these things, as items of writer 1 from that number on.
 pub(crate) fn do_all<D: Disk + Drop>(
     alloc: Global,
@@ -184,40 +148,67 @@ pub(crate) fn do_all<D: Disk + Drop>(
 ) -> Result<(), AllocError> {
     core.step(Step::Hold(1));
     let mut number = first;
-    for doing in doings {
-        core.step(step_of(alloc, *doing, number)?);
+    for (which, act) in doings {
+        let name = name_of(alloc, *which)?;
+        let step = match *act {
+            Act::Makes => Step::Act(Action {
+                writer: 1,
+                number,
+                change: Change::Create {
+                    name,
+                    size: 2048,
+                    block_size: 512,
+                },
+            }),
+            Act::Fills(block, byte) => Step::Write(Write {
+                writer: 1,
+                number,
+                volume: name,
+                offset: (block as u64).saturating_mul(512),
+                bytes: Bytes::new(vec![in alloc; byte; BLOCK_BYTES]?),
+            }),
+        };
+        core.step(step);
         number = number.saturating_add(1);
     }
     core.step(Step::Release(1));
     Ok(())
 }
 
-/// Closes the open group and plans its commit.
-pub(crate) fn plan<D: Disk + Drop>(core: &mut Core<D>) -> Reply {
+/// Commits the open group. The moment of its first slot, where it has one, by a count of calls.
+pub(crate) fn commit<D: Disk + Drop>(core: &mut Core<D>, moments: &Cell<u64>) -> Option<u64> {
     core.step(Step::Close);
     core.step(Step::Quiesce);
-    core.step(Step::Plan { timestamp: 0 })
-}
-
-/// The byte that a block is filled with.
-fn byte_of(block: &[u8]) -> Option<u8> {
-    let first = *block.first()?;
-    if block.iter().all(|byte| *byte == first) {
-        Some(first)
-    } else {
-        None
+    let mut reply = core.step(Step::Plan { timestamp: 0 });
+    let mut first_slot = None;
+    for _ in 0..1000 {
+        match reply {
+            Reply::Planned(_) | Reply::Moved(_) => {}
+            _ => return first_slot,
+        }
+        let moment = moments.get();
+        reply = core.step(Step::Device);
+        if first_slot.is_none() && matches!(reply, Reply::Moved(Phase::Slots)) {
+            first_slot = Some(moment);
+        }
     }
+    None
 }
 
-/// What each block is filled with.
+/// The byte that each block is filled with.
 fn blocks_of(bytes: &[u8]) -> Option<[u8; BLOCKS]> {
     let mut blocks = [0; BLOCKS];
     if bytes.len() != BLOCKS * BLOCK_BYTES {
         return None;
     }
     for block in 0..BLOCKS {
-        let first = block * BLOCK_BYTES;
-        blocks[block] = byte_of(&bytes[first..first + BLOCK_BYTES])?;
+        let start = block * BLOCK_BYTES;
+        let range = &bytes[start..start + BLOCK_BYTES];
+        let first = *range.first()?;
+        if !range.iter().all(|byte| *byte == first) {
+            return None;
+        }
+        blocks[block] = first;
     }
     Some(blocks)
 }

@@ -1,5 +1,5 @@
 //! Disks that note what is written on them and when they are flushed, in one order over all of them.
-use model_disk::{Disk, DiskError, Member};
+use model_disk::{Disk, DiskError, MemDisk, Member};
 use std::alloc::{AllocError, Global};
 use std::cell::Cell;
 use std::rc::Rc;
@@ -29,37 +29,23 @@ struct Record {
 }
 
 impl Record {
-    fn push(&mut self, asked: Asked) -> Result<(), AllocError> {
+    /// Notes a write of these bytes there, or else a flush.
+    fn note(&mut self, write: Option<(u64, &[u8])>) {
         let moment = self.moments.get();
         self.moments.set(moment.saturating_add(1));
-        self.calls.push(TimedCall { moment, asked })?;
-        Ok(())
-    }
-
-    fn push_write(&mut self, at: u64, bytes: &[u8]) -> Result<(), AllocError> {
-        let bytes = Vec::from_slice(self.alloc, bytes)?;
-        let at = usize::try_from(at).unwrap_or(usize::MAX);
-        self.push(Asked::Write { at, bytes })
-    }
-
-    fn note_write(&mut self, at: u64, bytes: &[u8]) {
-        if self.push_write(at, bytes).is_err() {
+        let asked = match write {
+            Some((at, bytes)) => {
+                let Ok(bytes) = Vec::from_slice(self.alloc, bytes) else {
+                    self.is_complete = false;
+                    return;
+                };
+                let at = usize::try_from(at).unwrap_or(usize::MAX);
+                Asked::Write { at, bytes }
+            }
+            None => Asked::Flush,
+        };
+        if self.calls.push(TimedCall { moment, asked }).is_err() {
             self.is_complete = false;
-        }
-    }
-
-    fn note_flush(&mut self) {
-        if self.push(Asked::Flush).is_err() {
-            self.is_complete = false;
-        }
-    }
-
-    /// The calls, where memory did for all of them.
-    fn into_calls(self) -> Result<Vec<TimedCall>, AllocError> {
-        if self.is_complete {
-            Ok(self.calls)
-        } else {
-            Err(AllocError)
         }
     }
 }
@@ -71,20 +57,36 @@ pub(crate) struct RecordingDisk<D: Disk + Drop> {
     record: Record,
 }
 
-impl<D: Disk + Drop> RecordingDisk<D> {
-    /// Over a disk, among others which count their calls together.
-    pub(crate) fn new(alloc: Global, inner: D, moments: Rc<Cell<u64>>) -> RecordingDisk<D> {
-        let record = Record {
-            alloc,
-            moments,
-            calls: Vec::new(alloc),
-            is_complete: true,
-        };
-        RecordingDisk { inner, record }
-    }
+/// A disk that holds these bytes, among others which count their calls together.
+pub(crate) fn recording_disk(
+    alloc: Global,
+    start: &[u8],
+    moments: &Rc<Cell<u64>>,
+) -> Result<RecordingDisk<MemDisk>, AllocError> {
+    let record = Record {
+        alloc,
+        moments: moments.clone()?,
+        calls: Vec::new(alloc),
+        is_complete: true,
+    };
+    let inner = MemDisk::holding(Vec::from_slice(alloc, start)?);
+    Ok(RecordingDisk { inner, record })
+}
 
+impl<D: Disk + Drop> RecordingDisk<D> {
+    /// The calls, where memory did for all of them.
     fn into_calls(self) -> Result<Vec<TimedCall>, AllocError> {
-        self.record.into_calls()
+        let RecordingDisk { record, .. } = self;
+        let Record {
+            calls,
+            is_complete,
+            ..
+        } = record;
+        if is_complete {
+            Ok(calls)
+        } else {
+            Err(AllocError)
+        }
     }
 }
 
@@ -102,12 +104,12 @@ impl<D: Disk + Drop> Disk for RecordingDisk<D> {
     }
 
     fn write_at(&mut self, at: u64, bytes: &[u8]) -> Result<(), DiskError> {
-        self.record.note_write(at, bytes);
+        self.record.note(Some((at, bytes)));
         self.inner.write_at(at, bytes)
     }
 
     fn flush(&mut self) -> Result<(), DiskError> {
-        self.record.note_flush();
+        self.record.note(None);
         self.inner.flush()
     }
 

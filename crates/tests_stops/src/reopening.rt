@@ -1,9 +1,9 @@
 //! Pools that are opened after a stop, without one of their disks and then with all.
-use crate::pools::{Doing, Shown, Volume, Which, do_all, opened, plan, shown_in};
+use crate::pools::{Act, Shown, Volume, Which, commit, do_all, opened, shown_in};
 use model_disk::{MemDisk, Member};
 use pool_create::{Core, OpenedPool, Refusal};
-use pool_model::{Reply, Step};
 use std::alloc::{AllocError, Global};
+use std::cell::Cell;
 
 /// What is shown when a pool is opened, and what by its last opening.
 #[derive(Clone, Copy)]
@@ -14,28 +14,7 @@ pub(crate) struct Seen {
     pub(crate) last: Shown,
 }
 
-/// One more group, and what it is to show.
-fn go_on(
-    alloc: Global,
-    core: &mut Core<Member<MemDisk>>,
-    shown: Shown,
-) -> Result<Shown, AllocError> {
-    let doing = match shown.v {
-        Volume::Absent => Doing::Makes(Which::V),
-        _ => Doing::Fills(Which::V, 3, 0xee),
-    };
-    do_all(alloc, core, &[doing], 1)?;
-    let mut reply = plan(core);
-    for _ in 0..1000 {
-        match reply {
-            Reply::Planned(_) | Reply::Moved(_) => reply = core.step(Step::Device),
-            _ => break,
-        }
-    }
-    Ok(shown.next(&[doing]))
-}
-
-/// What the pool shows that stands at that group, and what it is to show in the end.
+/// What the pool shows that stands at that group, and what it is to show in the end: with `goes_on` it commits one more group.
 fn shown_and_wanted(
     alloc: Global,
     core: &mut Core<Member<MemDisk>>,
@@ -43,14 +22,20 @@ fn shown_and_wanted(
     goes_on: bool,
 ) -> Result<[Shown; 2], AllocError> {
     let first = shown_in(alloc, core, group)?;
-    if goes_on {
-        return Ok([first, go_on(alloc, core, first)?]);
+    if !goes_on {
+        return Ok([first, first]);
     }
-    Ok([first, first])
+    let act = match first.v {
+        Volume::Absent => Act::Makes,
+        _ => Act::Fills(3, 0xee),
+    };
+    do_all(alloc, core, &[(Which::V, act)], 1)?;
+    let _ = commit(core, &Cell::new(0u64));
+    Ok([first, first.next(&[(Which::V, act)])])
 }
 
 /// The same of the pool on these disks; and its disks.
-fn first_opened(
+fn opened_once(
     alloc: Global,
     disks: Vec<MemDisk>,
     goes_on: bool,
@@ -62,14 +47,6 @@ fn first_opened(
     let shown = shown_and_wanted(alloc, &mut core, uberblock.group, goes_on);
     let disks = core.into_disks();
     Ok((shown?, disks))
-}
-
-fn last_opened(alloc: Global, disks: Vec<MemDisk>) -> Result<Shown, Refusal> {
-    let OpenedPool {
-        mut core,
-        uberblock,
-    } = opened(alloc, disks)?;
-    shown_in(alloc, &mut core, uberblock.group).map_err(Refusal::from)
 }
 
 /// Disks with these bytes, and in a list of its own the absent one.
@@ -109,9 +86,9 @@ pub(crate) fn reopened(
     goes_on: bool,
 ) -> Result<Seen, Refusal> {
     let (disks, mut all) = disks_of(alloc, images, absent)?;
-    let ([first, wanted], members) = first_opened(alloc, disks, goes_on)?;
+    let ([first, wanted], members) = opened_once(alloc, disks, goes_on)?;
     put_behind(members, &mut all)?;
-    let last = last_opened(alloc, all)?;
+    let ([last, _], _members) = opened_once(alloc, all, false)?;
     Ok(Seen {
         first,
         wanted,

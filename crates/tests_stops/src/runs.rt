@@ -1,12 +1,10 @@
 //! Runs of a pool over disks that record their calls.
 use crate::history::{Possible, settle};
 use crate::images::{Pattern, image_of};
-use crate::pools::{Doing, Shown, do_all, opened, plan, shown_in};
-use crate::recording::{RecordingDisk, TimedCall, calls_of};
-use crate::reopening::Seen;
+use crate::pools::{Doing, Shown, commit, do_all, opened, shown_in};
+use crate::recording::{RecordingDisk, TimedCall, calls_of, recording_disk};
 use model_disk::{Disk, MemDisk};
 use pool_create::{Core, OpenedPool, Refusal};
-use pool_model::{Phase, Reply, Step};
 use std::alloc::{AllocError, Global};
 use std::cell::Cell;
 use std::rc::Rc;
@@ -19,7 +17,7 @@ pub(crate) struct Run {
     /// How many calls there are in all.
     pub(crate) end: u64,
     /// What was shown as the pool was opened.
-    opened: Shown,
+    pub(crate) opened: Shown,
     pub(crate) history: Vec<Possible>,
 }
 
@@ -48,26 +46,6 @@ impl Run {
         }
         0
     }
-
-    /// What was seen as the pool was opened.
-    pub(crate) fn seen(&self) -> Seen {
-        Seen {
-            first: self.opened,
-            wanted: self.opened,
-            last: self.opened,
-        }
-    }
-}
-
-/// A disk that holds these bytes.
-fn recording_disk(
-    alloc: Global,
-    start: &[u8],
-    moments: &Rc<Cell<u64>>,
-) -> Result<RecordingDisk<MemDisk>, AllocError> {
-    let moments = moments.clone()?;
-    let inner = MemDisk::holding(Vec::from_slice(alloc, start)?);
-    Ok(RecordingDisk::new(alloc, inner, moments))
 }
 
 /// Disks that hold these bytes, but for the absent one.
@@ -86,34 +64,18 @@ fn recording(
     Ok(disks)
 }
 
-/// Commits the open group. The moment of its first slot, where it has one.
-fn commit<D: Disk + Drop>(core: &mut Core<D>, moments: &Cell<u64>) -> Option<u64> {
-    let mut reply = plan(core);
-    let mut first_slot = None;
-    for _ in 0..1000 {
-        match reply {
-            Reply::Planned(_) | Reply::Moved(_) => {}
-            _ => return first_slot,
-        }
-        let moment = moments.get();
-        reply = core.step(Step::Device);
-        if first_slot.is_none() && matches!(reply, Reply::Moved(Phase::Slots)) {
-            first_slot = Some(moment);
-        }
-    }
-    None
-}
-
-/// Commits these groups one after another, from what the pool shows.
-fn commit_all<D: Disk + Drop>(
+/// What the pool shows that stands at that group, from which it commits these groups one after another.
+fn run_on<D: Disk + Drop>(
     alloc: Global,
     core: &mut Core<D>,
-    shown: Shown,
+    group: u64,
     groups: &[&[Doing]],
     moments: &Cell<u64>,
     history: &mut Vec<Possible>,
-) -> Result<(), AllocError> {
-    let mut shown = shown;
+) -> Result<Shown, AllocError> {
+    let opened = shown_in(alloc, core, group)?;
+    settle(history, opened, moments.get());
+    let mut shown = opened;
     let mut number: u64 = 1;
     for doings in groups {
         do_all(alloc, core, doings, number)?;
@@ -127,21 +89,6 @@ fn commit_all<D: Disk + Drop>(
         })?;
         settle(history, shown, moments.get());
     }
-    Ok(())
-}
-
-/// What the pool shows that stands at that group, from which it commits these groups.
-fn run_on<D: Disk + Drop>(
-    alloc: Global,
-    core: &mut Core<D>,
-    group: u64,
-    groups: &[&[Doing]],
-    moments: &Cell<u64>,
-    history: &mut Vec<Possible>,
-) -> Result<Shown, AllocError> {
-    let opened = shown_in(alloc, core, group)?;
-    settle(history, opened, moments.get());
-    commit_all(alloc, core, opened, groups, moments, history)?;
     Ok(opened)
 }
 

@@ -50,9 +50,9 @@ fn pattern_at(cut: u64, way: u64) -> Pattern {
     }
 }
 
-/// None, or one of the disks.
-fn absent_at(away: Away, way: u64) -> Option<usize> {
-    match (away, way % 4) {
+/// The stop after so many calls, in the way of that number. There are 180 ways.
+pub(crate) fn stop_at(cut: u64, way: u64, away: Away) -> Stop {
+    let absent = match (away, way % 4) {
         (_, 0) => None,
         (Away::Any, 1) => Some(0),
         (Away::Any, 2) => Some(1),
@@ -60,15 +60,11 @@ fn absent_at(away: Away, way: u64) -> Option<usize> {
         (Away::Only(which), 1) => Some(which),
         (Away::Only(_), 2) => None,
         (Away::Only(which), _) => Some(which),
-    }
-}
-
-/// The stop after so many calls, in the way of that number. There are 180 ways.
-pub(crate) fn stop_at(cut: u64, way: u64, away: Away) -> Stop {
+    };
     Stop {
         cut,
         pattern: pattern_at(cut, way),
-        absent: absent_at(away, way),
+        absent,
         goes_on: way % 5 < 2,
     }
 }

@@ -1,0 +1,88 @@
+//! What is stopped, and at which of its calls.
+use crate::history::Possible;
+use crate::images::{Left, Pattern};
+use crate::judging::{Outcome, Part, first_failure, judge};
+use crate::openings::{first_stopped, stopped};
+use crate::pools::made;
+use crate::runs::recorded;
+use crate::stages::{FIRST_GROUPS, LATER_GROUPS, NEW};
+use crate::stopping::{Away, Stop};
+use pool_create::Refusal;
+use std::alloc::Global;
+use std::test::*;
+
+/// What is stopped.
+#[derive(Clone, Copy)]
+enum Stopped {
+    /// A new pool as it is opened and commits its groups: all parts together stop it at each call.
+    Commits,
+    /// The pool that is opened after a stop without a disk, and commits two groups. The disk is there again after some of the stops, and
+    /// lacks what was written without it.
+    CommitsWithout,
+    /// The open after a stop.
+    Opens,
+    /// That open and the next one.
+    OpensTwice,
+}
+
+/// The first failure among these stops of a new pool's run, or of what comes behind one of its stops.
+fn outcome(alloc: Global, what: Stopped, part: Part) -> Outcome {
+    let new = Possible {
+        shown: NEW,
+        from: 0,
+        until: u64::MAX,
+    };
+    let possible = vec![in alloc; new]?;
+    let run = recorded(alloc, made(alloc)?, None, possible, &FIRST_GROUPS)?;
+    match what {
+        Stopped::Commits => first_failure(alloc, &run, part, Away::Any).map_err(Refusal::from),
+        Stopped::CommitsWithout => {
+            // The last group is stopped once disk 0 has its slots and the others have none. Disk 1 isn't there then.
+            let halfway = Stop {
+                cut: run.slots_of(8).saturating_add(3),
+                pattern: Pattern::Every(Left::New),
+                absent: Some(1),
+                goes_on: false,
+            };
+            stopped(alloc, &run, halfway, &LATER_GROUPS, part, Away::Only(1))
+        }
+        Stopped::Opens => first_stopped(alloc, &run, part, false),
+        Stopped::OpensTwice => first_stopped(alloc, &run, part, true),
+    }
+}
+
+#[test]
+fn stops_leave_a_whole_group(rt: HostRuntime) {
+    let part = Part { first: 0, of: 3 };
+    judge(&rt, outcome(rt.alloc(), Stopped::Commits, part));
+}
+
+#[test]
+fn next_stops_leave_a_whole_group(rt: HostRuntime) {
+    let part = Part { first: 1, of: 3 };
+    judge(&rt, outcome(rt.alloc(), Stopped::Commits, part));
+}
+
+#[test]
+fn last_stops_leave_a_whole_group(rt: HostRuntime) {
+    let part = Part { first: 2, of: 3 };
+    judge(&rt, outcome(rt.alloc(), Stopped::Commits, part));
+}
+
+#[test]
+fn stops_without_a_disk_leave_a_whole_group(rt: HostRuntime) {
+    let part = Part { first: 0, of: 2 };
+    judge(&rt, outcome(rt.alloc(), Stopped::CommitsWithout, part));
+}
+
+#[test]
+fn opens_are_stopped(rt: HostRuntime) {
+    let part = Part { first: 0, of: 1 };
+    judge(&rt, outcome(rt.alloc(), Stopped::Opens, part));
+}
+
+#[test]
+fn opens_are_stopped_twice(rt: HostRuntime) {
+    let part = Part { first: 2, of: 7 };
+    judge(&rt, outcome(rt.alloc(), Stopped::OpensTwice, part));
+}
