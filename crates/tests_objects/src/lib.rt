@@ -1,29 +1,20 @@
-//! Tests of tables, records and lists in objects of a set. They stand together, so that what they reach is proved once with them.
+//! Tests of tables, records and lists in objects of a set, of space maps there, and of the datasets that groups change. One driver takes a line of calls and gives a
+//! line of text; the cases stand in tables of lines.
 #![tactic(auto)]
 
 #[cfg(test)]
-mod chains;
+mod cases;
 #[cfg(test)]
-mod changed_datasets;
-#[cfg(test)]
-mod dead_lists;
-#[cfg(test)]
-mod destroys;
+mod datasets;
 #[cfg(test)]
 mod followed_maps;
 #[cfg(test)]
-mod group_datasets;
+mod forms;
 #[cfg(test)]
-mod histories;
+mod lines;
 #[cfg(test)]
-mod longer_tables;
+mod objects;
 #[cfg(test)]
-mod maps;
+mod samples;
 #[cfg(test)]
-mod meta;
-#[cfg(test)]
-mod rows;
-#[cfg(test)]
-mod stores;
-#[cfg(test)]
-mod tables;
+mod texts;

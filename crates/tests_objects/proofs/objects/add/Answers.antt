@@ -3,7 +3,7 @@ use Rattle.std.proofs.lemmas.List.Elements.{All-cons}
 use Rattle.std.proofs.lemmas.List.Sorted.{All-permutation}
 use Rattle.std.proofs.lemmas.Result.{on_ok_weaker}
 use Rattle.block_pointer.specs.Block.{FitsBlock}
-use Rattle.tests_objects.proofs.dead_lists.add.Goals as goal
+use Rattle.tests_objects.proofs.objects.add.Goals as goal
 
 pub returns : goal.returns
 returns c =
