@@ -256,10 +256,10 @@ fn wrong_lines<R: Eprint>(
     rt: &R,
     alloc: Global,
     bench: &mut Datasets,
-    cases: &[(&str, &str)],
+    tables: [&[(&str, &str)]; 2],
 ) -> Result<String, Fail> {
     let mut wrong = String::new(alloc);
-    for (line, wanted) in cases {
+    for (line, wanted) in tables[0].iter().chain(tables[1].iter()) {
         let came = match play(alloc, bench, line) {
             Ok(came) => came,
             Err(fail) => {
@@ -268,7 +268,7 @@ fn wrong_lines<R: Eprint>(
             }
         };
         if !came.split_whitespace().eq(wanted.split_whitespace()) {
-            wrong.push_str(format!(in alloc; "{line} -> {came}\n")?.as_str())?;
+            write!(wrong, "{line} -> {came}\n")?;
         }
     }
     Ok(wrong)
@@ -280,11 +280,8 @@ fn wrong_of<R: Eprint>(
     alloc: Global,
     tables: [&[(&str, &str)]; 2],
 ) -> Result<String, Fail> {
-    let [first, second] = tables;
     let mut bench = Datasets::new(alloc, 1, EMPTY)?;
-    let mut wrong = wrong_lines(rt, alloc, &mut bench, first)?;
-    wrong.push_str(wrong_lines(rt, alloc, &mut bench, second)?.as_str())?;
-    Ok(wrong)
+    wrong_lines(rt, alloc, &mut bench, tables)
 }
 
 #[test]

@@ -6,7 +6,7 @@ ghost use Rattle.dataset_groups.specs.Writing.{FitsHead};
 
 use crate::forms::Forms;
 use crate::lines::Call;
-use crate::objects::{EMPTY, Objects, new_store, store_plan, stored};
+use crate::objects::{EMPTY, Objects, Store, new_store, store_plan};
 use crate::samples::{born_in, record_of};
 use crate::texts::{births, record_text};
 use block_pointer::Block;
@@ -61,170 +61,173 @@ fn head_of(alloc: Global, call: &Call, object_set: Block) -> Result<Vec<WrittenH
     Ok(Vec::from_array(alloc, [head])?)
 }
 
+/// Changes a record or a dead list.
+fn change(
+    changes: &mut DatasetChanges,
+    store: &mut Store,
+    alloc: Global,
+    call: &Call,
+) -> Result<(), Refusal> {
+    let (first, second) = (call.object(0), call.object(1));
+    match (call.verb, call.kind) {
+        ("put", _) => {
+            store.drop_plan(1);
+            let object_set = plan_set(&EMPTY, store, alloc, 1)?;
+            changes.make_record(first, &record_of(call, object_set))?;
+        }
+        ("alter", _) => {
+            let found = changes.record(store, alloc, first)?;
+            let record = DatasetRecord {
+                created: call.number(2),
+                ..found
+            };
+            if first == second {
+                changes.change_record(first, &record)?;
+            } else {
+                changes.make_record(second, &record)?;
+            }
+        }
+        ("list", _) => changes.make_list(alloc, first)?,
+        ("add", _) => {
+            let block = born_in(call.number(1).max(1));
+            return changes.add_to_list(store, alloc, first, &[block]);
+        }
+        ("move", _) => {
+            let list = changes.take_list(store, alloc, first)?;
+            changes.put_list(second, list)?;
+        }
+        ("free", "list") => return changes.free_list(first),
+        _ => changes.free_record(first)?,
+    }
+    Ok(())
+}
+
+/// Makes a volume, a snapshot or a clone, overwrites a head, or destroys a dataset.
+fn chain(
+    changes: &mut DatasetChanges,
+    store: &mut Store,
+    alloc: Global,
+    call: &Call,
+    group: u64,
+    freed: &mut Vec<Block>,
+) -> Result<(), Refusal> {
+    let (number, mut left) = (call.object(0), 0);
+    let numbers = NewNumbers {
+        dataset: call.object(1),
+        dead_list: call.object(2),
+    };
+    match call.verb {
+        "create" => Ok(create(changes, alloc, number, &record_of(call, born_in(1)))?),
+        "snapshot" => snapshot(changes, store, alloc, number, numbers, group),
+        "clone" => clone(changes, store, alloc, number, numbers, group),
+        "overwrite" => {
+            let (first, second) = (call.number(2).max(1), call.number(3).max(1));
+            let head = RewrittenHead {
+                number,
+                object_set: born_in(call.number(1).max(1)),
+                left: Vec::from_array(alloc, [born_in(first), born_in(second)])?,
+            };
+            overwrite(changes, store, alloc, &head, freed)
+        }
+        "destroy" => destroy(changes, store, alloc, number, group, &mut left, freed),
+        _ => destroy_head(changes, store, alloc, number, group, &mut left, freed),
+    }
+}
+
+/// Makes a volume `v`, or writes to one.
+fn act(
+    datasets: &mut GroupDatasets,
+    store: &mut Store,
+    alloc: Global,
+    call: &Call,
+    freed: &mut Vec<Block>,
+) -> Result<(), Refusal> {
+    let group = call.number(0).max(1);
+    if call.verb == "write" {
+        let found = datasets.changes.record(store, alloc, call.number(1))?;
+        let heads = head_of(alloc, call, found.object_set)?;
+        return datasets.write_all(store, alloc, group, heads, freed);
+    }
+    if datasets.next <= 4 || datasets.bounds.end > NUMBERS_END {
+        return Err(Refusal::BadConfig);
+    }
+    let actions = [Action {
+        writer: 1,
+        number: 1,
+        change: Change::Create {
+            name: Name::new(vec![in alloc; b'v'; 1]?),
+            size: call.number(1),
+            block_size: call.number(2),
+        },
+    }];
+    datasets.act_all(store, alloc, group, &actions)
+}
+
+/// What stands in a record as the group leaves it so far.
+fn record_now(
+    changes: &mut DatasetChanges,
+    store: &mut Store,
+    alloc: Global,
+    number: u64,
+) -> Result<String, Fail> {
+    match changes.record(store, alloc, number) {
+        Ok(record) => Ok(record_text(alloc, &record)?),
+        Err(refusal) => Ok(format!(in alloc; "{refusal:?}")?),
+    }
+}
+
+/// Which blocks were freed, or why nothing was done.
+fn outcome(alloc: Global, done: Result<(), Refusal>, freed: &[Block]) -> Result<String, Fail> {
+    match done {
+        Ok(()) if freed.is_empty() => Ok(format!(in alloc; "ok")?),
+        Ok(()) => Ok(births(alloc, freed)?),
+        Err(refusal) => Ok(format!(in alloc; "{refusal:?}")?),
+    }
+}
+
 impl Datasets {
     /// Over a new store with so many metaslabs of the meta region, and nothing in it.
-    pub(crate) fn new(alloc: Global, meta_slabs: u64, set: ObjectSet) -> Result<Datasets, Fail>
+    pub(crate) fn new(alloc: Global, meta_slabs: u64, set: ObjectSet) -> Result<Datasets, Refusal>
         requires { FitsObjectSet set }
     {
-        let objects = Objects {
-            forms: Forms::new(alloc),
-            store: new_store(alloc, meta_slabs)?,
-            gone: Vec::new(alloc),
-            set,
-            group: 1,
-        };
+        let store = new_store(alloc, meta_slabs)?;
         Ok(Datasets {
-            objects,
+            objects: Objects {
+                forms: Forms::new(alloc),
+                store,
+                gone: Vec::new(alloc),
+                set,
+                group: 1,
+            },
             datasets: GroupDatasets::new(alloc, set, 0, Directory::new(alloc)),
             freed: Vec::new(alloc),
         })
     }
 
-    /// Changes a record or a dead list.
-    fn change(&mut self, alloc: Global, call: &Call) -> Result<(), Refusal> {
-        let (first, second) = (call.object(0), call.object(1));
-        match (call.verb, call.kind) {
-            ("put", _) => {
-                self.objects.store.drop_plan(1);
-                let object_set = plan_set(&EMPTY, &mut self.objects.store, alloc, 1)?;
-                let record = record_of(call, object_set);
-                self.datasets.changes.make_record(first, &record)?;
-            }
-            ("alter", _) => {
-                let (changes, store) = (&mut self.datasets.changes, &mut self.objects.store);
-                let found = changes.record(store, alloc, first)?;
-                let record = DatasetRecord {
-                    created: call.number(2),
-                    ..found
-                };
-                if first == second {
-                    changes.change_record(first, &record)?;
-                } else {
-                    changes.make_record(second, &record)?;
-                }
-            }
-            ("list", _) => self.datasets.changes.make_list(alloc, first)?,
-            ("add", _) => {
-                let (changes, store) = (&mut self.datasets.changes, &mut self.objects.store);
-                changes.add_to_list(store, alloc, first, &[born_in(call.number(1).max(1))])?;
-            }
-            ("move", _) => {
-                let (changes, store) = (&mut self.datasets.changes, &mut self.objects.store);
-                let list = changes.take_list(store, alloc, first)?;
-                changes.put_list(second, list)?;
-            }
-            ("free", "list") => self.datasets.changes.free_list(first)?,
-            _ => self.datasets.changes.free_record(first)?,
-        }
+    /// The same in place of what was there.
+    fn renew(&mut self, alloc: Global, meta_slabs: u64, set: ObjectSet) -> Result<(), Refusal>
+        requires { FitsObjectSet set }
+    {
+        *self = Datasets::new(alloc, meta_slabs, set)?;
         Ok(())
-    }
-
-    /// Makes a volume, a snapshot or a clone, overwrites a head, or destroys a dataset.
-    fn chain(&mut self, alloc: Global, call: &Call) -> Result<(), Refusal> {
-        let (changes, store) = (&mut self.datasets.changes, &mut self.objects.store);
-        let (number, group, mut left) = (call.object(0), self.objects.group, 0);
-        let numbers = NewNumbers {
-            dataset: call.object(1),
-            dead_list: call.object(2),
-        };
-        match call.verb {
-            "create" => Ok(create(changes, alloc, number, &record_of(call, born_in(1)))?),
-            "snapshot" => snapshot(changes, store, alloc, number, numbers, group),
-            "clone" => clone(changes, store, alloc, number, numbers, group),
-            "overwrite" => {
-                let (first, second) = (call.number(2).max(1), call.number(3).max(1));
-                let head = RewrittenHead {
-                    number,
-                    object_set: born_in(call.number(1).max(1)),
-                    left: Vec::from_array(alloc, [born_in(first), born_in(second)])?,
-                };
-                overwrite(changes, store, alloc, &head, &mut self.freed)
-            }
-            "destroy" => destroy(
-                changes,
-                store,
-                alloc,
-                number,
-                group,
-                &mut left,
-                &mut self.freed,
-            ),
-            _ => destroy_head(
-                changes,
-                store,
-                alloc,
-                number,
-                group,
-                &mut left,
-                &mut self.freed,
-            ),
-        }
-    }
-
-    /// Makes a volume `v`, or writes to one.
-    fn act(&mut self, alloc: Global, call: &Call) -> Result<(), Refusal> {
-        let group = call.number(0).max(1);
-        if call.verb == "write" {
-            let (changes, store) = (&mut self.datasets.changes, &mut self.objects.store);
-            let found = changes.record(store, alloc, call.number(1))?;
-            let heads = head_of(alloc, call, found.object_set)?;
-            return self
-                .datasets
-                .write_all(store, alloc, group, heads, &mut self.freed);
-        }
-        let actions = [Action {
-            writer: 1,
-            number: 1,
-            change: Change::Create {
-                name: Name::new(vec![in alloc; b'v'; 1]?),
-                size: call.number(1),
-                block_size: call.number(2),
-            },
-        }];
-        if self.datasets.next <= 4 || self.datasets.bounds.end > NUMBERS_END {
-            return Err(Refusal::BadConfig);
-        }
-        self.datasets
-            .act_all(&mut self.objects.store, alloc, group, &actions)
     }
 
     /// Stores what was made, as one group.
     fn commit(&mut self, alloc: Global) -> Result<(), Refusal> {
-        let Objects { set, group, .. } = self.objects;
-        let next = DatasetChanges::new(alloc, set, group);
+        let next = DatasetChanges::new(alloc, self.objects.set, self.objects.group);
         let made = mem::replace(&mut self.datasets.changes, next).into_changes(alloc)?;
-        let store = &mut self.objects.store;
-        store.drop_plan(group);
-        self.objects.set = stored(&self.objects.set, store, alloc, &made, group, group)?;
-        Ok(())
-    }
-
-    /// What stands in a record as the group leaves it so far, or of the datasets how many names there are and the next number.
-    fn found(&mut self, alloc: Global, call: &Call) -> Result<String, Fail> {
-        if call.verb == "names" {
-            let (names, next) = (self.datasets.directory.rows().len(), self.datasets.next);
-            return Ok(format!(in alloc; "{names} names next {next}")?);
-        }
-        let store = &mut self.objects.store;
-        match self.datasets.changes.record(store, alloc, call.number(0)) {
-            Ok(record) => Ok(record_text(alloc, &record)?),
-            Err(refusal) => Ok(format!(in alloc; "{refusal:?}")?),
-        }
+        self.objects.store_changes(alloc, &made)
     }
 
     pub(crate) fn answer(&mut self, alloc: Global, call: &Call) -> Result<String, Fail> {
+        let (number, group) = (call.number(0), self.objects.group);
+        self.freed.clear();
         let done = match call.verb {
-            "new" => {
-                *self = Datasets::new(alloc, 1, EMPTY)?;
-                Ok(())
-            }
-            "meta" => {
-                *self = Datasets::new(alloc, call.number(0).clamp(1, 12), META)?;
-                Ok(())
-            }
+            "new" => self.renew(alloc, 1, EMPTY),
+            "meta" => self.renew(alloc, number.clamp(1, 12), META),
             "begin" => {
                 let names = Directory::new(alloc);
-                self.datasets = GroupDatasets::new(alloc, self.objects.set, call.number(0), names);
+                self.datasets = GroupDatasets::new(alloc, self.objects.set, number, names);
                 Ok(())
             }
             "commit" => self.commit(alloc),
@@ -232,19 +235,27 @@ impl Datasets {
                 store_plan(&mut self.objects.store);
                 Ok(())
             }
-            "put" | "alter" | "list" | "add" | "move" | "free" => self.change(alloc, call),
-            "create" | "snapshot" | "clone" | "overwrite" | "destroy" | "destroy_head" => {
-                self.chain(alloc, call)
+            "put" | "alter" | "list" | "add" | "move" | "free" => {
+                change(&mut self.datasets.changes, &mut self.objects.store, alloc, call)
             }
-            "act" | "write" => self.act(alloc, call),
-            "names" | "record" => return self.found(alloc, call),
+            "create" | "snapshot" | "clone" | "overwrite" | "destroy" | "destroy_head" => {
+                let (changes, store) = (&mut self.datasets.changes, &mut self.objects.store);
+                chain(changes, store, alloc, call, group, &mut self.freed)
+            }
+            "act" | "write" => {
+                let (datasets, store) = (&mut self.datasets, &mut self.objects.store);
+                act(datasets, store, alloc, call, &mut self.freed)
+            }
+            "record" => {
+                let (changes, store) = (&mut self.datasets.changes, &mut self.objects.store);
+                return record_now(changes, store, alloc, number);
+            }
+            "names" => {
+                let (names, next) = (self.datasets.directory.rows().len(), self.datasets.next);
+                return Ok(format!(in alloc; "{names} names next {next}")?);
+            }
             _ => return self.objects.map_answer(alloc, call),
         };
-        let freed = mem::replace(&mut self.freed, Vec::new(alloc));
-        match done {
-            Ok(()) if freed.is_empty() => Ok(format!(in alloc; "ok")?),
-            Ok(()) => Ok(births(alloc, &freed)?),
-            Err(refusal) => Ok(format!(in alloc; "{refusal:?}")?),
-        }
+        outcome(alloc, done, &self.freed)
     }
 }

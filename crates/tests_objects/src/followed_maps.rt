@@ -108,20 +108,23 @@ impl Objects {
         Ok(changes.len())
     }
 
+    /// The same, and in how many metaslabs the maps before and behind the group differ from the store.
+    fn followed(&mut self, alloc: Global, next: u64) -> Result<String, Fail> {
+        let (before, group) = (self.set, self.group);
+        let changes = self.follow(alloc, next)?;
+        let old = differ(&before, &mut self.store, alloc, group)?;
+        let new = differ(&self.set, &mut self.store, alloc, self.group)?;
+        Ok(format!(in alloc; "{changes} changes {old} {new} differ")?)
+    }
+
     /// What comes of a call on the space maps. `follow` has a group, whose new maps have the numbers from this one on: how many changes of maps
     /// there are, and in how many metaslabs the maps before and behind the group differ from the store. `many` has so many groups, and `idle` plans
     /// one in which nothing is done. `differ` counts the metaslabs that differ, `reopen` opens the disks with no blocks known, and `load` loads the
     /// maps there.
     pub(crate) fn map_answer(&mut self, alloc: Global, call: &Call) -> Result<String, Fail> {
-        let (number, before) = (call.number(0), self.set);
+        let (number, group) = (call.number(0), self.group);
         let text = match call.verb {
-            "follow" => {
-                let group = self.group;
-                let changes = self.follow(alloc, number)?;
-                let old = differ(&before, &mut self.store, alloc, group)?;
-                let new = differ(&self.set, &mut self.store, alloc, self.group)?;
-                format!(in alloc; "{changes} changes {old} {new} differ")
-            }
+            "follow" => return self.followed(alloc, number),
             "many" => {
                 for _ in 0..number {
                     let next = self.group.saturating_add(1).saturating_mul(4);
@@ -130,15 +133,13 @@ impl Objects {
                 format!(in alloc; "group {}", self.group)
             }
             "idle" => {
-                let (group, none) = (self.group, Vec::new(alloc));
-                let changes = plan_maps(&before, &mut self.store, alloc, group, &[], none, number)?;
+                let (set, store, none) = (&self.set, &mut self.store, Vec::new(alloc));
+                let changes = plan_maps(set, store, alloc, group, &[], none, number)?;
                 format!(in alloc; "{} changes", changes.len())
             }
             "differ" => {
-                format!(in alloc;
-                    "{} differ",
-                    differ(&before, &mut self.store, alloc, self.group)?
-                )
+                let count = differ(&self.set, &mut self.store, alloc, group)?;
+                format!(in alloc; "{count} differ")
             }
             "reopen" => {
                 let store = mem::replace(&mut self.store, new_store(alloc, 1)?);
@@ -146,7 +147,7 @@ impl Objects {
                 format!(in alloc; "ok")
             }
             "load" => {
-                let maps = read_maps(&before, &mut self.store, alloc, self.group, &[])?;
+                let maps = read_maps(&self.set, &mut self.store, alloc, group, &[])?;
                 format!(in alloc; "{}", load_maps(&mut self.store, maps))
             }
             _ => return self.answer(alloc, call),

@@ -9,7 +9,7 @@ ghost use Rattle.pool_maps.specs.Plans.{AreOrdered};
 use crate::forms::{Forms, kind_of, whole_rows};
 use crate::lines::Call;
 use crate::samples::{born_in, record_of};
-use crate::texts::{births, record_text, told};
+use crate::texts::{births, record_text, runs_text, told};
 use block_pointer::{Block, BlockPtr};
 use block_store::{BlockStore, VdevConfig};
 use dead_list::DeadList;
@@ -58,14 +58,17 @@ pub(crate) struct Objects {
 }
 
 /// A store of one vdev of three disks, whose metaslabs of the meta region are so many: with twelve it has room for the blocks of many meta object sets.
-pub(crate) fn new_store(alloc: Global, meta_slabs: u64) -> Result<Store, Fail> {
+pub(crate) fn new_store(alloc: Global, meta_slabs: u64) -> Result<Store, Refusal> {
+    let Ok(geometry) = Geometry::new(3, 1, 9) else {
+        return Err(Refusal::BadConfig);
+    };
     let vdev = VdevConfig {
-        geometry: Geometry::new(3, 1, 9)?,
+        geometry,
         metaslab_shift: 12,
         meta_slabs,
     };
     let disks = MemDisk::several(alloc, 3, 16 << 20)?;
-    Ok(BlockStore::new(alloc, disks, &[vdev])?)
+    BlockStore::new(alloc, disks, &[vdev])
 }
 
 /// Makes the writes that are due, and takes the blocks of the plan as stored.
@@ -106,12 +109,12 @@ fn add(list: &mut DeadList, block: Block) -> Result<(), AllocError>
 }
 
 /// The ids of the blocks that a change writes.
-fn written(alloc: Global, change: &Change) -> Result<String, Fail> {
+fn written(alloc: Global, change: &Change) -> Result<String, AllocError> {
     let (name, writes) = match change {
-        Change::Create { writes, .. } => ("creates", writes.as_slice()),
-        Change::Put { writes } => ("puts", writes.as_slice()),
-        Change::Replace { writes } => ("replaces by", writes.as_slice()),
-        Change::Free => ("frees", [].as_slice()),
+        Change::Create { writes, .. } => ("creates", writes),
+        Change::Put { writes } => ("puts", writes),
+        Change::Replace { writes } => ("replaces by", writes),
+        Change::Free => return String::from_str(alloc, "frees"),
     };
     let mut text = String::from_str(alloc, name)?;
     for write in writes {
@@ -131,241 +134,266 @@ fn record_made(alloc: Global, call: &Call) -> Result<Change, Refusal>
     record_change(alloc, &record)
 }
 
-impl Objects {
-    /// What a call makes of a dead list of one block or two.
-    fn list_made(&mut self, alloc: Global, call: &Call) -> Result<Change, Fail>
-        ensures { IfOk result IsGoodChange }
-    {
-        let (first, second) = (
-            born_in(call.number(1).max(1)),
-            born_in(call.number(2).max(1)),
-        );
-        if call.verb == "extend" {
-            let (number, group) = (call.number(0), self.group);
-            let end = dead_list_objects::read_dead_list_end(
-                &self.set,
-                &mut self.store,
-                alloc,
-                number,
-                group,
-                &[],
-            )?;
-            return Ok(dead_list_objects::extension(alloc, &end, &[first, second])?);
-        }
-        let mut list = DeadList::new(alloc);
-        add(&mut list, first)?;
-        if call.numbers.len() > 2 {
-            add(&mut list, second)?;
-        }
-        if call.verb == "make" {
-            return Ok(dead_list_objects::creation(alloc, &list)?);
-        }
-        Ok(dead_list_objects::replacement(alloc, &list)?)
+/// What a call makes of a dead list of one block or two.
+fn list_made(
+    set: &ObjectSet,
+    store: &mut Store,
+    alloc: Global,
+    call: &Call,
+    group: u64,
+) -> Result<Change, Fail>
+    requires { FitsObjectSet set.now }
+    ensures { IfOk result IsGoodChange }
+{
+    let number = call.number(0);
+    let (first, second) = (born_in(call.number(1).max(1)), born_in(call.number(2).max(1)));
+    if call.verb == "extend" {
+        let end = dead_list_objects::read_dead_list_end(set, store, alloc, number, group, &[])?;
+        return Ok(dead_list_objects::extension(alloc, &end, &[first, second])?);
     }
-
-    /// What a call makes of the map of a metaslab of 64 sectors.
-    fn space_made(&mut self, alloc: Global, call: &Call) -> Result<Change, Fail>
-        ensures { IfOk result IsGoodChange }
-    {
-        if let Some(entries) = whole_rows(&SPACE_MAP_KIND, call) {
-            let (number, group) = (call.number(0), self.group);
-            let end = space_map_objects::read_map_end(
-                &self.set,
-                &mut self.store,
-                alloc,
-                number,
-                group,
-                &[],
-            )?;
-            return Ok(space_map_objects::extension(alloc, &end, entries)?);
-        }
-        let start = call.number(1).min(63);
-        let len = call.number(2).clamp(1, 64 - start);
-        let mut free = FreeSet::new(alloc, 64)?;
-        free.change(Kind::Allocated, Run { start, len })?;
-        if call.verb == "make" {
-            return Ok(space_map_objects::creation(alloc, &free)?);
-        }
-        Ok(space_map_objects::replacement(alloc, &free)?)
+    let mut list = DeadList::new(alloc);
+    add(&mut list, first)?;
+    if call.numbers.len() > 2 {
+        add(&mut list, second)?;
     }
+    if call.verb == "make" {
+        return Ok(dead_list_objects::creation(alloc, &list)?);
+    }
+    Ok(dead_list_objects::replacement(alloc, &list)?)
+}
 
-    /// What a call makes of a table of any kind, or the object of one `block` of its bytes.
-    fn table_made(&mut self, alloc: Global, call: &Call) -> Result<Change, Fail>
-        ensures { IfOk result IsGoodChange }
-    {
-        if call.kind == "block" && call.bytes.len() == 4096 {
-            let bytes = call.bytes.clone()?;
-            return Ok(Change::Create {
-                object_type: 211,
-                data_sectors: 8,
-                writes: vec![in alloc; BlockWrite { id: 0, bytes }]?,
-            });
+/// What a call makes of the map of a metaslab of 64 sectors.
+fn space_made(
+    set: &ObjectSet,
+    store: &mut Store,
+    alloc: Global,
+    call: &Call,
+    group: u64,
+) -> Result<Change, Fail>
+    requires { FitsObjectSet set.now }
+    ensures { IfOk result IsGoodChange }
+{
+    if let Some(entries) = whole_rows(&SPACE_MAP_KIND, call) {
+        let number = call.number(0);
+        let end = space_map_objects::read_map_end(set, store, alloc, number, group, &[])?;
+        return Ok(space_map_objects::extension(alloc, &end, entries)?);
+    }
+    let start = call.number(1).min(63);
+    let len = call.number(2).clamp(1, 64 - start);
+    let mut free = FreeSet::new(alloc, 64)?;
+    free.change(Kind::Allocated, Run { start, len })?;
+    if call.verb == "make" {
+        return Ok(space_map_objects::creation(alloc, &free)?);
+    }
+    Ok(space_map_objects::replacement(alloc, &free)?)
+}
+
+/// The change that makes an object of one block of these bytes.
+fn block_made(alloc: Global, bytes: &[u8; 4096]) -> Result<Change, AllocError>
+    ensures { IfOk result IsGoodChange }
+{
+    let block = BlockWrite {
+        id: 0,
+        bytes: Vec::from_slice(alloc, bytes)?,
+    };
+    Ok(Change::Create {
+        object_type: 211,
+        data_sectors: 8,
+        writes: vec![in alloc; block]?,
+    })
+}
+
+/// What a call makes of a table of any kind.
+fn table_made(
+    set: &ObjectSet,
+    store: &mut Store,
+    alloc: Global,
+    call: &Call,
+    group: u64,
+) -> Result<Change, Fail>
+    requires { FitsObjectSet set.now }
+    ensures { IfOk result IsGoodChange }
+{
+    let kind = kind_of(call.kind);
+    let Some(rows) = whole_rows(&kind, call) else {
+        return Err(Fail::new("no whole rows"));
+    };
+    let made = match call.verb {
+        "make" => object_table::creation(alloc, kind, rows),
+        "rewrite" => object_table::replacement(alloc, kind, rows),
+        _ => {
+            let number = call.number(0);
+            let end = object_table::read_end(set, store, alloc, kind, number, group, &[])?;
+            object_table::extension(alloc, kind, &end, rows)
         }
-        let kind = kind_of(call.kind);
-        let Some(rows) = whole_rows(&kind, call) else {
-            return Err(Fail::new("no whole rows"));
-        };
-        Ok(match call.verb {
-            "make" => object_table::creation(alloc, kind, rows)?,
-            "rewrite" => object_table::replacement(alloc, kind, rows)?,
-            _ => {
-                let (number, group) = (call.number(0), self.group);
-                let end = object_table::read_end(
-                    &self.set,
-                    &mut self.store,
-                    alloc,
-                    kind,
-                    number,
-                    group,
-                    &[],
-                )?;
-                object_table::extension(alloc, kind, &end, rows)?
+    };
+    Ok(made?)
+}
+
+/// What a call makes of one of the pool's tables, or of a configuration with no vdevs.
+fn form_made(
+    forms: &Forms,
+    alloc: Global,
+    call: &Call,
+) -> Result<Change, object_table::Refusal>
+    ensures { IfOk result IsGoodChange }
+{
+    let makes = call.verb == "make";
+    let config = Config {
+        vdevs: Vec::new(alloc),
+    };
+    match call.kind {
+        "names" if makes && forms.names.rows().len() < 1000 => forms.names.creation(alloc),
+        "names" if forms.names.rows().len() < 1000 => forms.names.replacement(alloc),
+        "spans" if makes && forms.spans.rows().len() < 1000 => forms.spans.creation(alloc),
+        "spans" if forms.spans.rows().len() < 1000 => forms.spans.replacement(alloc),
+        "maps" if makes && forms.maps.rows().len() < 1000 => forms.maps.creation(alloc),
+        "maps" if forms.maps.rows().len() < 1000 => forms.maps.replacement(alloc),
+        _ if makes => config_creation(alloc, &config),
+        _ => config_replacement(alloc, &config),
+    }
+}
+
+/// How many rows an object has by its end.
+fn rows_at_end(
+    set: &ObjectSet,
+    store: &mut Store,
+    alloc: Global,
+    call: &Call,
+    group: u64,
+) -> Result<String, Fail>
+    requires { FitsObjectSet set.now }
+{
+    let number = call.number(0);
+    let end = match call.kind {
+        "list" => dead_list_objects::read_dead_list_end(set, store, alloc, number, group, &[])?,
+        "space" => space_map_objects::read_map_end(set, store, alloc, number, group, &[])?,
+        kind => {
+            let kind = kind_of(kind);
+            match object_table::read_end(set, store, alloc, kind, number, group, &[]) {
+                Ok(end) => end,
+                Err(refusal) => return Ok(format!(in alloc; "{refusal:?}")?),
             }
-        })
-    }
+        }
+    };
+    Ok(format!(in alloc; "{} rows", end.rows)?)
+}
 
-    /// What a call makes of one of the pool's tables.
-    fn form_made(&self, alloc: Global, call: &Call) -> Result<Change, object_table::Refusal>
-        ensures { IfOk result IsGoodChange }
-    {
-        let forms = &self.forms;
-        let config = Config {
-            vdevs: Vec::new(alloc),
+/// What the dead list in an object has, or which runs the map in it leaves free.
+fn list_read(
+    set: &ObjectSet,
+    store: &mut Store,
+    alloc: Global,
+    call: &Call,
+    group: u64,
+) -> Result<String, Fail>
+    requires { FitsObjectSet set.now }
+{
+    let number = call.number(0);
+    if call.kind == "list" {
+        return match dead_list_objects::read_dead_list(set, store, alloc, number, group, &[]) {
+            Ok(list) => Ok(births(alloc, &list.into_blocks()?)?),
+            Err(refusal) => Ok(format!(in alloc; "{refusal:?}")?),
         };
-        match (call.verb, call.kind) {
-            ("make", "names") if forms.names.rows().len() < 1000 => forms.names.creation(alloc),
-            (_, "names") if forms.names.rows().len() < 1000 => forms.names.replacement(alloc),
-            ("make", "spans") if forms.spans.rows().len() < 1000 => forms.spans.creation(alloc),
-            (_, "spans") if forms.spans.rows().len() < 1000 => forms.spans.replacement(alloc),
-            ("make", "maps") if forms.maps.rows().len() < 1000 => forms.maps.creation(alloc),
-            (_, "maps") if forms.maps.rows().len() < 1000 => forms.maps.replacement(alloc),
-            ("make", _) => config_creation(alloc, &config),
-            _ => config_replacement(alloc, &config),
+    }
+    match space_map_objects::read_free_set(set, store, alloc, number, 64, group, &[]) {
+        Ok(free) => Ok(runs_text(alloc, free.runs())?),
+        Err(refusal) => Ok(format!(in alloc; "{refusal:?}")?),
+    }
+}
+
+/// What the pool's table in an object has, or the record in it.
+fn form_read(
+    set: &ObjectSet,
+    store: &mut Store,
+    forms: &mut Forms,
+    alloc: Global,
+    call: &Call,
+    group: u64,
+) -> Result<String, Refusal>
+    requires { FitsObjectSet set.now }
+{
+    let number = call.number(0);
+    match call.kind {
+        "names" => forms.names = read_directory(set, store, alloc, group, &[])?,
+        "spans" => forms.spans = read_stale_spans(set, store, alloc, group, &[])?,
+        "maps" => forms.maps = read_space_maps(set, store, alloc, group, &[])?,
+        "config" => {
+            let config = read_config(set, store, alloc, group, &[])?;
+            return Ok(format!(in alloc; "{} vdevs", config.vdevs.len())?);
+        }
+        "record" => {
+            let record = read_record(set, store, alloc, number, group, &[])?;
+            return Ok(record_text(alloc, &record)?);
+        }
+        kind => {
+            let rows = object_table::read(set, store, alloc, kind_of(kind), number, group, &[])?;
+            return Ok(told(alloc, &rows)?);
         }
     }
+    match forms.encoded(alloc, call) {
+        Ok(bytes) => Ok(told(alloc, &bytes)?),
+        Err(_) => Err(Refusal::NoMemory),
+    }
+}
 
+impl Objects {
     /// Changes an object.
     fn put(&mut self, alloc: Global, call: &Call) -> Result<String, Fail> {
-        let made = match call.kind {
-            "names" | "spans" | "maps" | "config" => self.form_made(alloc, call)?,
+        let (set, store, group) = (&self.set, &mut self.store, self.group);
+        let change = match call.kind {
+            "names" | "spans" | "maps" | "config" => form_made(&self.forms, alloc, call)?,
             "volume" => record_made(alloc, call)?,
-            "list" => self.list_made(alloc, call)?,
-            "space" => self.space_made(alloc, call)?,
-            _ => self.table_made(alloc, call)?,
+            "list" => list_made(set, store, alloc, call, group)?,
+            "space" => space_made(set, store, alloc, call, group)?,
+            "block" => match call.bytes.first_chunk::<4096>() {
+                Some(bytes) => block_made(alloc, bytes)?,
+                None => return Err(Fail::new("no whole block")),
+            },
+            _ => table_made(set, store, alloc, call, group)?,
         };
-        let text = written(alloc, &made)?;
+        let text = written(alloc, &change)?;
         let number = call.number(0).clamp(1, 1 << 39);
-        let changes = [ObjectChange {
-            number,
-            change: made,
-        }];
-        let group = self.group;
-        self.store.drop_plan(group);
-        self.set = stored(&self.set, &mut self.store, alloc, &changes, group, group)?;
+        self.store_changes(alloc, &[ObjectChange { number, change }])?;
         Ok(text)
     }
 
-    /// How many rows an object has by its end.
-    fn rows_at_end(&mut self, alloc: Global, call: &Call) -> Result<String, Fail> {
-        let (set, store) = (&self.set, &mut self.store);
-        let (number, group) = (call.number(0), self.group);
-        let end = match call.kind {
-            "list" => dead_list_objects::read_dead_list_end(set, store, alloc, number, group, &[])?,
-            "space" => space_map_objects::read_map_end(set, store, alloc, number, group, &[])?,
-            kind => match object_table::read_end(
-                set,
-                store,
-                alloc,
-                kind_of(kind),
-                number,
-                group,
-                &[],
-            ) {
-                Ok(end) => end,
-                Err(refusal) => return Ok(format!(in alloc; "{refusal:?}")?),
-            },
-        };
-        Ok(format!(in alloc; "{} rows", end.rows)?)
-    }
-
-    /// What the dead list in an object has, or which runs the map in it leaves free.
-    fn read_list(&mut self, alloc: Global, call: &Call) -> Result<String, Fail> {
-        let (set, store) = (&self.set, &mut self.store);
-        let (number, group) = (call.number(0), self.group);
-        if call.kind == "list" {
-            return match dead_list_objects::read_dead_list(set, store, alloc, number, group, &[]) {
-                Ok(list) => Ok(births(alloc, &list.into_blocks()?)?),
-                Err(refusal) => Ok(format!(in alloc; "{refusal:?}")?),
-            };
-        }
-        match space_map_objects::read_free_set(set, store, alloc, number, 64, group, &[]) {
-            Ok(free) => {
-                let mut text = format!(in alloc; "free")?;
-                for run in free.runs() {
-                    write!(text, " {},{}", run.start, run.len)?;
-                }
-                Ok(text)
-            }
-            Err(refusal) => Ok(format!(in alloc; "{refusal:?}")?),
-        }
-    }
-
-    /// What the pool's table in an object has, or the record in it.
-    fn read_form(&mut self, alloc: Global, call: &Call) -> Result<String, Refusal> {
-        let (set, store) = (&self.set, &mut self.store);
-        let (number, group) = (call.number(0), self.group);
-        match call.kind {
-            "names" => self.forms.names = read_directory(set, store, alloc, group, &[])?,
-            "spans" => self.forms.spans = read_stale_spans(set, store, alloc, group, &[])?,
-            "maps" => self.forms.maps = read_space_maps(set, store, alloc, group, &[])?,
-            "config" => {
-                let config = read_config(set, store, alloc, group, &[])?;
-                return Ok(format!(in alloc; "{} vdevs", config.vdevs.len())?);
-            }
-            "record" => {
-                let record = read_record(set, store, alloc, number, group, &[])?;
-                return Ok(record_text(alloc, &record)?);
-            }
-            kind => {
-                let rows = object_table::read(
-                    set,
-                    store,
-                    alloc,
-                    kind_of(kind),
-                    number,
-                    group,
-                    &[],
-                )?;
-                return Ok(told(alloc, &rows)?);
-            }
-        }
-        let bytes = match self.forms.encoded(alloc, call) {
-            Ok(bytes) => bytes,
-            Err(_) => return Err(Refusal::NoMemory),
-        };
-        Ok(told(alloc, &bytes)?)
+    /// Has the set with these changes, as the group's, in place of the set.
+    pub(crate) fn store_changes(
+        &mut self,
+        alloc: Global,
+        changes: &[ObjectChange],
+    ) -> Result<(), Refusal>
+        requires { AreOrdered changes.now }
+    {
+        self.store.drop_plan(self.group);
+        self.set = stored(&self.set, &mut self.store, alloc, changes, self.group, self.group)?;
+        Ok(())
     }
 
     pub(crate) fn answer(&mut self, alloc: Global, call: &Call) -> Result<String, Fail> {
+        let group = self.group;
         match (call.verb, call.kind) {
             ("empty", _) => {
                 self.forms = Forms::new(alloc);
                 self.set = EMPTY;
                 self.group = 1;
-                Ok(format!(in alloc; "ok")?)
             }
-            ("group", _) => {
-                self.group = call.number(0).max(1);
-                Ok(format!(in alloc; "ok")?)
+            ("group", _) => self.group = call.number(0).max(1),
+            ("make" | "rewrite" | "extend", _) => return self.put(alloc, call),
+            ("end", _) => return rows_at_end(&self.set, &mut self.store, alloc, call, group),
+            ("read", "list" | "space") => {
+                return list_read(&self.set, &mut self.store, alloc, call, group);
             }
-            ("make" | "rewrite" | "extend", _) => self.put(alloc, call),
-            ("end", _) => self.rows_at_end(alloc, call),
-            ("read", "list" | "space") => self.read_list(alloc, call),
-            ("read", _) => match self.read_form(alloc, call) {
-                Ok(text) => Ok(text),
-                Err(refusal) => Ok(format!(in alloc; "{refusal:?}")?),
-            },
-            _ => self.forms.answer(alloc, call),
+            ("read", _) => {
+                let (set, store) = (&self.set, &mut self.store);
+                return match form_read(set, store, &mut self.forms, alloc, call, group) {
+                    Ok(text) => Ok(text),
+                    Err(refusal) => Ok(format!(in alloc; "{refusal:?}")?),
+                };
+            }
+            _ => return self.forms.answer(alloc, call),
         }
+        Ok(format!(in alloc; "ok")?)
     }
 }

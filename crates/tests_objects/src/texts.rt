@@ -2,6 +2,7 @@
 use crate::samples::born_in;
 use block_pointer::Block;
 use meta_objset::{DatasetKind, DatasetRecord};
+use space_map::Run;
 use std::alloc::{AllocError, Global};
 
 /// Bytes in hexadecimal, and of equal ones how many they are: `02 00*31`.
@@ -40,6 +41,15 @@ pub(crate) fn births(alloc: Global, blocks: &[Block]) -> Result<String, AllocErr
     }
     if others > 0 {
         write!(text, ", {others} others")?;
+    }
+    Ok(text)
+}
+
+/// The runs that a map leaves free.
+pub(crate) fn runs_text(alloc: Global, runs: &[Run]) -> Result<String, AllocError> {
+    let mut text = format!(in alloc; "free")?;
+    for run in runs {
+        write!(text, " {},{}", run.start, run.len)?;
     }
     Ok(text)
 }
