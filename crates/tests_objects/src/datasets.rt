@@ -236,7 +236,12 @@ impl Datasets {
                 Ok(())
             }
             "put" | "alter" | "list" | "add" | "move" | "free" => {
-                change(&mut self.datasets.changes, &mut self.objects.store, alloc, call)
+                change(
+                    &mut self.datasets.changes,
+                    &mut self.objects.store,
+                    alloc,
+                    call,
+                )
             }
             "create" | "snapshot" | "clone" | "overwrite" | "destroy" | "destroy_head" => {
                 let (changes, store) = (&mut self.datasets.changes, &mut self.objects.store);

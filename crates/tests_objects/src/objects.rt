@@ -146,7 +146,10 @@ fn list_made(
     ensures { IfOk result IsGoodChange }
 {
     let number = call.number(0);
-    let (first, second) = (born_in(call.number(1).max(1)), born_in(call.number(2).max(1)));
+    let (first, second) = (
+        born_in(call.number(1).max(1)),
+        born_in(call.number(2).max(1)),
+    );
     if call.verb == "extend" {
         let end = dead_list_objects::read_dead_list_end(set, store, alloc, number, group, &[])?;
         return Ok(dead_list_objects::extension(alloc, &end, &[first, second])?);
@@ -231,11 +234,7 @@ fn table_made(
 }
 
 /// What a call makes of one of the pool's tables, or of a configuration with no vdevs.
-fn form_made(
-    forms: &Forms,
-    alloc: Global,
-    call: &Call,
-) -> Result<Change, object_table::Refusal>
+fn form_made(forms: &Forms, alloc: Global, call: &Call) -> Result<Change, object_table::Refusal>
     ensures { IfOk result IsGoodChange }
 {
     let makes = call.verb == "make";
@@ -338,22 +337,29 @@ fn form_read(
 }
 
 impl Objects {
+    /// What a call makes of an object.
+    fn made(&mut self, alloc: Global, call: &Call) -> Result<Change, Fail>
+        ensures { IfOk result IsGoodChange }
+    {
+        let group = self.group;
+        match call.kind {
+            "names" | "spans" | "maps" | "config" => Ok(form_made(&self.forms, alloc, call)?),
+            "volume" => Ok(record_made(alloc, call)?),
+            "list" => list_made(&self.set, &mut self.store, alloc, call, group),
+            "space" => space_made(&self.set, &mut self.store, alloc, call, group),
+            "block" => match call.bytes.first_chunk::<4096>() {
+                Some(bytes) => Ok(block_made(alloc, bytes)?),
+                None => Err(Fail::new("no whole block")),
+            },
+            _ => table_made(&self.set, &mut self.store, alloc, call, group),
+        }
+    }
+
     /// Changes an object.
     fn put(&mut self, alloc: Global, call: &Call) -> Result<String, Fail> {
-        let (set, store, group) = (&self.set, &mut self.store, self.group);
-        let change = match call.kind {
-            "names" | "spans" | "maps" | "config" => form_made(&self.forms, alloc, call)?,
-            "volume" => record_made(alloc, call)?,
-            "list" => list_made(set, store, alloc, call, group)?,
-            "space" => space_made(set, store, alloc, call, group)?,
-            "block" => match call.bytes.first_chunk::<4096>() {
-                Some(bytes) => block_made(alloc, bytes)?,
-                None => return Err(Fail::new("no whole block")),
-            },
-            _ => table_made(set, store, alloc, call, group)?,
-        };
-        let text = written(alloc, &change)?;
         let number = call.number(0).clamp(1, 1 << 39);
+        let change = self.made(alloc, call)?;
+        let text = written(alloc, &change)?;
         self.store_changes(alloc, &[ObjectChange { number, change }])?;
         Ok(text)
     }
@@ -367,7 +373,14 @@ impl Objects {
         requires { AreOrdered changes.now }
     {
         self.store.drop_plan(self.group);
-        self.set = stored(&self.set, &mut self.store, alloc, changes, self.group, self.group)?;
+        self.set = stored(
+            &self.set,
+            &mut self.store,
+            alloc,
+            changes,
+            self.group,
+            self.group,
+        )?;
         Ok(())
     }
 
