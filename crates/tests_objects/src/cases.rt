@@ -5,8 +5,11 @@ use crate::objects::EMPTY;
 use std::alloc::Global;
 use std::test::Fail;
 
+/// A table without lines.
+pub(crate) const NO_MORE: &[(&str, &str)] = &[];
+
 /// Tables as the bytes of whole blocks.
-const FORMS: &[(&str, &str)] = &[
+pub(crate) const FORMS: &[(&str, &str)] = &[
     // Rows are read as they were written. Then a number of rows below theirs, one that has no room, and a byte other than zero
     // in the first row and behind the last.
     (
@@ -56,7 +59,7 @@ const FORMS: &[(&str, &str)] = &[
 ];
 
 /// Objects that one group makes and the next one writes anew or lengthens, and what is read of them then.
-const OBJECTS: &[(&str, &str)] = &[
+pub(crate) const OBJECTS: &[(&str, &str)] = &[
     // A table of 300 rows, which are written anew by two.
     (
         "empty; make short 5 =07*9600; read short 5; group 2; rewrite short 5 =08*64; read short 5",
@@ -171,7 +174,7 @@ const OBJECTS: &[(&str, &str)] = &[
 ];
 
 /// Space maps that follow what groups plan and give back.
-const FOLLOWED: &[(&str, &str)] = &[
+pub(crate) const FOLLOWED: &[(&str, &str)] = &[
     // The second group gives back the block that the first one planned. A plan of nothing has no changes. The maps are loaded in a store that
     // knows no blocks, and not once more.
     (
@@ -187,7 +190,7 @@ const FOLLOWED: &[(&str, &str)] = &[
 ];
 
 /// Records and dead lists that groups change.
-const DATASETS: &[(&str, &str)] = &[
+pub(crate) const DATASETS: &[(&str, &str)] = &[
     // A record and a list of a block are made; they are changed, and others are made beside them; the first list takes the place of the
     // other one, and the first record goes.
     (
@@ -275,25 +278,11 @@ fn wrong_lines<R: Eprint>(
 }
 
 /// Those of two tables, of which the first begins with a new store.
-fn wrong_of<R: Eprint>(
+pub(crate) fn wrong_of<R: Eprint>(
     rt: &R,
     alloc: Global,
     tables: [&[(&str, &str)]; 2],
 ) -> Result<String, Fail> {
     let mut bench = Datasets::new(alloc, 1, EMPTY)?;
     wrong_lines(rt, alloc, &mut bench, tables)
-}
-
-#[test]
-fn tables_are_read_as_they_were_written(rt: HostRuntime) -> Result<(), Fail> {
-    let wrong = wrong_of(&rt, rt.alloc(), [FORMS, OBJECTS])?;
-    assert!(rt; wrong.is_empty(), "{wrong}");
-    Ok(())
-}
-
-#[test]
-fn groups_leave_what_they_made(rt: HostRuntime) -> Result<(), Fail> {
-    let wrong = wrong_of(&rt, rt.alloc(), [DATASETS, FOLLOWED])?;
-    assert!(rt; wrong.is_empty(), "{wrong}");
-    Ok(())
 }

@@ -4,6 +4,7 @@ ghost use Rattle.std.specs.Prelude.{All, IfOk};
 ghost use Rattle.dnode.specs.ObjectSet.{FitsObjectSet};
 ghost use Rattle.dataset_groups.specs.Writing.{FitsHead};
 
+use crate::cases::{DATASETS, NO_MORE, wrong_of};
 use crate::forms::Forms;
 use crate::lines::Call;
 use crate::objects::{EMPTY, Objects, Store, new_store, store_plan};
@@ -263,4 +264,11 @@ impl Datasets {
         };
         outcome(alloc, done, &self.freed)
     }
+}
+
+#[test]
+fn groups_leave_what_they_made(rt: HostRuntime) -> Result<(), Fail> {
+    let wrong = wrong_of(&rt, rt.alloc(), [DATASETS, NO_MORE])?;
+    assert!(rt; wrong.is_empty(), "{wrong}");
+    Ok(())
 }

@@ -2,6 +2,7 @@
 ghost use Rattle.std.specs.Prelude.{◌<◌};
 ghost use Rattle.dnode.specs.ObjectSet.{FitsObjectSet};
 
+use crate::cases::{FOLLOWED, NO_MORE, wrong_of};
 use crate::lines::Call;
 use crate::objects::{Objects, Store, new_store, stored};
 use block_pointer::{Block, Property};
@@ -154,4 +155,11 @@ impl Objects {
         };
         Ok(text?)
     }
+}
+
+#[test]
+fn maps_follow_what_groups_take(rt: HostRuntime) -> Result<(), Fail> {
+    let wrong = wrong_of(&rt, rt.alloc(), [FOLLOWED, NO_MORE])?;
+    assert!(rt; wrong.is_empty(), "{wrong}");
+    Ok(())
 }

@@ -2,6 +2,7 @@
 ghost use Rattle.std.specs.Prelude.{◌*◌, ◌/◌, ◌^◌, ◌<◌, length, IfSome};
 ghost use Rattle.object_table.specs.Shape.{AreRows, FitsShape};
 
+use crate::cases::{FORMS, OBJECTS, wrong_of};
 use crate::lines::Call;
 use crate::texts::told;
 use dead_list_objects::DEAD_LIST_KIND;
@@ -190,4 +191,11 @@ impl Forms {
             Err(refusal) => Ok(format!(in alloc; "{refusal:?}")?),
         }
     }
+}
+
+#[test]
+fn tables_are_read_as_they_were_written(rt: HostRuntime) -> Result<(), Fail> {
+    let wrong = wrong_of(&rt, rt.alloc(), [FORMS, OBJECTS])?;
+    assert!(rt; wrong.is_empty(), "{wrong}");
+    Ok(())
 }
