@@ -20,7 +20,7 @@ struct ShelvedDisk {
 #[derive(Drop)]
 pub(crate) struct Shelf {
     disks: Vec<ShelvedDisk>,
-    pub(crate) faults: [Fault; 3],
+    faults: [Fault; 3],
     moments: Moments,
 }
 
@@ -46,6 +46,11 @@ impl Shelf {
         }
         shelf.faults = faults;
         Ok(shelf)
+    }
+
+    /// From now on none fails.
+    pub(crate) fn mend(&mut self) {
+        self.faults = [NEVER; 3];
     }
 
     fn place_of(&self, name: &str) -> Option<usize> {

@@ -92,7 +92,7 @@ fn tried_on(
         shelf: base.shelf.copied(alloc, faults)?,
     };
     let first = run(alloc, &mut pools, tried.0, tried.1)?;
-    pools.shelf.faults = [NEVER; 3];
+    pools.shelf.mend();
     let next = run(alloc, &mut pools, next, (0, 0))?;
     Ok(Came {
         moment,
