@@ -11,7 +11,7 @@ use Rattle.stale_disks.specs.Rules.{AreSpansWithout, guids_in}
 use Rattle.uberblock_ring.specs.declared.uberblock.Uberblock.{Uberblock}
 use Rattle.vdev_label.specs.Plain.{config_view}
 use Rattle.vdev_label.specs.declared.label.Config.{Config}
-use Rattle.pool_scrub.specs.Scrubbing.{ClearsWhole, IsBegunAgain, IsNotBegunAgain}
+use Rattle.pool_scrub.specs.Scrubbing.{ClearsWhole, IsBegunAgain, IsNotBegunAgain, IsOneForEach}
 use Rattle.pool_scrub.specs.declared.scrubbing.Looked.{Looked}
 use Rattle.pool_scrub.specs.declared.walking.PoolLayout.{PoolLayout}
 
@@ -21,8 +21,9 @@ guids_of config = guids_in (config_view config)
 -- what is begun by a layout's lists
 pub begun : (mid : Disks) (layout : PoolLayout) (u : Uberblock) (config its : Config) (known spans : List StaleSpan) (looked : Looked) (core : CoreState)
     (shapes : List VdevShape) (out whole : List Bool) → shapes ≡ layout.shapes.items → out ≡ layout.out.items → whole ≡ looked.whole.items → its ≡ config
-    → AreSpansWithout (guids_of config) whole known spans → IsCoreAgain mid shapes out u its spans core → IsBegunAgain mid layout u config known looked core
-begun mid layout u config its known spans looked core shapes out whole of_shapes of_out of_whole of_config are is =
+    → AreSpansWithout (guids_of config) whole known spans → IsOneForEach known → IsCoreAgain mid shapes out u its spans core
+    → IsBegunAgain mid layout u config known looked core
+begun mid layout u config its known spans looked core shapes out whole of_shapes of_out of_whole of_config are once is =
     let by_shapes = subst (λ (them : List VdevShape). IsCoreAgain mid them out u its spans core) of_shapes is in
     let by_out = subst (λ (them : List Bool). IsCoreAgain mid layout.shapes.items them u its spans core) of_out by_shapes in
     let by_config = subst (λ (c : Config). IsCoreAgain mid layout.shapes.items layout.out.items u c spans core) of_config by_out in
@@ -31,6 +32,7 @@ begun mid layout u config its known spans looked core shapes out whole of_shapes
       cleared =
           subst (λ (them : List StaleSpan). AreSpansWithout (guids_of config) looked.whole.items known them) (sym is.spans_are)
           (subst (λ (them : List Bool). AreSpansWithout (guids_of config) them known spans) of_whole are);
+      once = once;
     }
 
 pub not_begun : (mid : Disks) (layout : PoolLayout) (u : Uberblock) (config its : Config) (known spans : List StaleSpan) (looked : Looked) (new : Disks)
@@ -59,7 +61,11 @@ pub begun_alike : (mid : Disks) (layout : PoolLayout) (u : Uberblock) (config it
     → its ≡ config → AreSameSpans known own → IsBegunAgain mid layout u its own looked core → IsBegunAgain mid layout u config known looked core
 begun_alike mid layout u config its known own looked core of_config same is =
     let it = subst (λ (c : Config). IsBegunAgain mid layout u c own looked core) of_config is in
-    record { again = it.again; cleared = clears_alike config looked known own (spans_of core) same it.cleared }
+    record {
+      again = it.again;
+      cleared = clears_alike config looked known own (spans_of core) same it.cleared;
+      once = λ span other held held'. it.once span other ((same span).1 held) ((same other).1 held');
+    }
 
 pub not_begun_alike : (mid : Disks) (layout : PoolLayout) (u : Uberblock) (config its : Config) (known own : List StaleSpan) (looked : Looked) (new : Disks)
     (refusal : Refusal) → its ≡ config → AreSameSpans known own → IsNotBegunAgain mid layout u its own looked new refusal

@@ -1,11 +1,8 @@
 -- What a pool goes on with behind a scrub.
-use Rattle.std.proofs.Common.{ℕ, ◌≡◌, ◌++◌, inl, inr, Bool, true, false, Option, List, [], length, Contains, replicate, refl, sym, ap, subst, ◌∙◌, arith}
-use Rattle.std.proofs.lemmas.List.Elements.{Contains-append_cases, Contains-append_left, Contains-append_right}
+use Rattle.std.proofs.Common.{ℕ, ◌≡◌, Bool, true, false, List, [], length, Contains, replicate, refl, sym, ap, subst, ◌∙◌, arith}
 use Rattle.block_pointer.specs.declared.block.Block.{Block}
-use Rattle.block_pointer.specs.Copies.{dvas}
 use Rattle.block_store.specs.Blocks.{Contents}
-use Rattle.block_store.specs.Store.{Store, Holds, is_out, is_stale, lost, outs, outs_from}
-use Rattle.disk_set.specs.declared.stale.GroupSpan.{GroupSpan}
+use Rattle.block_store.specs.Store.{Store, Holds, is_out, is_stale, lost, outs_from}
 use Rattle.model_disk.specs.Joint.{Disks, content}
 use Rattle.pool_model.specs.Pools.{PlainPool}
 use Rattle.pool_open.specs.CoreState.{CoreState, config_of, disks_of, spans_of}
@@ -23,12 +20,13 @@ use Rattle.uberblock_ring.specs.declared.uberblock.Uberblock.{Uberblock}
 use Rattle.vdev_label.specs.Plain.{config_view}
 use Rattle.vdev_label.specs.declared.label.Config.{Config}
 use Rattle.pool_scrub.specs.Counting.{IsClean}
-use Rattle.pool_scrub.specs.Laws.{CleanScrubsGoOnWhole, HasPoolOn, HoldOnLeft, IsCleanEnd, NonePresentIsStale, NoWholeIsStale, ScrubsGoOn, StandAlone, disks_left}
+use Rattle.pool_model.specs.View.{opened_as}
+use Rattle.pool_open.specs.Represents.{Represents}
+use Rattle.pool_open.specs.Words.{vdevs_in}
+use Rattle.pool_scrub.specs.Laws.{CleanScrubsGoOnWhole, HasPoolOn, IsCleanEnd, NonePresentIsStale, NoWholeIsStale, StandAlone}
 use Rattle.pool_scrub.specs.Scrubbing.{IsScrubbedOver}
-use Rattle.pool_scrub.specs.declared.healing.Healed.{Healed}
 use Rattle.pool_scrub.specs.declared.scrubbing.ScrubCounts.{ScrubCounts}
-use Rattle.pool_scrub.specs.declared.walking.PoolLayout.{PoolLayout}
-use Rattle.pool_scrub.proofs.Left.{disk_among, finding_of, out_among, stands_on_left}
+use Rattle.pool_scrub.proofs.Left.{out_among}
 use Rattle.pool_scrub.proofs.Whole.{Grew, contained_at, copy_on, grew_by_reads, grew_on, healed_grew, honest_part, last_look, no_calls, out_is_lost, stands_without, whole_missed_none}
 
 never : (b : Bool) → b ≡ true → b ≡ false → ⊥
@@ -65,23 +63,21 @@ none_stale before core u counts is clean disk birth within there =
 -- ---- what stands
 
 -- each call up to the last look, and what it was
-looked_grew : (before core : CoreState) (u : Uberblock) (counts : ScrubCounts) (is : IsScrubbedOver before u core counts) → Grew (disks_of before) is.mid
+pub looked_grew : (before core : CoreState) (u : Uberblock) (counts : ScrubCounts) (is : IsScrubbedOver before u core counts) → Grew (disks_of before) is.mid
 looked_grew before core u counts is =
     let it = is.looked_is in
     grew_on (disks_of before) it.mid is.mid (grew_by_reads (disks_of before) it.mid it.walked.reads)
     (healed_grew is.layout.shapes.items it.blocks (outs_from 0 is.layout.out.items) it.mid is.mid is.looked.healed it.healed)
 
-pub held_behind : CheckedBlocksStand → (before core : CoreState) (u : Uberblock) (counts : ScrubCounts) (stored : Contents) (pool : PlainPool)
-    → (is : IsScrubbedOver before u core counts) → HasPoolOn before is.layout u stored pool
-    → StandAlone is.mid is.layout (outs_from 0 is.layout.out.items ++ disks_left is.looked.healed) stored
-    → HoldOnLeft is.mid is.layout (disks_left is.looked.healed) core.commit.store.spans.stale stored → IsHonestSince (disks_of before) (disks_of core)
+held_clean : CheckedBlocksStand → (before core : CoreState) (u : Uberblock) (counts : ScrubCounts) (stored : Contents) (pool : PlainPool)
+    → (is : IsScrubbedOver before u core counts) → IsCleanEnd is.layout.out.items is.looked.healed → HasPoolOn before is.layout u stored pool
+    → StandAlone is.mid is.layout stored → IsHonestSince (disks_of before) (disks_of core)
     → HoldOver is.mid is.layout.shapes.items is.layout.out.items core.commit.store.spans.stale stored
-held_behind law before core u counts stored pool is has known on_left honest store over =
+held_clean law before core u counts stored pool is clean has known honest store over =
     let it = is.looked_is in
     let shapes = is.layout.shapes.items in
     let out = is.layout.out.items in
     let missing = outs_from 0 out in
-    let left = disks_left is.looked.healed in
     let grew = looked_grew before core u counts is in
     let rest = grew_by_reads is.mid (disks_of core) is.begun.again.reads.only in
     let look = last_look shapes it.blocks missing it.mid is.mid is.looked.healed it.healed in
@@ -107,81 +103,37 @@ held_behind law before core u counts stored pool is has known on_left honest sto
           copy_on store.spaces shapes block i extent over.shapes_are (held.places block bytes is_stored) copy in
           let digest : sha256 bytes ≡ block.checksum = (held.blocks block bytes is_stored).digest in
           let (right, is_right, again) =
-          law shapes look.from is.mid missing (missing ++ left) it.blocks is.looked.healed.left.items look.checked look.reads
+          law shapes look.from is.mid missing missing it.blocks is.looked.healed.left.items look.checked look.reads
           (honest_part (disks_of before) look.from is.mid (disks_of core) (grew_on (disks_of before) it.mid look.from walked look.before) rest honest)
-          (λ one found. Contains-append_right missing left one.disk (disk_among is.looked.healed.left.items one found))
+          (λ one found. out_among out one.disk (clean.left one found))
           block bytes (subst (λ (them : List Block). Contains them block) (sym blocks) (has.reached block bytes is_stored)) digest in
-          let found : ExtentStands (content is.mid) (missing ++ left) extent right =
+          let found : ExtentStands (content is.mid) missing extent right =
           again i extent (content (disks_of before)) (lost first block.birth) on (held.stand block bytes i extent is_stored copy)
           (known.known block bytes i extent is_stored on) in
-          let stands : ExtentStands (content is.mid) (missing ++ left) extent bytes =
-          subst (λ (b : List ℕ). ExtentStands (content is.mid) (missing ++ left) extent b) (known.alone block bytes right i extent is_stored on found is_right) found in
-          let outs_are : outs store ≡ missing = ap (λ (marks : List Bool). outs_from 0 marks) over.out_is in
-          let lost_out : (disk : ℕ) → Contains missing disk → Contains (lost store block.birth) disk =
-          λ disk gone. out_is_lost store out (length is.mid.starts) block.birth disk over.out_is over.since gone in
+          let stands : ExtentStands (content is.mid) missing extent bytes =
+          subst (λ (b : List ℕ). ExtentStands (content is.mid) missing extent b) (known.alone block bytes right i extent is_stored on found is_right) found in
           subst (λ (d : Disks). ExtentStands (content d) (lost store block.birth) extent bytes) (sym over.disks_are)
-          (stands_on_left (content is.mid) store left block.birth extent bytes
-          (λ disk marked. lost_out disk (out_among out disk (subst (λ (marks : List Bool). is_out marks disk ≡ true) over.out_is marked)))
-          (λ disk gone. lost_out disk (subst (λ (them : List ℕ). Contains them disk) outs_are gone))
-          (subst (λ (them : List ℕ). ExtentStands (content is.mid) (them ++ left) extent bytes) (sym outs_are) stands)
-          (λ disk at part layout columns is_layout are_bytes is_column among_left there fresh.
-          on_left block bytes on.place disk at part is_stored (contained_at (dvas block.copies) i on.place on.is_copy)
-          (record {
-            extent = extent;
-            extent_is = on.extent_is;
-            layout = layout;
-            columns = columns;
-            is_layout = is_layout;
-            are_bytes = are_bytes;
-            is_column = is_column;
-          })
-          among_left (subst (λ (marks : List Bool). is_out marks disk ≡ false) over.out_is there)
-          (subst (λ (spans : List (Option GroupSpan)). is_stale spans disk block.birth ≡ false) over.stale_is fresh)));
+          (stands_without (content is.mid) missing (lost store block.birth) extent bytes
+          (λ disk gone. out_is_lost store out (length is.mid.starts) block.birth disk over.out_is over.since gone) stands);
     }
 
 -- ---- the core
 
-pub goes_on : CheckedBlocksStand → ScrubsGoOn
-goes_on law before core u counts stored pool is has known on_left honest =
-    let rest = grew_by_reads is.mid (disks_of core) is.begun.again.reads.only in (
-      is.begun.again.represents stored pool (held_behind law before core u counts stored pool is has known on_left honest) has.spells has.configured
-          (subst (λ (config : Config). IsStampOf (config_view config) u.claim (stamp_of u)) (sym is.begun.again.configured) has.named)
-          (honest_part (disks_of before) is.mid (disks_of core) (disks_of core) (looked_grew before core u counts is) (no_calls (disks_of core)) honest)
-          has.made,
-      none_whole_stale before core u counts is,
-    )
+pub represents_behind : (before core : CoreState) (u : Uberblock) (counts : ScrubCounts) (stored : Contents) (pool : PlainPool)
+    → (is : IsScrubbedOver before u core counts) → HasPoolOn before is.layout u stored pool → IsHonestSince (disks_of before) (disks_of core)
+    → HoldOver is.mid is.layout.shapes.items is.layout.out.items core.commit.store.spans.stale stored
+    → Represents core (opened_as (vdevs_in is.layout.shapes.items) (is_out is.layout.out.items) (is_stale core.commit.store.spans.stale) u.group pool)
+represents_behind before core u counts stored pool is has honest hold =
+    let rest = grew_by_reads is.mid (disks_of core) is.begun.again.reads.only in
+    is.begun.again.represents stored pool hold has.spells has.configured
+    (subst (λ (config : Config). IsStampOf (config_view config) u.claim (stamp_of u)) (sym is.begun.again.configured) has.named)
+    (honest_part (disks_of before) is.mid (disks_of core) (disks_of core) (looked_grew before core u counts is) (no_calls (disks_of core)) honest)
+    has.made
 
 -- ---- clean ends
 
--- each disk of which something is left is out
-left_out : (out : List Bool) (healed : Healed) (disk : ℕ) → IsCleanEnd out healed → Contains (disks_left healed) disk → is_out out disk ≡ true
-left_out out healed disk clean held =
-    let (one, found, same) = finding_of healed.left.items disk held in
-    subst (λ (d : ℕ). is_out out d ≡ true) same (clean.left one found)
-
--- so that no more disks are left aside
-alone_too : (mid : Disks) (layout : PoolLayout) (healed : Healed) (stored : Contents) → IsCleanEnd layout.out.items healed
-    → StandAlone mid layout (outs_from 0 layout.out.items) stored → StandAlone mid layout (outs_from 0 layout.out.items ++ disks_left healed) stored
-alone_too mid layout healed stored clean alone =
-    let missing = outs_from 0 layout.out.items in
-    let left = disks_left healed in
-    record {
-      known = λ block bytes i extent is_stored on disk at there of.
-          alone.known block bytes i extent is_stored on disk at (λ held. there (Contains-append_left missing left disk held)) of;
-      alone = λ block bytes others i extent is_stored on stands digest.
-          alone.alone block bytes others i extent is_stored on
-          (stands_without (content mid) (missing ++ left) missing extent others
-          (λ disk held. elim (Contains-append_cases missing left disk held) [
-            | inl is ↦ is
-            | inr is ↦ out_among layout.out.items disk (left_out layout.out.items healed disk clean is)
-          ]) stands)
-          digest;
-    }
-
-pub clean_goes_on : ScrubsGoOn → CleanScrubsGoOnWhole
+pub clean_goes_on : CheckedBlocksStand → CleanScrubsGoOnWhole
 clean_goes_on law before core u counts stored pool is clean has known honest = (
-  (law before core u counts stored pool is has (alone_too is.mid is.layout is.looked.healed stored clean known)
-      (λ block bytes place disk at part is_stored held is_column among_left there fresh.
-      absurd (never (is_out is.layout.out.items disk) (left_out is.layout.out.items is.looked.healed disk clean among_left) there)) honest).0,
+  represents_behind before core u counts stored pool is has honest (held_clean law before core u counts stored pool is clean has known honest),
   none_stale before core u counts is clean,
 )

@@ -1,16 +1,12 @@
--- What stands where something is left to be mended of some disks.
-use Rattle.std.proofs.Common.{ℕ, zero, suc, ◌≡◌, ◌≢◌, ◌⊎◌, ◌+◌, inl, inr, Bool, true, false, Option, List, [], ◌∷◌, ◌++◌, map, Contains, refl, sym, ap, subst, arith, if◌then◌else◌}
+-- Disks of which something is left to be mended, and disks that are lost for a block.
+use Rattle.std.proofs.Common.{ℕ, zero, suc, ◌≡◌, ◌⊎◌, ◌+◌, inl, inr, Bool, true, false, Option, List, [], ◌∷◌, ◌++◌, map, replicate, Contains, refl, sym, ap, subst, arith, if◌then◌else◌}
 use Rattle.std.proofs.lemmas.List.Elements.{Contains-append_cases, Contains-append_right}
 use Rattle.block_store.specs.Store.{Store, is_out, is_stale, lost, missed, outs, outs_from, stale_from}
 use Rattle.disk_set.specs.Outs.{is_in}
 use Rattle.disk_set.specs.declared.stale.GroupSpan.{GroupSpan}
-use Rattle.raidz_map.specs.declared.column.Column.{Column}
-use Rattle.raidz_parity.specs.Layout.{Block as ColumnsOf}
-use Rattle.raidz_io.specs.declared.vdev.Extent.{Extent}
-use Rattle.raidz_io.specs.Places.{Content, Stands, disk_of, offset_of}
-use Rattle.raidz_io.specs.Stands.{AreBytesOf, ExtentStands, IsLayout, all_columns}
-use Rattle.scrub_resilver.specs.Mending.{IsColumnIn}
 use Rattle.scrub_resilver.specs.declared.fault.Finding.{Finding}
+use Rattle.pool_scrub.proofs.Whole.{kept_all}
+use Rattle.pool_scrub.specs.declared.healing.Healed.{Healed}
 
 pub either : (b : Bool) → (b ≡ true) ⊎ (b ≡ false)
 either true = inl refl
@@ -28,20 +24,11 @@ first_or_later : (x : ℕ) (xs : List ℕ) (y : ℕ) → Contains (x ∷ xs) y �
 first_or_later x xs y (zero, within, is) = inl (sym is)
 first_or_later x xs y (suc k, within, is) = inr (k, omega (arith, within), is)
 
-same_or_not : (a b : ℕ) → (a ≡ b) ⊎ (a ≢ b)
-same_or_not a b = grind arith
-
-pub among_or_not : (xs : List ℕ) (y : ℕ) → Contains xs y ⊎ (¬ Contains xs y)
-among_or_not [] y = inr (λ (k, within, is). omega (arith, within))
-among_or_not (x ∷ xs) y = elim (same_or_not y x) [
-  | inl same ↦ inl (subst (λ (z : ℕ). Contains (x ∷ xs) z) (sym same) (in_front x xs))
-  | inr differs ↦ elim (among_or_not xs y) [
-    | inl held ↦ inl (later x xs y held)
-    | inr out ↦ inr (λ held. elim (first_or_later x xs y held) [ inl same ↦ differs same | inr behind ↦ out behind ])
-  ]
-]
-
 -- ---- the disks of findings
+
+-- those of which something is left to be mended
+abbrev pub disks_left : Healed → List ℕ
+disks_left healed = map (λ one. one.disk) healed.left.items
 
 pub disk_among : (found : List Finding) (one : Finding) → Contains found one → Contains (map (λ f. f.disk) found) one.disk
 disk_among [] one (k, within, is) = absurd (omega (arith, within))
@@ -89,6 +76,21 @@ out_among out disk is =
     let same : 0 + disk ≡ disk = omega arith in
     subst (λ (d : ℕ). Contains (outs_from 0 out) d) same (marked_from out 0 disk is)
 
+-- and one that is among them is out
+outs_are : (first : ℕ) (out : List Bool) (disk : ℕ) → Contains (outs_from first out) disk → (k : ℕ) × (disk ≡ first + k) × (is_out out k ≡ true)
+outs_are first [] disk (k, within, is) = absurd (omega (arith, within))
+outs_are first (true ∷ rest) disk held = elim (first_or_later first (outs_from (suc first) rest) disk held) [
+  | inl same ↦ (0, omega (arith, same), refl)
+  | inr behind ↦ let (k, is, out) = outs_are (suc first) rest disk behind in (suc k, omega (arith, is), out)
+]
+outs_are first (false ∷ rest) disk held = let (k, is, out) = outs_are (suc first) rest disk held in (suc k, omega (arith, is), out)
+
+pub out_of : (out : List Bool) (disk : ℕ) → Contains (outs_from 0 out) disk → is_out out disk ≡ true
+out_of out disk held =
+    let (k, is, marked) = outs_are 0 out disk held in
+    let same : k ≡ disk = omega (arith, is) in
+    subst (λ (d : ℕ). is_out out d ≡ true) same marked
+
 -- a disk that missed the block's group is lost for it
 pub stale_is_lost : (store : Store) (birth disk : ℕ) → is_stale store.spans.stale disk birth ≡ true → Contains (lost store birth) disk
 stale_is_lost store birth disk is =
@@ -96,40 +98,32 @@ stale_is_lost store birth disk is =
     Contains-append_right _ (missed store birth) disk
     (subst (λ (d : ℕ). Contains (missed store birth) d) same (missed_from store.spans.stale 0 disk birth is))
 
--- ---- what stands
+-- and one that is lost where disks are out from the start is out, or missed it
+stale_of : (first : ℕ) (stale : List (Option GroupSpan)) (birth disk : ℕ) → Contains (stale_from first stale birth) disk
+    → (k : ℕ) × (disk ≡ first + k) × (is_stale stale k birth ≡ true)
+stale_of first [] birth disk (k, within, is) = absurd (omega (arith, within))
+stale_of first (span ∷ rest) birth disk held = elim (either (is_in span birth)) [
+  | inl here ↦
+      elim (first_or_later first (stale_from (suc first) rest birth) disk
+      (subst (λ (b : Bool). Contains (if b then first ∷ stale_from (suc first) rest birth else stale_from (suc first) rest birth) disk) here held)) [
+        | inl same ↦ (0, omega (arith, same), here)
+        | inr behind ↦ let (k, is, stale) = stale_of (suc first) rest birth disk behind in (suc k, omega (arith, is), stale)
+      ]
+  | inr not ↦
+      let (k, is, stale) =
+      stale_of (suc first) rest birth disk
+      (subst (λ (b : Bool). Contains (if b then first ∷ stale_from (suc first) rest birth else stale_from (suc first) rest birth) disk) not held) in
+      (suc k, omega (arith, is), stale)
+]
 
--- of these disks, each column of the bytes that is on one which isn't out, and didn't miss their group
-abbrev pub StandOnLeft : Content → Store → List ℕ → ℕ → Extent → List ℕ → Type 0
-StandOnLeft content store left birth extent bytes =
-    (disk at : ℕ) (part : List ℕ) (layout : List Column) (columns : ColumnsOf) → IsLayout extent layout → AreBytesOf extent bytes layout columns
-    → IsColumnIn extent layout (all_columns columns) disk at part → Contains left disk → is_out store.out disk ≡ false
-    → is_stale store.spans.stale disk birth ≡ false → Stands content disk at part
-
--- what stands but for these disks and those that are out, and on these where they missed nothing, stands on each disk that isn't lost
-pub stands_on_left : (content : Content) (store : Store) (left : List ℕ) (birth : ℕ) (extent : Extent) (bytes : List ℕ)
-    → ((disk : ℕ) → is_out store.out disk ≡ true → Contains (lost store birth) disk) → ((disk : ℕ) → Contains (outs store) disk → Contains (lost store birth) disk)
-    → ExtentStands content (outs store ++ left) extent bytes → StandOnLeft content store left birth extent bytes
-    → ExtentStands content (lost store birth) extent bytes
-stands_on_left content store left birth extent bytes marked out stands on_left = record {
-  layout = stands.layout;
-  columns = stands.columns;
-  is_layout = stands.is_layout;
-  are_bytes = stands.are_bytes;
-  stand = λ k column part at at' there.
-      let disk : ℕ = disk_of extent.vdev column in
-      elim (among_or_not (outs store ++ left) disk) [
-        | inr away ↦ stands.stand k column part at at' away
-        | inl held ↦ elim (Contains-append_cases (outs store) left disk held) [
-          | inl is ↦ absurd (there (out disk is))
-          | inr is ↦ elim (either (is_out store.out disk)) [
-            | inl gone ↦ absurd (there (marked disk gone))
-            | inr present ↦ elim (either (is_stale store.spans.stale disk birth)) [
-              | inl stale ↦ absurd (there (stale_is_lost store birth disk stale))
-              | inr fresh ↦
-                  on_left disk (offset_of column) part stands.layout stands.columns stands.is_layout stands.are_bytes
-                  (record { k = k; column = column; place_is = at; bytes_are = at'; disk_is = refl; at_is = refl }) is present fresh
-            ]
-          ]
-        ]
-      ];
-}
+pub lost_is : (store : Store) (n birth disk : ℕ) → store.spans.since ≡ replicate n 0 → Contains (lost store birth) disk
+    → Contains (outs store) disk ⊎ (is_stale store.spans.stale disk birth ≡ true)
+lost_is store n birth disk since held =
+    elim (Contains-append_cases (outs store) (missed store birth) disk
+    (subst (λ (them : List ℕ). Contains (them ++ missed store birth) disk) (kept_all store.spans.since n birth (outs store) since) held)) [
+      | inl out ↦ inl out
+      | inr missed' ↦
+          let (k, is, stale) = stale_of 0 store.spans.stale birth disk missed' in
+          let same : k ≡ disk = omega (arith, is) in
+          inr (subst (λ (d : ℕ). is_stale store.spans.stale d birth ≡ true) same stale)
+    ]

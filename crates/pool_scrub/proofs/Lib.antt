@@ -1,5 +1,8 @@
 pub mod Begun
+pub mod Behind
 pub mod Clean
+pub mod Cleared
+pub mod Guids
 pub mod Left
 pub mod Marks
 pub mod Results

@@ -33,7 +33,7 @@ use Rattle.pool_scrub.specs.declared.healing.Healed.{Healed}
 same_some : {X : Type 0} (x y : X) → Some x ≡ Some y → x ≡ y
 same_some x y same = cc
 
-not_true : (b : Bool) → (b ≡ true → ⊥) → b ≡ false
+pub not_true : (b : Bool) → (b ≡ true → ⊥) → b ≡ false
 not_true true not = absurd (not refl)
 not_true false not = refl
 
@@ -134,7 +134,7 @@ zero_at zero (suc m) = refl
 zero_at (suc k) (suc m) = zero_at k m
 
 -- disks that are out from the start are lost for each block
-kept_all : (since : List ℕ) (n birth : ℕ) (disks : List ℕ) → since ≡ replicate n 0 → filter (λ disk. nat_le (slice_index since disk) birth) disks ≡ disks
+pub kept_all : (since : List ℕ) (n birth : ℕ) (disks : List ℕ) → since ≡ replicate n 0 → filter (λ disk. nat_le (slice_index since disk) birth) disks ≡ disks
 kept_all since n birth [] is = refl
 kept_all since n birth (disk ∷ disks) is =
     let rest : List ℕ = filter (λ d. nat_le (slice_index since d) birth) disks in
@@ -157,7 +157,7 @@ element_at (y ∷ xs) (suc i) x at = element_at xs i x at
 pub contained_at : {X : Type 0} (xs : List X) (i : ℕ) (x : X) → slice_get xs i ≡ Some x → Contains xs x
 contained_at xs i x at = (i, slice_get_within xs i x at, element_at xs i x at)
 
-shape_at : (spaces : List VdevSpace) (v : ℕ) (space : VdevSpace) → slice_get spaces v ≡ Some space → slice_get (shapes_of spaces) v ≡ Some space.shape
+pub shape_at : (spaces : List VdevSpace) (v : ℕ) (space : VdevSpace) → slice_get spaces v ≡ Some space → slice_get (shapes_of spaces) v ≡ Some space.shape
 shape_at [] v space at = absurd (cc)
 shape_at (first ∷ spaces) zero space at = ap (λ (found : Option VdevSpace). option_map (λ s. s.shape) found) at
 shape_at (first ∷ spaces) (suc v) space at = shape_at spaces v space at

@@ -1,5 +1,5 @@
 -- Pools that were scrubbed on disks that were handed in.
-use Rattle.std.specs.Prelude.{◌≡◌, ◌⊎◌, List, length}
+use Rattle.std.specs.Prelude.{◌≡◌, ◌⊎◌, List, length, Contains}
 use Rattle.block_pointer.specs.declared.block.Block.{Block}
 use Rattle.block_store.specs.Places.{shapes_of}
 use Rattle.block_store.specs.Store.{outs_from}
@@ -58,11 +58,16 @@ IsUnlooked old layout uberblock new refusal =
 abbrev pub ClearsWhole : Config → Looked → List StaleSpan → List StaleSpan → Type 0
 ClearsWhole config looked before after = AreSpansWithout (guids_in (config_view config)) looked.whole.items before after
 
+-- no disk has two spans
+abbrev pub IsOneForEach : List StaleSpan → Type 0
+IsOneForEach spans = (span other : StaleSpan) → Contains spans span → Contains spans other → span.disk ≡ other.disk → span ≡ other
+
 -- The core was begun anew over the disks, and knows no span of a whole disk.
 pub record IsBegunAgain (mid : Disks) (layout : PoolLayout) (uberblock : Uberblock) (config : Config) (known : List StaleSpan) (looked : Looked)
     (core : CoreState) : Type 0 where
   pub again : IsCoreAgain mid layout.shapes.items layout.out.items uberblock config (spans_of core) core
   pub cleared : ClearsWhole config looked known (spans_of core)
+  pub once : IsOneForEach known
 
 -- It was not, by the spans that it would have known; or memory ran out before that.
 abbrev pub IsNotBegunAgain : Disks → PoolLayout → Uberblock → Config → List StaleSpan → Looked → Disks → Refusal → Type 0
@@ -104,6 +109,7 @@ module _ {D : Type 0} where
     pub opened : IsOpenedOn g disks 0 uberblock before from
     pub over : IsScrubbedOver before uberblock core counts
 
+  -- the disks that come back of an open that was refused
   abbrev pub back_of : NotOpened D → List D
   back_of (NotFound refusal back) = back.items
   back_of (Refused refusal back) = back.items

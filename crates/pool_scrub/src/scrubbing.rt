@@ -6,7 +6,7 @@ ghost use Rattle.pool_open.specs.Opens.{refusal_of};
 ghost use Rattle.stale_disks.specs.Rules.{AreSpansWithout, guids_in};
 ghost use Rattle.vdev_label.specs.Plain.{config_view};
 ghost use Rattle.pool_scrub.specs.Laws.{CleanScrubsGoOnWhole, ScrubsGoOn};
-ghost use Rattle.pool_scrub.specs.Scrubbing.{IsBegunAgain, IsLayoutOf, IsLooked, IsNotBegunAgain, IsNotScrubbedOver};
+ghost use Rattle.pool_scrub.specs.Scrubbing.{IsBegunAgain, IsLayoutOf, IsLooked, IsNotBegunAgain, IsNotScrubbedOver, IsOneForEach};
 ghost use Rattle.pool_scrub.specs.Scrubbing.{IsScrubbed, IsScrubbedOver, IsUnlooked, ScrubRefuses, back_of};
 
 use crate::counting::{missing_of, whole_of};
@@ -14,7 +14,10 @@ use crate::healing::{Healed, heal};
 use crate::walking::{PoolLayout, walk};
 use model_disk::{Disk, DiskArray, Member};
 use pool_open::{Core, KnownDisks, NotOpened, OpenedFrom, OpenedPool, Refusal, core_again, open};
-use scrub_resilver::checked_blocks_stand;
+use raidz_io::{reads_keep_contents, stands_while_kept};
+use scrub_resilver::{
+    apart_blocks_share_no_byte, blocks_looked_at_stand, checked_blocks_stand, mends_spare_blocks,
+};
 use stale_disks::{disk_guids, spans_without, stale_groups};
 use std::alloc::{AllocError, Global};
 use uberblock_ring::Uberblock;
@@ -96,6 +99,7 @@ fn known_behind(alloc: Global, known: KnownDisks, whole: &[bool]) -> Result<Know
     ensures config { IfOk result (λ it. it.config.value ≡ known.config.value) }
     ensures spans { IfOk result (λ it. AreSpansWithout
         (guids_in (config_view known.config.value)) whole.now known.spans it.spans) }
+    ensures once { IfOk result (λ it. IsOneForEach known.spans) }
 {
     let guids = disk_guids(alloc, known.config.as_ref())?;
     let spans = spans_without(alloc, &known.spans, &guids, whole)?;
@@ -202,17 +206,21 @@ pub fn scrub<D: Disk + Drop>(alloc: Global, disks: Vec<D>) -> Result<Scrubbed<D>
     }
 }
 
-/// A law: the pool goes on as the open found it, where the disks of which something is left to be mended have what they didn't miss by the
-/// spans that stay; and no disk is stale that has every block again.
-pub fn scrubs_go_on()
-    ensures { ScrubsGoOn }
+/// A law: whatever is left to be mended, the pool goes on as the open found it, and no disk is stale that has every block again. Of disks that held
+/// the pool, answer truly, and of whose blocks the digests tell which columns are wrong.
+pub fn scrubs_go_on<D: Disk + Drop>()
+    ensures { ScrubsGoOn D.Disk }
 {
-    checked_blocks_stand();
+    mends_spare_blocks();
+    blocks_looked_at_stand();
+    apart_blocks_share_no_byte();
+    reads_keep_contents();
+    stands_while_kept();
 }
 
 /// A law: where nothing is left to be mended of a disk that is there, the pool goes on as the open found it, and no disk that is there is stale.
 pub fn clean_scrubs_go_on_whole()
     ensures { CleanScrubsGoOnWhole }
 {
-    scrubs_go_on();
+    checked_blocks_stand();
 }

@@ -55,7 +55,7 @@ longer_where_read disk at bytes (made ∷ newer) calls gave = elim gave [
 ]
 
 -- a missing disk gave nothing
-gave_none : (old new : Disks) (missing : List ℕ) (disk at : ℕ) (bytes : List ℕ) → OnlyReads old new → AreUntouched missing old new → Contains missing disk
+pub gave_none : (old new : Disks) (missing : List ℕ) (disk at : ℕ) (bytes : List ℕ) → OnlyReads old new → AreUntouched missing old new → Contains missing disk
     → ¬ GaveSince (length old.calls) new.calls disk at bytes
 gave_none old new missing disk at bytes reads untouched gone gave =
     let more : length (calls_on disk old.calls) + 1 ≤ length (calls_on disk (reads.newer ++ old.calls)) =
@@ -76,7 +76,7 @@ rows_agree (x ∷ xs) (y ∷ ys) more others long sizes same =
     let rows : xs ≡ ys = rows_agree xs ys more others (omega arith) (cc) (λ k. same (suc k)) in
     cc
 
-columns_agree : (extent : Extent) (block : List ℕ) (layout : List Column) (a b : Columns) → AreBytesOf extent block layout a → AreBytesOf extent block layout b
+pub columns_agree : (extent : Extent) (block : List ℕ) (layout : List Column) (a b : Columns) → AreBytesOf extent block layout a → AreBytesOf extent block layout b
     → all_columns a ≡ all_columns b
 columns_agree extent block layout a b is_a is_b =
     let parts : a.data_columns ≡ b.data_columns = is_a.block_columns ∙ sym is_b.block_columns in

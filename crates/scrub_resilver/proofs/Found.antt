@@ -17,13 +17,14 @@ use Rattle.block_pointer.specs.Copies.{dvas}
 use Rattle.block_store.specs.declared.shape.VdevShape.{VdevShape}
 use Rattle.raidz_io.specs.Stands.{all_columns}
 use Rattle.scrub_resilver.specs.Checking.{AreChecked, ArePlacesChecked, IsBlockChecked, IsPlaceChecked, IsRight}
-use Rattle.scrub_resilver.specs.Copies.{AreUnread}
+use Rattle.scrub_resilver.specs.Copies.{AreUnread, IsChosenOf}
 use Rattle.scrub_resilver.specs.Columns.{IsSpread}
 use Rattle.scrub_resilver.specs.Looking.{AreJudged, IsCheckedSoFar, IsCopyChecked, IsJudged, finding, finding_of, findings_from}
 use Rattle.scrub_resilver.specs.declared.checking.Right.{Right}
 use Rattle.scrub_resilver.specs.declared.spread.SpreadBlock.{SpreadBlock}
 use Rattle.scrub_resilver.specs.declared.fault.Fault.{Fault}
 use Rattle.scrub_resilver.specs.declared.fault.Finding.{Finding}
+use Rattle.scrub_resilver.proofs.Chosen.{chosen_of_around}
 use Rattle.scrub_resilver.proofs.Logs.{all_unread_around, judged_from, judged_later}
 
 findings_none : (vdev : ℕ) (extent : Extent) (k : ℕ) (layout : List Column) → findings_from vdev extent k layout [] ≡ []
@@ -180,6 +181,7 @@ block_around shapes old first last new missing block found before after is = rec
   content = is.content;
   known = is.known;
   digest = is.digest;
+  chosen = λ known. chosen_of_around shapes old first last new block is.content (dvas block.copies) before after (is.chosen known);
   unread = λ not. all_unread_around old first last new shapes missing block (dvas block.copies) before after (is.unread not);
   copies = places_around shapes old first last new missing block.property.sectors is.known is.content (dvas block.copies) found before after is.copies;
 }
@@ -222,22 +224,27 @@ never b is not = cc
 -- a block by what was read of it
 pub block_checked : (shapes : List VdevShape) (old mid new : Disks) (missing : List ℕ) (block : Block) (read : Option (Vec ℕ Global)) (right : Right) (places : List Dva)
     (found : List Finding) → OnlyReads old mid → OnlyReads mid new → IfSome read (λ bytes. sha256 bytes.items ≡ block.checksum)
+    → IfSome read (λ bytes. IsChosenOf shapes old mid block bytes.items (dvas block.copies))
     → IfNone read (AreUnread shapes old mid missing block (dvas block.copies)) → IsRight block.property.sectors read right → places ≡ dvas block.copies
     → ArePlacesChecked shapes mid new missing right.sectors right.is_known right.bytes.items places found
     → IsBlockChecked shapes old new missing block found
-block_checked shapes old mid new missing block (Some bytes) right places found first second digest none (known, is, sectors, size) same are = record {
+block_checked shapes old mid new missing block (Some bytes) right places found first second digest chosen none (known, is, sectors, size) same are = record {
   content = right.bytes.items;
   known = right.is_known;
   digest = λ _. ap sha256 is ∙ digest;
+  chosen = λ _.
+      chosen_of_around shapes old old mid new block right.bytes.items (dvas block.copies) (OnlyReads-none old) second
+      (subst (λ (b : List ℕ). IsChosenOf shapes old mid block b (dvas block.copies)) (sym is) chosen);
   unread = λ not. never right.is_known known not;
   copies =
       places_around shapes old mid new new missing block.property.sectors right.is_known right.bytes.items (dvas block.copies) found first (OnlyReads-none new)
       (sectors_at shapes mid new missing right.sectors block.property.sectors right.is_known right.bytes.items places (dvas block.copies) found sectors same are);
 }
-block_checked shapes old mid new missing block None right places found first second digest none (unknown, sectors, size) same are = record {
+block_checked shapes old mid new missing block None right places found first second digest chosen none (unknown, sectors, size) same are = record {
   content = right.bytes.items;
   known = right.is_known;
   digest = λ is. never right.is_known is unknown;
+  chosen = λ is. never right.is_known is unknown;
   unread = λ _. all_unread_around old old mid new shapes missing block (dvas block.copies) (OnlyReads-none old) second none;
   copies =
       places_around shapes old mid new new missing block.property.sectors right.is_known right.bytes.items (dvas block.copies) found first (OnlyReads-none new)

@@ -1,8 +1,13 @@
+pub mod Apart
+pub mod Chosen
 pub mod Faults
 pub mod Found
 pub mod Logs
 pub mod Making
 pub mod Mended
 pub mod Once
+pub mod Own
 pub mod Placing
+pub mod Spared
 pub mod Stood
+pub mod Turns

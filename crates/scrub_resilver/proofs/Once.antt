@@ -27,10 +27,10 @@ all_from P xs each = λ k d within. each (slice_index_or xs k d) (Contains-get_o
 pairs_none : {X : Type 0} (R : X → X → Type 0) → AllPairs R []
 pairs_none R = λ i j d before within. absurd (omega (arith, within))
 
-pairs_head : {X : Type 0} (R : X → X → Type 0) (x : X) (xs : List X) (y : X) → AllPairs R (x ∷ xs) → Contains xs y → R x y
+pub pairs_head : {X : Type 0} (R : X → X → Type 0) (x : X) (xs : List X) (y : X) → AllPairs R (x ∷ xs) → Contains xs y → R x y
 pairs_head R x xs y all held = subst (R x) held.2 (all 0 (suc held.0) y (omega arith) (omega (arith, held.1)))
 
-pairs_tail : {X : Type 0} (R : X → X → Type 0) (x : X) (xs : List X) → AllPairs R (x ∷ xs) → AllPairs R xs
+pub pairs_tail : {X : Type 0} (R : X → X → Type 0) (x : X) (xs : List X) → AllPairs R (x ∷ xs) → AllPairs R xs
 pairs_tail R x xs all = λ i j d before within. all (suc i) (suc j) d (omega (arith, before)) (omega (arith, within))
 
 pairs_front : {X : Type 0} (R : X → X → Type 0) (xs ys : List X) → AllPairs R (xs ++ ys) → AllPairs R xs

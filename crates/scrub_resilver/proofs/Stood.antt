@@ -130,7 +130,7 @@ copy_of shapes old new missing sectors known block (first ∷ places) found (suc
     )
 
 -- and those of a block among those of all
-block_of : (shapes : List VdevShape) (old new : Disks) (missing : List ℕ) (blocks : List Block) (found : List Finding) (block : Block)
+pub block_of : (shapes : List VdevShape) (old new : Disks) (missing : List ℕ) (blocks : List Block) (found : List Finding) (block : Block)
     → AreChecked shapes old new missing blocks found → (k : ℕ) → slice_get blocks k ≡ Some block
     → (own : List Finding) × ((one : Finding) → Contains own one → Contains found one) × IsBlockChecked shapes old new missing block own
 block_of shapes old new missing [] found block are k at = absurd (cc)
@@ -149,7 +149,7 @@ block_of shapes old new missing (first ∷ blocks) found block (here, rest, part
 -- ---- what stands
 
 -- a column of which nothing was found stands
-column_stands : (old new : Disks) (missing left : List ℕ) (vdev : ℕ) (extent : Extent) (content_is bytes : List ℕ) (found : List Finding)
+pub column_stands : (old new : Disks) (missing left : List ℕ) (vdev : ℕ) (extent : Extent) (content_is bytes : List ℕ) (found : List Finding)
     → OnlyReads old new → IsHonestSince old new → IsKnownBut new left extent
     → (copy : IsCopyChecked old new missing vdev extent true content_is found) → ((one : Finding) → Contains found one → Contains left one.disk)
     → (k : ℕ) (column : Column) → slice_get copy.layout k ≡ Some column → slice_get (all_columns copy.columns) k ≡ Some bytes
@@ -196,7 +196,7 @@ never : {A : Type 0} (b : Bool) → b ≡ true → b ≡ false → A
 never b is not = cc
 
 -- of a copy that isn't known something was found at each column
-found_at : (old new : Disks) (missing left : List ℕ) (vdev : ℕ) (extent : Extent) (content_is : List ℕ) (found : List Finding)
+pub found_at : (old new : Disks) (missing left : List ℕ) (vdev : ℕ) (extent : Extent) (content_is : List ℕ) (found : List Finding)
     → (copy : IsCopyChecked old new missing vdev extent false content_is found) → ((one : Finding) → Contains found one → Contains left one.disk)
     → (k : ℕ) (column : Column) (bytes : List ℕ) → slice_get copy.layout k ≡ Some column → slice_get (all_columns copy.columns) k ≡ Some bytes
     → (fault : Option Fault) → slice_get copy.faults k ≡ Some fault → Contains left (disk_of extent.vdev column)

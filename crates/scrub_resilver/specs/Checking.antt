@@ -8,7 +8,7 @@ use Rattle.block_pointer.specs.Copies.{dvas}
 use Rattle.block_store.specs.declared.shape.VdevShape.{VdevShape}
 use Rattle.model_disk.specs.Joint.{Disks}
 use Rattle.raidz_io.specs.declared.vdev.Extent.{Extent}
-use Rattle.scrub_resilver.specs.Copies.{AreUnread, IsExtentOn}
+use Rattle.scrub_resilver.specs.Copies.{AreUnread, IsChosenOf, IsExtentOn}
 use Rattle.scrub_resilver.specs.Looking.{IsCopyChecked}
 use Rattle.scrub_resilver.specs.declared.checking.Right.{Right}
 use Rattle.scrub_resilver.specs.declared.fault.Finding.{Finding}
@@ -35,11 +35,12 @@ ArePlacesChecked shapes old new missing sectors known block (place ∷ places) f
     (here : List Finding) × (rest : List Finding) × (found ≡ here ++ rest) × IsPlaceChecked shapes old new missing sectors known block place here
     × ArePlacesChecked shapes old new missing sectors known block places rest
 
--- All copies of the block were looked at, in order, beside bytes that have its digest; or such bytes aren't known, as no copy could be read.
+-- All copies of the block were looked at, in order, beside bytes that have its digest, as one of them was read; or such bytes aren't known, as no copy could be read.
 pub record IsBlockChecked (shapes : List VdevShape) (old new : Disks) (missing : List ℕ) (block : Block) (found : List Finding) : Type 0 where
   pub content : List ℕ
   pub known : Bool
   pub digest : known ≡ true → sha256 content ≡ block.checksum
+  pub chosen : known ≡ true → IsChosenOf shapes old new block content (dvas block.copies)
   pub unread : known ≡ false → AreUnread shapes old new missing block (dvas block.copies)
   pub copies : ArePlacesChecked shapes old new missing block.property.sectors known content (dvas block.copies) found
 

@@ -9,7 +9,7 @@ use Rattle.model_disk.specs.Joint.{Disks}
 use Rattle.raidz_io.specs.declared.vdev.Extent.{Extent}
 use Rattle.raidz_io.specs.Places.{HasRoom}
 use Rattle.raidz_io.specs.Reads.{OnlyReads, MoreAreLost, absent_since}
-use Rattle.raidz_io.specs.Choices.{HasNoChoice}
+use Rattle.raidz_io.specs.Choices.{HasNoChoice, IsChoice}
 use Rattle.raidz_map.specs.Layout.{asize}
 
 -- each vdev has the disks and the room that its shape tells
@@ -61,3 +61,11 @@ IsMisplaced shapes block place = IsNoPlace shapes block.property.sectors place
 -- so it is of one of these copies
 abbrev pub AreMisplaced : List VdevShape → Block → List Dva → Type 0
 AreMisplaced shapes block places = (place : Dva) × Contains places place × IsMisplaced shapes block place
+
+-- The bytes are those of the copy that lies there, by what reads since gave: of each of its columns, but for those on as many disks as it has parities.
+abbrev pub IsChosenAt : List VdevShape → Disks → Disks → Block → List ℕ → Dva → Type 0
+IsChosenAt shapes old new block bytes place = (extent : Extent) × IsExtentOn shapes block.property.sectors place extent × IsChoice old new extent bytes
+
+-- so it is of one of these copies
+abbrev pub IsChosenOf : List VdevShape → Disks → Disks → Block → List ℕ → List Dva → Type 0
+IsChosenOf shapes old new block bytes places = (place : Dva) × Contains places place × IsChosenAt shapes old new block bytes place

@@ -1,16 +1,22 @@
 -- What blocks have on their disks once they were looked at.
-use Rattle.std.specs.Prelude.{ℕ, ◌≡◌, Some, List, Contains}
+use Rattle.std.specs.Prelude.{ℕ, ◌≡◌, ◌⊎◌, ◌≤◌, Some, List, length, slice_get, Contains}
 use Rattle.sha2.specs.Sha256.{sha256}
 use Rattle.block_pointer.specs.declared.block.Block.{Block}
+use Rattle.block_pointer.specs.declared.dva.Dva.{Dva}
+use Rattle.block_pointer.specs.Copies.{dvas}
+use Rattle.block_store.specs.Blocks.{AreDistinct, AreStored, Contents}
+use Rattle.block_store.specs.Opened.{AreBlocksApart, LieOn}
 use Rattle.block_store.specs.declared.shape.VdevShape.{VdevShape}
 use Rattle.model_disk.specs.Joint.{Disks, content}
+use Rattle.raidz_map.specs.Layout.{asize}
 use Rattle.raidz_io.specs.declared.vdev.Extent.{Extent}
-use Rattle.raidz_io.specs.Elsewhere.{IsOfExtent}
+use Rattle.raidz_io.specs.Elsewhere.{IsOfExtent, ShareNoByte}
 use Rattle.raidz_io.specs.Places.{Content}
-use Rattle.raidz_io.specs.Reads.{IsHonestSince, OnlyReads}
-use Rattle.raidz_io.specs.Stands.{ExtentStands}
+use Rattle.raidz_io.specs.Reads.{AreUntouched, IsHonestSince, OnlyReads}
+use Rattle.raidz_io.specs.Stands.{ExtentStands, parity_of}
 use Rattle.scrub_resilver.specs.Checking.{AreChecked}
 use Rattle.scrub_resilver.specs.Copies.{IsCopyOn}
+use Rattle.scrub_resilver.specs.Mending.{AreMendedFirst}
 use Rattle.scrub_resilver.specs.declared.fault.Finding.{Finding}
 
 -- each byte of the extent on a disk that isn't left is known
@@ -32,3 +38,56 @@ CheckedBlocksStand =
     → ((one : Finding) → Contains found one → Contains left one.disk)
     → (block : Block) (given : List ℕ) → Contains blocks block → sha256 given ≡ block.checksum
     → (bytes : List ℕ) × (sha256 bytes ≡ block.checksum) × StandsAgain shapes new left block given bytes
+
+-- ---- by what digests tell
+
+-- Of no block that is known do other bytes have the digest, of which each column of a copy stands but those on as many disks as it has parities.
+abbrev pub HaveOneChoice : List VdevShape → Content → Contents → Type 0
+HaveOneChoice shapes content stored =
+    (block : Block) (bytes others wrong : List ℕ) (i : ℕ) (extent : Extent) → stored block ≡ Some bytes → IsCopyOn shapes block i extent
+    → length wrong ≤ parity_of extent → ExtentStands content wrong extent others → sha256 others ≡ block.checksum → others ≡ bytes
+
+-- What the disks have of these blocks is known, but for those that are missing, so that no write failed there.
+abbrev pub AreKnown : List VdevShape → Disks → List ℕ → Contents → Type 0
+AreKnown shapes disks missing stored =
+    (block : Block) (bytes : List ℕ) (i : ℕ) (extent : Extent) → stored block ≡ Some bytes → IsCopyOn shapes block i extent → IsKnownBut disks missing extent
+
+-- and their digests tell them
+pub record AreTold (shapes : List VdevShape) (disks : Disks) (missing : List ℕ) (stored : Contents) : Type 0 where
+  pub known : AreKnown shapes disks missing stored
+  pub one : HaveOneChoice shapes (content disks) stored
+
+-- two copies of these blocks are one, or share no byte
+abbrev pub AreCopiesApart : List VdevShape → List Block → Type 0
+AreCopiesApart shapes blocks = (block other : Block) (i k : ℕ) (extent behind : Extent) → Contains blocks block → Contains blocks other
+    → IsCopyOn shapes block i extent → IsCopyOn shapes other k behind → ((block ≡ other) × (i ≡ k)) ⊎ ShareNoByte extent behind
+
+-- so it is where blocks lie apart, in places of their size, on vdevs that take the disks in order
+abbrev pub ApartBlocksShareNoByte : Type 0
+ApartBlocksShareNoByte =
+    (starts : List (List ℕ)) (shapes : List VdevShape) (blocks : List Block) → LieOn starts 0 shapes → AreBlocksApart blocks
+    → ((block : Block) (place : Dva) (shape : VdevShape) → Contains blocks block → Contains (dvas block.copies) place
+    → slice_get shapes place.vdev ≡ Some shape → place.allocated ≡ asize shape.vdev.geometry block.property.sectors)
+    → AreCopiesApart shapes blocks
+
+-- Where blocks were mended over disks that answer truly, each column of them that stood stands, if their digests tell them.
+abbrev pub MendsSpareBlocks : Type 0
+MendsSpareBlocks =
+    (shapes : List VdevShape) (old new : Disks) (missing : List ℕ) (blocks : List Block) (stored : Contents)
+    → AreMendedFirst shapes missing blocks old new → IsHonestSince old new → AreDistinct blocks → AreCopiesApart shapes blocks
+    → AreStored stored blocks → AreTold shapes old missing stored → AreKnown shapes new missing stored
+    → (block : Block) (bytes : List ℕ) (i : ℕ) (extent : Extent) (absent : List ℕ) → Contains blocks block → stored block ≡ Some bytes
+    → IsCopyOn shapes block i extent → ((disk : ℕ) → Contains missing disk → Contains absent disk)
+    → ExtentStands (content old) absent extent bytes → ExtentStands (content new) absent extent bytes
+
+-- Where blocks were looked at over disks that answer truly, each column of which nothing was found stands, if their digests tell them: beside those that
+-- stood anyway.
+abbrev pub BlocksLookedAtStand : Type 0
+BlocksLookedAtStand =
+    (shapes : List VdevShape) (old new : Disks) (missing left : List ℕ) (blocks : List Block) (found : List Finding) (stored : Contents)
+    → AreChecked shapes old new missing blocks found → OnlyReads old new → AreUntouched missing old new → IsHonestSince old new
+    → ((one : Finding) → Contains found one → Contains left one.disk) → ((disk : ℕ) → Contains missing disk → Contains left disk)
+    → AreTold shapes new missing stored
+    → (block : Block) (bytes : List ℕ) (i : ℕ) (extent : Extent) (absent rest : List ℕ) → Contains blocks block → stored block ≡ Some bytes
+    → IsCopyOn shapes block i extent → ((disk : ℕ) → Contains absent disk → ¬ Contains rest disk → ¬ Contains left disk)
+    → ExtentStands (content new) absent extent bytes → ExtentStands (content new) rest extent bytes

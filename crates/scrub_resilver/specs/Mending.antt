@@ -3,7 +3,7 @@ use Rattle.std.specs.Prelude.{ℕ, ◌≡◌, ◌≢◌, ◌⊎◌, ◌<◌, ◌
 use Rattle.sha2.specs.Sha256.{sha256}
 use Rattle.model_disk.specs.Call.{Call, Read, FailedRead, Wrote, FailedWrite, Flushed, FailedFlush}
 use Rattle.model_disk.specs.Joint.{JointCall, Disks, on, calls_on, failed_since}
-use Rattle.model_disk.specs.Runs.{Makes}
+use Rattle.model_disk.specs.Runs.{Makes, no_write}
 use Rattle.block_pointer.specs.declared.block.Block.{Block}
 use Rattle.block_pointer.specs.declared.dva.Dva.{Dva}
 use Rattle.block_pointer.specs.Copies.{dvas}
@@ -12,9 +12,9 @@ use Rattle.raidz_map.specs.declared.column.Column.{Column}
 use Rattle.raidz_parity.specs.Layout.{Block as ColumnsOf}
 use Rattle.raidz_io.specs.declared.vdev.Extent.{Extent}
 use Rattle.raidz_io.specs.Places.{disk_of, offset_of}
-use Rattle.raidz_io.specs.Reads.{AreUntouched, GaveSince, absent_since}
+use Rattle.raidz_io.specs.Reads.{AreUntouched, GaveSince, OnlyReads, absent_since}
 use Rattle.raidz_io.specs.Stands.{IsLayout, AreBytesOf, all_columns}
-use Rattle.scrub_resilver.specs.Copies.{IsCopyOn, IsExtentOn, AreUnread}
+use Rattle.scrub_resilver.specs.Copies.{IsChosenOf, IsCopyOn, IsExtentOn, AreUnread}
 use Rattle.scrub_resilver.specs.Looking.{ReadFailedSince}
 
 -- ---- what is written
@@ -52,6 +52,10 @@ pub record IsRightColumn (shapes : List VdevShape) (blocks : List Block) (disk a
   pub is_layout : IsLayout extent layout
   pub are_bytes : AreBytesOf extent content layout columns
   pub is_column : IsColumnIn extent layout (all_columns columns) disk at bytes
+
+-- so it is of some copy of the block
+abbrev pub IsColumnOfBlock : List VdevShape → Block → List ℕ → ℕ → ℕ → List ℕ → Type 0
+IsColumnOfBlock shapes block content disk at bytes = (place : Dva) × Contains (dvas block.copies) place × IsColumnOf shapes block place content disk at bytes
 
 -- since there were n calls, a read of so many bytes there failed, or gave others than these
 abbrev pub WasFaulty : ℕ → List JointCall → ℕ → ℕ → List ℕ → Type 0
@@ -152,6 +156,28 @@ abbrev pub IsBlockMended : List VdevShape → Disks → Disks → List ℕ → B
 IsBlockMended shapes old new missing block =
     ((content : List ℕ) × (sha256 content ≡ block.checksum) × ArePlacesMended shapes old new missing block content (dvas block.copies))
     ⊎ WasUnread shapes old new missing block
+
+-- ---- in which order
+
+-- A copy of the block was read, as bytes with its digest; behind that nothing was written but columns of these, each where it was faulty.
+pub record IsRewritten (shapes : List VdevShape) (missing : List ℕ) (block : Block) (old new : Disks) : Type 0 where
+  pub mid : Disks
+  pub content : List ℕ
+  pub reads : OnlyReads old mid
+  pub untouched : AreUntouched missing old mid
+  pub chosen : IsChosenOf shapes old mid block content (dvas block.copies)
+  pub digest : sha256 content ≡ block.checksum
+  pub written : Repairs (IsColumnOfBlock shapes block content) missing mid new
+
+-- Each of these blocks was rewritten so, one behind the other; or nothing was written as it was its turn.
+abbrev pub AreMendedInTurn : List VdevShape → List ℕ → List Block → Disks → Disks → Type 0
+AreMendedInTurn shapes missing [] old new = old ≡ new
+AreMendedInTurn shapes missing (block ∷ blocks) old new =
+    (mid : Disks) × (Repairs no_write missing old mid ⊎ IsRewritten shapes missing block old mid) × AreMendedInTurn shapes missing blocks mid new
+
+-- and behind all of them nothing was written: flushes may have been made
+abbrev pub AreMendedFirst : List VdevShape → List ℕ → List Block → Disks → Disks → Type 0
+AreMendedFirst shapes missing blocks old new = (mid : Disks) × AreMendedInTurn shapes missing blocks old mid × Repairs no_write missing mid new
 
 -- ---- what is flushed
 

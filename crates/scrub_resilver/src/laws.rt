@@ -1,8 +1,11 @@
 //! What holds of blocks that were looked at.
 ghost use Rattle.scrub_resilver.specs.Findings.{ApartBlocksHaveOwnPlaces, ColumnsAreFoundOnce, FindingsAreOfTheDisks};
-ghost use Rattle.scrub_resilver.specs.Laws.{CheckedBlocksStand};
+ghost use Rattle.scrub_resilver.specs.Laws.{ApartBlocksShareNoByte, BlocksLookedAtStand, CheckedBlocksStand, MendsSpareBlocks};
 
-use raidz_io::few_are_not_more;
+use raidz_io::{
+    apart_extents_share_no_byte, few_are_not_more, other_vdevs_share_no_byte, stands_while_kept,
+};
+use raidz_map::child_holds_one_column;
 
 /// Blocks that were looked at stand, but on disks of which something was found.
 pub fn checked_blocks_stand()
@@ -24,4 +27,25 @@ pub fn columns_are_found_once()
 /// No two copies of different blocks that lie apart begin at one place.
 pub fn apart_blocks_have_own_places()
     ensures { ApartBlocksHaveOwnPlaces }
+{}
+
+/// Blocks that lie apart, in places of their size, share no byte of a disk.
+pub fn apart_blocks_share_no_byte()
+    ensures { ApartBlocksShareNoByte }
+{
+    apart_extents_share_no_byte();
+    other_vdevs_share_no_byte();
+}
+
+/// Mending spoils no column that stood: of blocks that their digests tell, over disks that answer truly.
+pub fn mends_spare_blocks()
+    ensures { MendsSpareBlocks }
+{
+    stands_while_kept();
+    child_holds_one_column();
+}
+
+/// Of blocks that their digests tell, each column stands of which nothing was found.
+pub fn blocks_looked_at_stand()
+    ensures { BlocksLookedAtStand }
 {}

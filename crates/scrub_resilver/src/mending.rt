@@ -9,7 +9,7 @@ ghost use Rattle.raidz_io.specs.Places.{CanHold, IsOnDisks};
 ghost use Rattle.raidz_io.specs.Stands.{all_columns};
 ghost use Rattle.scrub_resilver.specs.Columns.{IsSpread};
 ghost use Rattle.scrub_resilver.specs.Copies.{AreMisplaced, HaveRoom, IsMisplaced};
-ghost use Rattle.scrub_resilver.specs.Mending.{AreMendedBelow, ArePlacesMended, AreFlushedBelow, IsBlockMended, IsColumnIn, IsColumnOf, IsFlushTried, IsMendedAt, IsPlaceMended, IsPut, OnlyMends, Repairs};
+ghost use Rattle.scrub_resilver.specs.Mending.{AreMendedBelow, ArePlacesMended, AreFlushedBelow, AreMendedFirst, IsBlockMended, IsColumnIn, IsColumnOf, IsColumnOfBlock, IsFlushTried, IsMendedAt, IsPlaceMended, IsPut, IsRewritten, OnlyMends, Repairs};
 
 use crate::checking::look_at_column;
 use crate::copies::{extent_at, places_of};
@@ -129,6 +129,8 @@ fn mend_places<D: Disk + Drop>(
     requires size { length content.now ≡ block.now.property.sectors * 512 }
     requires digest { sha256 content.now ≡ block.now.checksum }
     ensures mends { OnlyMends shapes.now (block.now ∷ []) missing.now disks.old disks.new }
+    ensures own { Repairs (IsColumnOfBlock shapes.now block.now content.now)
+        missing.now disks.old disks.new }
     ensures mended { OnOk result (ArePlacesMended shapes.now disks.old disks.new missing.now
         block.now content.now places.now) }
     ensures refused { IfErr result (λ refusal. (refusal ≡ Refusal.NoMemory)
@@ -153,6 +155,8 @@ fn mend_block<D: Disk + Drop>(
     ensures mends { OnlyMends shapes.now (block.now ∷ []) missing.now disks.old disks.new }
     ensures mended { OnOk result (IsBlockMended shapes.now disks.old disks.new missing.now
         block.now) }
+    ensures turn { OnOk result (Repairs no_write missing.now disks.old disks.new
+        ⊎ IsRewritten shapes.now missing.now block.now disks.old disks.new) }
     ensures refused { IfErr result (λ refusal. (refusal ≡ Refusal.NoMemory)
         ⊎ ((refusal ≡ Refusal.BadPointer)
         × AreMisplaced shapes.now block.now (dvas block.now.copies))) }
@@ -218,6 +222,8 @@ pub fn mend<D: Disk + Drop>(
     ensures mends { OnlyMends shapes.now blocks.now missing.now disks.old disks.new }
     ensures mended { OnOk result ((block : BlockOf) → Contains blocks.now block
         → IsBlockMended shapes.now disks.old disks.new missing.now block) }
+    ensures in_turn { IfOk result (λ failed.
+        AreMendedFirst shapes.now missing.now blocks.now disks.old disks.new) }
     ensures flushed { IfOk result (λ failed. AreFlushedBelow disks.old disks.new missing.now
         failed.items (length disks.new.starts)) }
     ensures refused { IfErr result (λ refusal. (refusal ≡ Refusal.NoMemory)

@@ -3,7 +3,7 @@ ghost use Rattle.std.specs.Prelude.{◌≡◌, ◌⊎◌, ◌*◌, IfErr, IfNone
 ghost use Rattle.sha2.specs.Sha256.{sha256};
 ghost use Rattle.block_pointer.specs.Copies.{dvas};
 ghost use Rattle.raidz_io.specs.Reads.{AreUntouched, OnlyReads};
-ghost use Rattle.scrub_resilver.specs.Copies.{AreMisplaced, AreUnread, HaveRoom, IsMisplaced, IsUnreadAt};
+ghost use Rattle.scrub_resilver.specs.Copies.{AreMisplaced, AreUnread, HaveRoom, IsChosenAt, IsChosenOf, IsMisplaced, IsUnreadAt};
 
 use crate::copies::{extent_at, places_of};
 use crate::refusal::Refusal;
@@ -29,6 +29,8 @@ fn read_copy<D: Disk + Drop>(
         sha256 bytes.items ≡ block.now.checksum)) }
     ensures size { IfOk result (λ read. IfSome read (λ bytes.
         length bytes.items ≡ block.now.property.sectors * 512)) }
+    ensures chosen { IfOk result (λ read. IfSome read (λ bytes. IsChosenAt
+        shapes.now disks.old disks.new block.now bytes.items place)) }
     ensures none { IfOk result (λ read. IfNone read (IsUnreadAt
         shapes.now disks.old disks.new missing.now block.now place)) }
     ensures refused { IfErr result (λ refusal. (refusal ≡ Refusal.NoMemory)
@@ -61,6 +63,8 @@ fn read_first<D: Disk + Drop>(
         sha256 bytes.items ≡ block.now.checksum)) }
     ensures size { IfOk result (λ read. IfSome read (λ bytes.
         length bytes.items ≡ block.now.property.sectors * 512)) }
+    ensures chosen { IfOk result (λ read. IfSome read (λ bytes. IsChosenOf
+        shapes.now disks.old disks.new block.now bytes.items places.now)) }
     ensures none { IfOk result (λ read. IfNone read (AreUnread
         shapes.now disks.old disks.new missing.now block.now places.now)) }
     ensures refused { IfErr result (λ refusal. (refusal ≡ Refusal.NoMemory)
@@ -91,6 +95,8 @@ pub(crate) fn read_right<D: Disk + Drop>(
         sha256 bytes.items ≡ block.now.checksum)) }
     ensures size { IfOk result (λ read. IfSome read (λ bytes.
         length bytes.items ≡ block.now.property.sectors * 512)) }
+    ensures chosen { IfOk result (λ read. IfSome read (λ bytes. IsChosenOf
+        shapes.now disks.old disks.new block.now bytes.items (dvas block.now.copies))) }
     ensures none { IfOk result (λ read. IfNone read (AreUnread
         shapes.now disks.old disks.new missing.now block.now (dvas block.now.copies))) }
     ensures refused { IfErr result (λ refusal. (refusal ≡ Refusal.NoMemory)

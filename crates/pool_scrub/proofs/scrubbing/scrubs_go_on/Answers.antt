@@ -1,5 +1,12 @@
-use Rattle.pool_scrub.proofs.Clean.{goes_on}
+use Rattle.pool_scrub.proofs.Behind.{goes_on}
 use Rattle.pool_scrub.proofs.scrubbing.scrubs_go_on.Goals as goal
 
 pub returns : goal.returns
-returns c = goes_on c.checked_blocks_stand.ensures
+returns g c =
+    goes_on (record {
+      spare = c.mends_spare_blocks.ensures;
+      stand = c.blocks_looked_at_stand.ensures;
+      share = c.apart_blocks_share_no_byte.ensures;
+      keep = c.reads_keep_contents.ensures;
+      still = c.stands_while_kept.ensures;
+    }) g.D.Disk

@@ -15,7 +15,7 @@ returns-clause-checked g c =
       more,
       is,
       block_checked c.args.shapes.now c.args.disks.now c.read_right.new.disks c.check_places.new.disks c.args.missing.now c.args.block.now c.in_ok-read.read
-          c.in_ok-right.right c.as_slice.result.now more c.in_ok-read.ensures.reads c.check_places.ensures.reads c.in_ok-read.ensures.digest c.in_ok-read.ensures.none
+          c.in_ok-right.right c.as_slice.result.now more c.in_ok-read.ensures.reads c.check_places.ensures.reads c.in_ok-read.ensures.digest c.in_ok-read.ensures.chosen c.in_ok-read.ensures.none
           c.in_ok-right.ensures (c.as_slice.ensures.value ∙ c.places_of-places.ensures) are,
     )) c.check_places.ensures.checked
 

@@ -1,6 +1,7 @@
-use Rattle.std.proofs.Common.{ℕ, List, ap, ◌∙◌}
+use Rattle.std.proofs.Common.{ℕ, inl, inr, List, ap, ◌∙◌}
 use Rattle.sha2.specs.Sha256.{sha256}
 use Rattle.scrub_resilver.proofs.Mended.{block_mended, ok_after, reads_go_on, reads_repair, repairs_on, unread_block}
+use Rattle.scrub_resilver.proofs.Turns.{rewritten}
 use Rattle.scrub_resilver.proofs.mending.mend_block.Goals as goal
 
 pub returns-in_err-read-clause-mends : goal.returns-in_err-read-clause-mends
@@ -25,4 +26,15 @@ returns-clause-mended g c =
     (reads_go_on _ _ c.in_ok-read.ensures.reads)
     (c.as_slice.ensures.value ∙ c.places_of-places.ensures)
     (ap (λ (bytes : List ℕ). sha256 bytes) c.as_slice-2.ensures.value ∙ (rw c.in-Some.is at c.in_ok-read.ensures.digest)))
+    c.mend_places.ensures.mended
+
+pub returns-in_default-clause-turn : goal.returns-in_default-clause-turn
+returns-in_default-clause-turn g c = inl (reads_repair _ _ _ _ c.in_ok-read.ensures.reads c.in_ok-read.ensures.untouched)
+
+pub returns-clause-turn : goal.returns-clause-turn
+returns-clause-turn g c =
+    ok_after c.mend_places.result _ _
+    (λ _. inr (rewritten c.args.shapes.now c.args.missing.now c.args.block.now c.as_slice-2.result.now c.in-Some.content.items
+    c.args.disks.now c.read_right.new.disks c.mend_places.new.disks c.in_ok-read.ensures.reads c.in_ok-read.ensures.untouched c.as_slice-2.ensures.value
+    (rw c.in-Some.is at c.in_ok-read.ensures.chosen) (rw c.in-Some.is at c.in_ok-read.ensures.digest) c.mend_places.ensures.own))
     c.mend_places.ensures.mended
