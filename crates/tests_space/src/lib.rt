@@ -1,4 +1,5 @@
-//! Tests of free space, of what is to be freed, and of the space maps that groups write: nothing but tests.
+//! Tests of free space, of what is to be freed, and of the space maps that groups write: nothing but tests. The cases stand in
+//! tables, each a line of calls beside what comes of them.
 #![tactic(auto)]
 
 #[cfg(test)]
@@ -6,15 +7,13 @@ mod dead_lists;
 #[cfg(test)]
 mod free_sets;
 #[cfg(test)]
-mod group_maps;
+mod lines;
 #[cfg(test)]
 mod metaslab_groups;
 #[cfg(test)]
 mod metaslabs;
 #[cfg(test)]
 mod random_groups;
-#[cfg(test)]
-mod space_maps;
 #[cfg(test)]
 mod stores;
 #[cfg(test)]

@@ -11,7 +11,7 @@ use std::test::Fail;
 pub(crate) type Store = BlockStore<MemDisk>;
 
 /// The smallest disk: three have room for five metaslabs.
-const DISK_BYTES: usize = 0x800000;
+pub(crate) const DISK_BYTES: usize = 0x800000;
 
 /// How many metaslabs there are before the meta region.
 pub(crate) const METASLABS: u64 = 2;
@@ -19,13 +19,8 @@ pub(crate) const METASLABS: u64 = 2;
 /// How many sectors each has.
 pub(crate) const SECTORS: u64 = 4096;
 
-pub(crate) fn new_store(alloc: Global) -> Result<Store, Fail> {
-    let disks = MemDisk::several(alloc, 3, DISK_BYTES)?;
-    store_over(alloc, disks)
-}
-
 /// A store over these disks, of which nothing is known.
-fn store_over(alloc: Global, disks: Vec<MemDisk>) -> Result<Store, Fail> {
+pub(crate) fn store_over(alloc: Global, disks: Vec<MemDisk>) -> Result<Store, Fail> {
     let vdev = VdevConfig {
         geometry: Geometry::new(3, 1, 9)?,
         metaslab_shift: 12,
