@@ -43,5 +43,6 @@ module _ {C : Type 0} (g : Ghosts C) (timestamp : ℕ) where
   abbrev pub Changes : C → Step → Reply → C → Type 0
   Changes old item last new = (v : View) → g.represents old v → g.answers_truly old new → IsOneChange old v item last new
 
+  -- the same of a commit of what the open group has
   abbrev pub Commits : C → Reply → C → Type 0
   Commits old last new = (v : View) → g.represents old v → g.answers_truly old new → IsOneCommit old v last new

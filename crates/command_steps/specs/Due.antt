@@ -5,6 +5,7 @@ use Rattle.pool_model.specs.declared.step.Step.TheVariants.{Quiesce, Plan, Devic
 use Rattle.pool_model.specs.declared.step.Reply.{Reply}
 use Rattle.pool_model.specs.declared.step.Reply.TheVariants.{Closed, Quiesced, Planned, Moved, Replan, Refused}
 
+-- the reply is a refusal
 abbrev pub is_refused : Reply → Bool
 is_refused (Refused cause) = true
 is_refused reply = false

@@ -24,6 +24,7 @@ use Rattle.commands.specs.declared.stop.Stop.TheVariants as stop
 abbrev pub act : Change → Step
 act change = Act (record { writer = 1; number = 1; change = change })
 
+-- a write of these bytes, as a command's item
 abbrev pub written : List ℕ → ℕ → List ℕ → Step
 written volume offset bytes = Write (record { writer = 1; number = 1; volume = volume; offset = offset; bytes = bytes })
 
@@ -72,6 +73,7 @@ module _ {S P F R : Type 0} (pools : Ghosts S P F R) where
       pub goes : Goes steps.represents steps.answers_truly steps.links pool (Read name offset len) reply last
       pub why : (reply ≡ Refused cause) ⊎ (cause ≡ NoMemory)
 
+    -- why a read is not done: the pool was not opened, or the read was refused
     abbrev pub IsNotRead : S → List (List ℕ) → List ℕ → ℕ → ℕ → S → Stop R → Type 0
     IsNotRead old files name offset len new (stop.Pools cause) = pools.refuses old files cause new
     IsNotRead old files name offset len new (stop.Pool cause) = IsReadRefused old files name offset len cause new
@@ -115,6 +117,8 @@ module _ {S P F R : Type 0} (pools : Ghosts S P F R) where
       pub tried : IsTried old files timestamp item reply last front new
       pub why : (reply ≡ Refused cause) ⊎ (cause ≡ NoMemory)
 
+    -- why a change is not done: the pool was not opened, the change was refused, or it was committed and
+    -- a disk failed
     abbrev pub IsNotChanged : S → List (List ℕ) → ℕ → Step → S → Stop R → Type 0
     IsNotChanged old files timestamp item new (stop.Pools cause) = pools.refuses old files cause new
     IsNotChanged old files timestamp item new (stop.Pool cause) = IsRefusedBy old files timestamp item cause new
@@ -157,6 +161,8 @@ module _ {S P F R : Type 0} (pools : Ghosts S P F R) where
       pub tried : IsScrubTried old files timestamp report reply last front new
       pub why : (reply ≡ Refused cause) ⊎ (cause ≡ NoMemory)
 
+    -- why a scrub is not done: the pool was not scrubbed, the commit behind it was refused, or it was
+    -- committed and a disk failed
     abbrev pub IsNotScrubbed : S → List (List ℕ) → ℕ → S → Stop R → Type 0
     IsNotScrubbed old files timestamp new (stop.Pools cause) = pools.refuses_scrub old files cause new
     IsNotScrubbed old files timestamp new (stop.Pool cause) = IsScrubRefusedBy old files timestamp cause new

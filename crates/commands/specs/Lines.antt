@@ -68,6 +68,8 @@ module _ {S P F R : Type 0} (pools : Ghosts S P F R) (steps : StepGhosts P) (wor
     pub same : new ≡ old
     pub status_is : (status ≡ Done) ⊎ (status ≡ Fault)
 
+  -- How a line ends: all was done, and is printed, or the output failed; or it was not all done; or it
+  -- printed as it went on; or its words are no command; or they ask for help or the version.
   abbrev pub EndsCommand : Option (List ℕ) → Option (List ℕ) → ExitStatus → Type 0
   EndsCommand before after status =
       IsWhole before after status ⊎ IsUnprinted status ⊎ IsStopped before after status ⊎ IsStreamed before after status ⊎ IsNoCommand before after status ⊎ IsAnswered status

@@ -44,10 +44,12 @@ module _ {S P F R : Type 0} (pools : Ghosts S P F R) where
     pub opens : pools.opens old files pool front between
     pub refuses : pools.refuses_export between pool front cause new
 
+  -- why a pool is not put away: it was not opened, or the export was refused
   abbrev pub IsNotExported : S → List (List ℕ) → S → Stop R → Type 0
   IsNotExported old files new (stop.Pools cause) = pools.refuses old files cause new ⊎ IsExportRefused old files cause new
   IsNotExported old files new other = ⊥
 
+  -- a pool is not made, for a cause of which this is true
   abbrev pub IsNotMade : S → S → Stop R → (R → Type 0) → Type 0
   IsNotMade old new (stop.Pools cause) why = why cause
   IsNotMade old new other why = ⊥
@@ -105,10 +107,12 @@ module _ {S P F R : Type 0} (pools : Ghosts S P F R) where
     StopsZfs (zfs.Read offset len name files) timestamp input old s new = IsNotRead pools steps old files name offset len new s
     StopsZfs other timestamp input old s new = ⊥
 
+    -- what a line does that prints at its end, and what it prints
     abbrev pub Does : Command → ℕ → Option (List ℕ) → S → List ℕ → S → Type 0
     Does (Zpool command) timestamp input old printed new = DoesZpool command timestamp old printed new
     Does (Zfs command) timestamp input old printed new = DoesZfs command timestamp input old printed new
 
+    -- why a line ends before its end
     abbrev pub Stops : Command → ℕ → Option (List ℕ) → S → Stop R → S → Type 0
     Stops (Zpool command) timestamp input old s new = StopsZpool command timestamp old s new
     Stops (Zfs command) timestamp input old s new = StopsZfs command timestamp input old s new

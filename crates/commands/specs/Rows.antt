@@ -11,9 +11,11 @@ pub record Listed : Type 0 where
   pub block_size : ℕ
   pub group : ℕ
 
+-- what a row tells
 abbrev pub listed : VolumeRow → Listed
 listed row = record { name = string_bytes row.name; size = row.size; block_size = row.block_size; group = row.group }
 
+-- what is to be told of a volume or a snapshot: its name, its size and block size in bytes, and its group
 abbrev pub listed_of : PlainVolume → Listed
 listed_of volume = record { name = volume.name; size = length volume.bytes; block_size = volume.block_size; group = volume.group }
 

@@ -57,6 +57,7 @@ module _ {P : Type 0} (steps : StepGhosts P) where
     pub silent : written ≡ output
     pub unread : left ≡ input
 
+  -- a session served the name; or there is no such name, or no memory, and nothing is said
   abbrev pub IsServedBy : {R : Type 0} → P → P → List ℕ → Option (List ℕ) → Option (List ℕ) → Option (List ℕ) → Option (List ℕ) → Result (Unit {0}) (Stop R) → Type 0
   IsServedBy pool last name input left output written stopped = IsSession pool last name input left output written stopped ⊎ IsNotServed pool last input left output written stopped
 

@@ -25,6 +25,7 @@ abbrev pub state_by : Option StaleSpan → DiskState
 state_by (Some span) = Stale span.from span.to
 state_by None = Online
 
+-- a disk that is out is absent; another is stale where it has a span, else online
 abbrev pub state_of : Bool → List StaleSpan → ℕ → DiskState
 state_of true spans guid = Absent
 state_of false spans guid = state_by (find (λ span. span.disk == guid) spans)
@@ -41,6 +42,7 @@ pub record Told : Type 0 where
   pub parities : ℕ
   pub disks : List DiskStatus
 
+-- what the status of a vdev tells
 abbrev pub told : VdevStatus → Told
 told vdev = record { number = vdev.number; parities = vdev.parities; disks = vdev.disks.items }
 

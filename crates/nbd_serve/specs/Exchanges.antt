@@ -21,9 +21,11 @@ pub record Exchange : Type 0 where
 abbrev pub exchange : RequestHead → List ℕ → Answer → Exchange
 exchange head payload answer = record { head = head; payload = payload; error = answer.error; bytes = answer.bytes.items }
 
+-- what the client sends of an exchange: the request, and the bytes to write
 abbrev pub asked : Exchange → List ℕ
 asked e = request_bytes e.head ++ e.payload
 
+-- what it gets: the reply, and the bytes that were read
 abbrev pub replied : Exchange → List ℕ
 replied e = simple_reply_bytes e.error e.head.cookie ++ e.bytes
 
@@ -31,6 +33,7 @@ replied e = simple_reply_bytes e.error e.head.cookie ++ e.bytes
 abbrev pub all_asked : List Exchange → List ℕ
 all_asked exchanges = flat_map asked exchanges
 
+-- all that the client gets, in order
 abbrev pub all_replied : List Exchange → List ℕ
 all_replied exchanges = flat_map replied exchanges
 
@@ -39,6 +42,7 @@ abbrev pub payload_len : Option Command → RequestHead → ℕ
 payload_len (Some Write) head = head.len
 payload_len other head = 0
 
+-- how many bytes stand behind the head of a reply: those of a read without an error
 abbrev pub reply_len : Option Command → RequestHead → Option ErrorCode → ℕ
 reply_len (Some Read) head None = head.len
 reply_len other head error = 0
@@ -52,6 +56,7 @@ IsDone true name offset bytes c d = (m : Contents) × IsWritten name offset byte
 abbrev pub IsNotDone : Bool → List ℕ → ℕ → List ℕ → Contents → Contents → Type 0
 IsNotDone forced name offset bytes c d = IsSame c d ⊎ (IsCutOff name offset bytes c d ⊎ ((forced ≡ true) × IsWritten name offset bytes c d))
 
+-- what an exchange of this command, with this error or none, makes of the pool
 abbrev pub BecomesOf : List ℕ → Exchange → Option Command → Option ErrorCode → Contents → Contents → Type 0
 BecomesOf name e (Some Read) None c d = AreRead name e.head.offset e.head.len e.bytes c d
 BecomesOf name e (Some Write) None c d = IsDone (is_forced e.head) name e.head.offset e.payload c d

@@ -57,6 +57,7 @@ module _ (export : Export) (no_zeroes : Bool) where
     pub none : IsNoOption export bytes
     pub asked : Consumes between left bytes
 
+  -- behind them nothing more was told: the input tore, or memory ran out
   abbrev pub StopsShort : Option (List ℕ) → Option (List ℕ) → Option (List ℕ) → Type 0
   StopsShort input output written = (between : Option (List ℕ)) × Deals input between output written
 

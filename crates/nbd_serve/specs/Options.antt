@@ -29,9 +29,11 @@ dealing option content dealt = record { option = option; content = content; answ
 abbrev pub optioned : ℕ → List ℕ → List ℕ
 optioned option content = option_head_bytes (record { option = option; len = length content }) ++ content
 
+-- what the client sends of an option: its head and its data
 abbrev pub wished : Dealing → List ℕ
 wished d = optioned d.option d.content
 
+-- what the option is answered
 abbrev pub answered : Dealing → List ℕ
 answered d = d.answer
 
@@ -72,6 +74,7 @@ abbrev pub go_course : Wish → Course
 go_course Known = Agreed
 go_course other = GoesOn
 
+-- an option of this kind, or an unknown one, has this answer, and leads there
 abbrev pub IsDealtAs : Export → Bool → Dealing → Course → Option OptionKind → Type 0
 IsDealtAs export no_zeroes d course (Some ExportName) = (is_known export d.content ≡ true) × (d.answer ≡ export_answer export no_zeroes) × (course ≡ Agreed)
 IsDealtAs export no_zeroes d course (Some Abort) = (d.answer ≡ replying d.option reply.Ack []) × (course ≡ Left)

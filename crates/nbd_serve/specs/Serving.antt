@@ -59,6 +59,7 @@ module _ {P : Type 0} (steps : Ghosts P) (export : Export) (old new : Device P) 
     pub caused : IsCaused steps flushing before new cause
     pub leads : Leads steps old new (ExchangedAnd (name_of old) exchanges IsSame)
 
+  -- the exchanges were made, and at the end all was flushed, or the flush was refused
   abbrev pub EndsSession : Result (Unit {0}) Ended → Type 0
   EndsSession (Err (Refused cause)) = IsRefusedAtEnd cause
   EndsSession result = IsFlushedAtEnd result

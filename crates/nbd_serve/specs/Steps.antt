@@ -20,6 +20,7 @@ module _ {P : Type 0} (steps : Ghosts P) (export : Export) (head : RequestHead) 
     pub answers : Answers steps export old exchange new
     pub consumed : Consumes input left exchange.payload
 
+  -- it was answered, and the reply was sent
   pub record IsSent : Type 0 where
     pub answered : IsAnswered
     pub sent : Appends output written (replied answered.exchange)
@@ -29,6 +30,8 @@ module _ {P : Type 0} (steps : Ghosts P) (export : Export) (head : RequestHead) 
     pub same : new ≡ old
     pub silent : written ≡ output
 
+  -- How a request ended. It was answered, and the reply was sent, or the output failed. Or nothing was asked
+  -- and sent: the input tore in its payload, or it is a write of more than 32 MiB.
   abbrev pub Steps : Result (Unit {0}) Ended → Type 0
   Steps (Ok done) = IsSent
   Steps (Err Torn) = IsLeftAlone

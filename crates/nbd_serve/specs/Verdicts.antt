@@ -26,12 +26,15 @@ is_within export head = nat_le (head.offset + head.len) export.size
 abbrev pub judged_read : Export → RequestHead → Option ErrorCode
 judged_read export head = if is_in_blocks head && nat_le head.len (2 ^ 25) && is_within export head then None else Some Invalid
 
+-- a write: not permitted to a read-only export, invalid unless of whole blocks, no space past the end
 abbrev pub judged_write : Export → RequestHead → Option ErrorCode
 judged_write export head = if export.read_only then Some NotPermitted else if not (is_in_blocks head) then Some Invalid else if is_within export head then None else Some NoSpace
 
+-- a flush: invalid unless its offset and its length are 0
 abbrev pub judged_flush : RequestHead → Option ErrorCode
 judged_flush head = if nat_eq head.offset 0 && nat_eq head.len 0 then None else Some Invalid
 
+-- a request by its command: an unknown one is invalid, and so is a DISC, which is never answered
 abbrev pub judged_as : Export → RequestHead → Option Command → Option ErrorCode
 judged_as export head (Some Read) = judged_read export head
 judged_as export head (Some Write) = judged_write export head

@@ -9,6 +9,7 @@ use Rattle.nbd_wire.specs.declared.options.OptionKind.TheVariants.{Abort, Export
 abbrev pub option_head_bytes : OptionHead → List ℕ
 option_head_bytes head = to_be_bytes w64 0x4948_4156_454f_5054 ++ (to_be_bytes w32 head.option ++ to_be_bytes w32 head.len)
 
+-- these bytes are the head of this option, each number of it in 32 bits
 pub record SpellsOptionHead (bytes : List ℕ) (head : OptionHead) : Type 0 where
   pub option : head.option < 2 ^ 32
   pub len : head.len < 2 ^ 32

@@ -23,6 +23,7 @@ option_reply_bytes option reply len = to_be_bytes w64 0x0003_e889_0455_65a9 ++ (
 abbrev pub transmission_flags : Bool → ℕ
 transmission_flags read_only = if read_only then 15 else 13
 
+-- the size of an export in bytes, and its transmission flags
 abbrev pub export_bytes : ℕ → Bool → List ℕ
 export_bytes size read_only = to_be_bytes w64 size ++ to_be_bytes w16 (transmission_flags read_only)
 

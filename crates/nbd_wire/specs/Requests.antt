@@ -13,6 +13,7 @@ request_bytes head =
     to_be_bytes w32 0x2560_9513 ++ (to_be_bytes w16 head.flags ++ (to_be_bytes w16 head.kind
     ++ (to_be_bytes w64 head.cookie ++ (to_be_bytes w64 head.offset ++ to_be_bytes w32 head.len))))
 
+-- these bytes are the head of this request, each number of it in its width
 pub record SpellsRequest (bytes : List ℕ) (head : RequestHead) : Type 0 where
   pub flags : head.flags < 2 ^ 16
   pub kind : head.kind < 2 ^ 16
@@ -37,6 +38,7 @@ number_of_error error.NoSpace = 28
 number_of_error error.NotSupported = 95
 number_of_error error.Shutdown = 108
 
+-- the number of an error, or 0 where there is none
 abbrev pub error_number : Option ErrorCode → ℕ
 error_number None = 0
 error_number (Some code) = number_of_error code

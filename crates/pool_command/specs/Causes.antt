@@ -24,6 +24,7 @@ abbrev pub words_by_kind : ErrorKind → Error → Refusal
 words_by_kind OutOfMemory error = NoMemory
 words_by_kind kind error = Words error
 
+-- the refusal that an error of the parse becomes: want of memory, or the words with their error
 abbrev pub of_words : Error → Refusal
 of_words error = words_by_kind (kind_of error) error
 
@@ -33,6 +34,7 @@ is_answer_kind DisplayHelp = true
 is_answer_kind DisplayVersion = true
 is_answer_kind _ = false
 
+-- the refusal is no fault: help or the version was asked for
 abbrev pub is_answer : Refusal → Bool
 is_answer (Words error) = is_answer_kind (kind_of error)
 is_answer _ = false

@@ -17,12 +17,14 @@ use Rattle.pool_command.specs.Words.{zpool_app, zfs_app}
 use Rattle.pool_command.specs.Values.{flag_in, files_in, given_number, last_files, number_in, or_missing, parities_in, parts_of, place_of, range_of, text_in}
 
 infixl 10 ◌>>=◌
+-- what is read next, by what was read before; or the first cause why nothing is
 abbrev pub ◌>>=◌ : {A B : Type 0} → Result A Cause → (A → Result B Cause) → Result B Cause
 (Ok x) >>= f = f x
 (Err cause) >>= f = Err cause
 
 -- ---- the commands, by what a parse found for each option and place
 
+-- what `zpool create` asks for
 unfoldable pub new_pool : List Row → Result NewPool Cause
 new_pool rows = do
   seed ← number_in (codes "seed") rows
@@ -34,6 +36,7 @@ new_pool rows = do
   files ← files_in rows
   Ok (record { seed = seed; bytes = bytes; meta = meta; shift = shift; name = name; parities = parities; files = files })
 
+-- what `zpool add` asks for, its last files as the new ones
 unfoldable pub new_vdev : List Row → Result NewVdev Cause
 new_vdev rows = do
   seed ← number_in (codes "seed") rows
@@ -51,6 +54,7 @@ named_files rows = do
   files ← files_in rows
   Ok (name, files)
 
+-- what `zfs create` asks for: a volume of this size, in blocks of this size, both in bytes
 unfoldable pub new_volume : List Row → Result ZfsCommand Cause
 new_volume rows = do
   size ← number_in (codes "size") rows
@@ -58,6 +62,7 @@ new_volume rows = do
   named ← named_files rows
   Ok (zfs.Create size block_size named.0 named.1)
 
+-- what `zfs snapshot` asks for: the volume's name, and the part behind the first '@'
 unfoldable pub new_snapshot : List Row → Result ZfsCommand Cause
 new_snapshot rows = do
   text ← text_in (codes "snapshot") rows
@@ -73,40 +78,48 @@ new_clone rows = do
   named ← named_files rows
   Ok (zfs.Clone text named.0 named.1)
 
+-- what `zfs destroy` asks for
 unfoldable pub destroyed : List Row → Result ZfsCommand Cause
 destroyed rows = do
   named ← named_files rows
   Ok (zfs.Destroy named.0 named.1)
 
+-- what `zfs serve` asks for
 unfoldable pub served : List Row → Result ZfsCommand Cause
 served rows = do
   named ← named_files rows
   Ok (zfs.Serve named.0 named.1)
 
+-- a write that begins at this byte; or with none all of the input, from the volume's first byte on
 abbrev pub write_at : Option ℕ → Text → List Text → ZfsCommand
 write_at (Some offset) name files = zfs.Write offset name files
 write_at None name files = zfs.WriteAll name files
 
+-- what `zfs write` asks for: one of `--at N` and `--all` has to be there
 unfoldable pub written : List Row → Result ZfsCommand Cause
 written rows = do
   place ← place_of (given_number (codes "at") rows) (flag_in (codes "all") rows)
   named ← named_files rows
   Ok (write_at place named.0 named.1)
 
+-- a read of this range in bytes; or with none the whole volume or snapshot
 abbrev pub read_at : Option (ℕ × ℕ) → Text → List Text → ZfsCommand
 read_at (Some range) name files = zfs.Read range.0 range.1 name files
 read_at None name files = zfs.ReadAll name files
 
+-- what `zfs read` asks for: a range by `--at N` and `--len N`, or all with neither
 unfoldable pub read_out : List Row → Result ZfsCommand Cause
 read_out rows = do
   range ← range_of (given_number (codes "at") rows) (given_number (codes "len") rows)
   named ← named_files rows
   Ok (read_at range named.0 named.1)
 
+-- what is made of what was read, or why nothing was
 abbrev pub made : {A B : Type 0} → (A → B) → Result A Cause → Result B Cause
 made f (Ok a) = Ok (f a)
 made f (Err cause) = Err cause
 
+-- what the command of `zpool` of this name asks for, by what a parse found for it
 unfoldable pub zpool_command : Text → List Row → Result ZpoolCommand Cause
 zpool_command name rows =
     if bytes_eq name (codes "create") then made zpool.Create (new_pool rows)
@@ -116,6 +129,7 @@ zpool_command name rows =
     else (if bytes_eq name (codes "export") then made zpool.Export (files_in rows)
     else Err missing))))
 
+-- what the command of `zfs` of this name asks for, by what a parse found for it
 unfoldable pub zfs_command : Text → List Row → Result ZfsCommand Cause
 zfs_command name rows =
     if bytes_eq name (codes "create") then new_volume rows
@@ -135,14 +149,17 @@ abbrev pub unless_faulty : {A : Type 0} → Kinds → Option A → Result A Caus
 unless_faulty [] found = or_missing found
 unless_faulty (kind ∷ kinds) found = Err (by_words (kind ∷ kinds))
 
+-- the command that the words name, with what they say for its options and places; or why they are refused
 abbrev pub found_in : App → List Text → Result (Text × List Row) Cause
 found_in app words = unless_faulty (fault_of app words) (subcommand_of app words)
 
+-- what the words of a line of `zpool` ask for
 unfoldable pub zpool_of : List Text → Result ZpoolCommand Cause
 zpool_of words = do
   found ← found_in zpool_app words
   zpool_command found.0 found.1
 
+-- what the words of a line of `zfs` ask for
 unfoldable pub zfs_of : List Text → Result ZfsCommand Cause
 zfs_of words = do
   found ← found_in zfs_app words

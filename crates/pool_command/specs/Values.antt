@@ -15,10 +15,12 @@ number_of text = if is_unsigned_in 0 18446744073709551615 text then Some (digits
 abbrev pub parities_of : Text → Result ℕ Cause
 parities_of text = if bytes_eq text (codes "raidz1") then Ok 1 else (if bytes_eq text (codes "raidz2") then Ok 2 else Err no_type)
 
+-- how many parities a vdev of the type that was read has, or why none was read
 abbrev pub parities_as : Result Text Cause → Result ℕ Cause
 parities_as (Ok text) = parities_of text
 parities_as (Err cause) = Err cause
 
+-- what stands before this place and behind it; with no place it is no name of a snapshot
 abbrev pub parts_at : Text → Option ℕ → Result (Text × Text) Cause
 parts_at text None = Err no_part
 parts_at text (Some at) = Ok (take at text, drop (at + 1) text)
@@ -48,6 +50,7 @@ range_of None (Some len) = Err half_range
 
 -- ---- the values that stand in the rows of a parse
 
+-- what is there, or that a word is missing
 abbrev pub or_missing : {A : Type 0} → Option A → Result A Cause
 or_missing (Some a) = Ok a
 or_missing None = Err missing
@@ -56,12 +59,15 @@ or_missing None = Err missing
 abbrev pub given_number : Text → List Row → Option ℕ
 given_number id rows = option_and_then number_of (one_of id rows)
 
+-- the number of an option that has to be there or has a default; else a word is missing
 abbrev pub number_in : Text → List Row → Result ℕ Cause
 number_in id rows = or_missing (given_number id rows)
 
+-- the text of an option or a place that has to be there; else a word is missing
 abbrev pub text_in : Text → List Row → Result Text Cause
 text_in id rows = or_missing (first_of id rows)
 
+-- the files, in the order of the line; else a word is missing
 abbrev pub files_in : List Row → Result (List Text) Cause
 files_in rows = or_missing (all_of (codes "files") rows)
 

@@ -44,6 +44,7 @@ files_rule = many_rule (codes "files")
 abbrev pub leaf_app : Text → List Rule → App
 leaf_app name rules = record { top = record (new_shape name) { rules = rules }; subs = [] }
 
+-- no command is in the list: true where there is none
 abbrev pub has_subs : List Shape → Bool
 has_subs [] = true
 has_subs (s ∷ subs) = false
@@ -52,41 +53,52 @@ has_subs (s ∷ subs) = false
 abbrev pub program_app : Text → List Shape → App
 program_app name subs = record { top = record (new_shape name) { is_leaf = has_subs subs; has_version = true; subcommand_required = true }; subs = subs }
 
+-- a command that takes files and nothing else
 abbrev pub files_alone : Text → App
 files_alone name = leaf_app name (files_rule ∷ [])
 
+-- a command that takes a name, and files behind it
 abbrev pub name_alone : Text → App
 name_alone name = leaf_app name (word_rule (codes "name") ∷ files_rule ∷ [])
 
 -- ---- zpool
 
+-- `zpool create --seed N --bytes N [--meta N] [--ms N] NAME TYPE FILE...`; left out they are 2 and 12
 abbrev pub create_pool : App
 create_pool = leaf_app (codes "create") (number_rule (codes "seed") ∷ number_rule (codes "bytes") ∷ default_rule (codes "meta") (codes "2") ∷ default_rule (codes "ms") (codes "12")
     ∷ word_rule (codes "name") ∷ word_rule (codes "type") ∷ files_rule ∷ [])
 
+-- `zpool add --seed N --bytes N --type TYPE --new N FILE...`, of which the last N files are new
 abbrev pub add_vdev : App
 add_vdev = leaf_app (codes "add") (number_rule (codes "seed") ∷ number_rule (codes "bytes") ∷ text_rule (codes "type") ∷ number_rule (codes "new") ∷ files_rule ∷ [])
 
+-- `zpool` with its commands: create, add, status, scrub and export
 abbrev pub zpool_app : App
 zpool_app = program_app (codes "zpool") (create_pool.top ∷ add_vdev.top ∷ (files_alone (codes "status")).top ∷ (files_alone (codes "scrub")).top ∷ (files_alone (codes "export")).top ∷ [])
 
 -- ---- zfs
 
+-- `zfs create --size N --block N NAME FILE...`
 abbrev pub create_volume : App
 create_volume = leaf_app (codes "create") (number_rule (codes "size") ∷ number_rule (codes "block") ∷ word_rule (codes "name") ∷ files_rule ∷ [])
 
+-- `zfs snapshot VOLUME@SNAPSHOT FILE...`
 abbrev pub snapshot_volume : App
 snapshot_volume = leaf_app (codes "snapshot") (word_rule (codes "snapshot") ∷ files_rule ∷ [])
 
+-- `zfs clone VOLUME@SNAPSHOT NAME FILE...`
 abbrev pub clone_snapshot : App
 clone_snapshot = leaf_app (codes "clone") (word_rule (codes "snapshot") ∷ word_rule (codes "name") ∷ files_rule ∷ [])
 
+-- `zfs write [--at N] [--all] NAME FILE...`; that just one of the two stands there is asked later
 abbrev pub write_volume : App
 write_volume = leaf_app (codes "write") (given_rule (codes "at") ∷ flag_rule (codes "all") ∷ word_rule (codes "name") ∷ files_rule ∷ [])
 
+-- `zfs read [--at N] [--len N] NAME FILE...`; that both stand there or neither is asked later
 abbrev pub read_volume : App
 read_volume = leaf_app (codes "read") (given_rule (codes "at") ∷ given_rule (codes "len") ∷ word_rule (codes "name") ∷ files_rule ∷ [])
 
+-- `zfs` with its commands: create, snapshot, clone, destroy, list, write, read and serve
 abbrev pub zfs_app : App
 zfs_app = program_app (codes "zfs") (create_volume.top ∷ snapshot_volume.top ∷ clone_snapshot.top ∷ (name_alone (codes "destroy")).top
     ∷ (files_alone (codes "list")).top ∷ write_volume.top ∷ read_volume.top ∷ (name_alone (codes "serve")).top ∷ [])

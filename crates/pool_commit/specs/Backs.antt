@@ -51,6 +51,7 @@ SpellsKept stored group None None = Unit {0}
 SpellsKept stored group (Some kept) None = ⊥
 SpellsKept stored group None (Some pool) = ⊥
 
+-- the volumes of a group, if the view keeps it: one of the last three committed ones
 abbrev pub kept_pool : View → ℕ → Option PlainPool
 kept_pool v group = if is_kept v group then Some (v.pools group) else None
 
@@ -95,6 +96,7 @@ pub record HasPlan (s : State) (planned : Contents) (plan : Planned) (v : View) 
       → Contains plan.behind.slots.items write ⊎ ((s.store.due ≡ []) × ShowsIn s.store.disks plan.uberblock write)
   pub in_use : AllByRecursion (λ (call : DueCall). is_out s.store.out call.disk ≡ false) (left_calls counts slot_counts s.store.due plan.behind)
 
+-- the plan that is kept is the view's; where none is, the view has none
 abbrev pub IsPlanOf : State → Contents → Option Planned → View → Type 0
 IsPlanOf s planned None v = is_planned v.sync ≡ false
 IsPlanOf s planned (Some plan) v = HasPlan s planned plan v
@@ -162,6 +164,7 @@ pub record PlansReach (spaces : List VdevSpace) (before : ℕ → List Block) (s
   pub released : WereReleasedBy spaces planned_marks group
   pub mapped : HasMaps spaces planned group after.root pool
 
+-- where a group is planned, what its root leads to, and what is in use for it
 abbrev pub IsReachOfPlan : List VdevSpace → (ℕ → List Block) → Contents → Contents → Option Planned → View → Type 0
 IsReachOfPlan spaces before stored planned None v = Unit {0}
 IsReachOfPlan spaces before stored planned (Some plan) v = PlansReach spaces before stored planned (suc v.committed) plan.after (pool_after v)
@@ -180,6 +183,8 @@ pub record HasBlocks (s : State) (v : View) : Type 0 where
   pub reached : StoresReach s.store.spaces stored s.kept (kept_pool v)
   pub plan_reached : IsReachOfPlan s.store.spaces reached.reach stored planned s.planned v
 
+-- The state is what the view says of it: the vdevs, the disks that are out or stale, the committed group,
+-- the volumes that each kept group's root spells, and what is left of a plan.
 pub record Backs (s : State) (v : View) : Type 0 where
   pub vdevs : v.vdevs ≡ vdevs_of s.store.spaces
   -- its commits end in uberblock slots

@@ -47,9 +47,11 @@ told_since tells n (made ∷ earlier) = told_since tells n earlier ++ (if nat_le
 abbrev pub made_between : Disks → Disks → List DiskCall
 made_between old new = told_since plan_call (length old.calls) new.calls
 
+-- of the writes and flushes that were made since, those that failed, in order
 abbrev pub faults_between : Disks → Disks → List DiskCall
 faults_between old new = told_since fault_call (length old.calls) new.calls
 
+-- the disks of the reads that failed since, in order
 abbrev pub unread_between : Disks → Disks → List ℕ
 unread_between old new = told_since unread_call (length old.calls) new.calls
 
@@ -65,6 +67,7 @@ pub record GrewTo (old new : Disks) : Type 0 where
 
 -- ---- flushes
 
+-- the call is a write, answered or failed
 abbrev pub IsWrite : Call → Type 0
 IsWrite (Wrote at bytes) = Unit {0}
 IsWrite (FailedWrite at bytes) = Unit {0}

@@ -15,6 +15,7 @@ of_store store.BadPointer = BadPointer
 of_store store.BadDigest = BadDigest
 of_store store.BadConfig = BadPointer
 
+-- what the machine calls a refusal of this crate
 abbrev pub cause_of : Refusal → Cause
 cause_of NoMemory = causes.NoMemory
 cause_of DiskFault = causes.DiskFault

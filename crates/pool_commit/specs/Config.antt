@@ -10,6 +10,7 @@ use Rattle.pool_model.specs.View.{Vdev}
 abbrev pub shown : VdevOnDisks → Vdev
 shown vdev = record { first = vdev.first; children = vdev.geometry.children; parity = vdev.geometry.parity }
 
+-- the vdevs of a store, as the machine knows them
 abbrev pub vdevs_of : List VdevSpace → List Vdev
 vdevs_of spaces = map (λ shape. shown shape.vdev) (shapes_of spaces)
 

@@ -82,6 +82,7 @@ pub record FailedCall (old new : Store) (left : List DueCall) (phase : Phase) (d
 abbrev pub MadeWrites : Store → Store → ℕ → Type 0
 MadeWrites old new n = (counts : ℕ → ℕ) → (later : ℕ → ℕ) × MadeCalls old new (writes_left counts old.due) (writes_left later new.due) Blocks n
 
+-- of the writes that were due one to four were made, and the last one failed on this disk
 abbrev pub FailedWrite : Store → Store → ℕ → Type 0
 FailedWrite old new disk = (counts : ℕ → ℕ) → FailedCall old new (writes_left counts old.due) Blocks disk
 

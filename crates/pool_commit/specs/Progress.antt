@@ -36,6 +36,7 @@ pub record AreMade (old new : Disks) (v : View) (made : List DueCall) : Type 0 w
 abbrev pub given_calls : List DueCall → Option DueCall → Given
 given_calls made fault = record { made = made; fault = fault; unread = []; lost = None; trusted = true; full = false }
 
+-- the call that failed, if one did
 abbrev pub fault_list : Option DueCall → List DueCall
 fault_list None = []
 fault_list (Some call) = call ∷ []
@@ -108,6 +109,7 @@ pub record EndsPlan (old new : Store) (marks : Marks) (of_blocks : Contents → 
 abbrev pub StoresPlan : Store → Store → Type 0
 StoresPlan old new = EndsPlan old new planned_marks (λ stored planned. planned)
 
+-- the blocks of the plan are dropped: what was stored before is all that is
 abbrev pub DropsPlan : Store → Store → Type 0
 DropsPlan old new = EndsPlan old new filled (λ stored planned. stored)
 

@@ -116,6 +116,7 @@ abbrev pub IsLostAt : View → State → State → Option (List ℕ) → ℕ →
 IsLostAt v old new None offset len refusal = ⊥
 IsLostAt v old new (Some name) offset len refusal = IsLostUnder v old new v.committed name offset len [] refusal
 
+-- the root after the items was refused as a block couldn't be read, and this is why
 pub record IsLostForPlan (v : View) (old new : State) (items : Entry) (refusal : Refusal) : Type 0 where
   pub unread : IsUnreadForPlan old new items refusal
   pub lost : IsLost v [] old new unread.refused.begun refusal

@@ -42,6 +42,7 @@ pub record IsGroupUnplanned (old new : Store) (last : KeptGroup) (group : ℕ) (
   pub are : AreSpansAfter (guids_in (config_view last.config.value)) old.out group last.spans.value (stale_after spans last.spans_under.value)
   pub why : IsNextRefused old new last.root last.directory.value (config_view last.config.value) group spans items refusal
 
+-- why the root of the next group is not planned: memory ran out, or it is refused with its stale spans
 abbrev pub IsGroupRefusedBehind : Store → Store → KeptGroup → ℕ → Entry → StoreRefusal → Type 0
 IsGroupRefusedBehind old new last group items refusal = (refusal ≡ store.NoMemory) ⊎ IsGroupUnplanned old new last group items refusal
 

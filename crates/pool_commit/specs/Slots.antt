@@ -35,6 +35,7 @@ abbrev pub slots_of_disk : ℕ → List SlotWrite
 slots_of_disk disk =
     record { disk = disk; label = 0 } ∷ record { disk = disk; label = 1 } ∷ record { disk = disk; label = 2 } ∷ record { disk = disk; label = 3 } ∷ []
 
+-- the slots that a group's uberblock has on these disks: one in each of the four labels of each
 abbrev pub all_slots : List ℕ → List SlotWrite
 all_slots disks = flat_map slots_of_disk disks
 

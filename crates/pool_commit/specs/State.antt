@@ -9,12 +9,15 @@ use Rattle.pool_commit.specs.declared.kept.KeptGroup.{KeptGroup}
 use Rattle.pool_commit.specs.declared.kept.Planned.{Planned}
 use Rattle.pool_commit.specs.declared.stamp.Stamp.{Stamp}
 
+-- What a `Commit` holds: the store of blocks, the groups that are kept, the next group's plan,
+-- if there is one, and what all uberblocks of this claim have in common.
 pub record State : Type 0 where
   pub store : Store
   pub kept : Kept
   pub planned : Option Planned
   pub stamp : Stamp
 
+-- its disks, with the record of all calls on them
 abbrev pub disks_of_state : State → Disks
 disks_of_state s = s.store.disks
 
@@ -30,6 +33,7 @@ NoneIsOut s = (disk : ℕ) → is_out s.store.out disk ≡ false
 abbrev pub has_plan : State → Bool
 has_plan s = is_some s.planned
 
+-- no group has a plan
 abbrev pub HasNoPlan : State → Type 0
 HasNoPlan s = s.planned ≡ None
 

@@ -6,10 +6,12 @@ use Rattle.pool_commit.specs.State.{State}
 use Rattle.pool_intake.specs.declared.intake.Intake.{Intake}
 use Rattle.vdev_label.specs.declared.label.Config.{Config}
 
+-- what a core holds: what its pool accepts, and what it has committed and plans
 pub record CoreState : Type 0 where
   pub intake : Intake  -- what the pool accepts
   pub commit : State  -- what is committed, and being committed
 
+-- its disks, with the record of all calls on them
 abbrev pub disks_of : CoreState → Disks
 disks_of s = s.commit.store.disks
 

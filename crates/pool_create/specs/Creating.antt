@@ -115,6 +115,7 @@ pub record IsBackRefused (old : Disks) (pool : PoolIdentity) (config : Config) (
   pub same : refusal ≡ of_read cause
   pub unread : IsUnread labeled it root new cause
 
+-- on blank disks the first group was committed and labels written, and what was read back was refused
 abbrev pub IsNotReadBack : Disks → PoolIdentity → Config → Disks → Refusal → Type 0
 IsNotReadBack old pool config new refusal =
     (it : NewPool) × IsNewPool config (length old.starts) it × GoesTo old (λ blank. IsBackRefused blank pool config it new refusal)

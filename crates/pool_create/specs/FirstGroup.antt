@@ -72,6 +72,7 @@ abbrev pub says_no_space : Reply → Bool
 says_no_space (Refused cause.NoSpace) = true
 says_no_space reply = false
 
+-- a step was refused for want of memory
 abbrev pub says_no_memory : Reply → Bool
 says_no_memory (Refused cause.NoMemory) = true
 says_no_memory reply = false

@@ -67,12 +67,17 @@ pub record Spells (P : PlainLabel → Type 0) (bytes : List ℕ) : Type 0 where
   pub spells : bytes ≡ inscribed label
   pub has : P label
 
+-- each disk's area spells a label that has P
 abbrev pub AllSpell : (PlainLabel → Type 0) → Areas → Type 0
 AllSpell P areas = (which : ℕ) (area : Vec ℕ Global) → IsAreaOf areas which area → Spells P area.items
 
+-- where an even label of each disk in use shows a configuration, and all areas have it, some label of each
+-- does at any moment
 abbrev pub WritesConfigure : List Bool → Disks → Areas → Disks → Type 0
 WritesConfigure out old areas new =
     (digest : List ℕ) → HaveEven (of_config digest) out old → AllSpell (of_config digest) areas → EachSince (length old.calls) (LeavesConfigured out old.starts digest) new.calls
 
+-- where an even label of each disk in use shows a claim no less than this one, and all areas have such a
+-- claim, some label of each does at any moment
 abbrev pub WritesMark : List Bool → Disks → Areas → Disks → Type 0
 WritesMark out old areas new = (claim : ℕ) → HaveEven (of_claim_from claim) out old → AllSpell (of_claim_from claim) areas → MarkedAlways out old new claim

@@ -114,6 +114,8 @@ ReadsIfUsed later u old new which (Err refused.NoDisk) = ⊥
 abbrev pub AreToldOf : Uberblock → Disks → Disks → Areas → Type 0
 AreToldOf u old new areas = (which : ℕ) (area : Vec ℕ Global) → IsAreaOf areas which area → IsToldOf old new which (IsMadeOf u area.items)
 
+-- an area for each disk that is in use still; else want of memory, or a disk in use shows the
+-- configuration in no label
 abbrev pub ReadsAreas : List Bool → Uberblock → Disks → Disks → Result (Vec (Option (Vec ℕ Global)) Global) Refusal → Type 0
 ReadsAreas later u old new (Ok all) = (length all.items ≡ length old.starts) × AreasOn later all.items × AreasFit u all.items × AreToldOf u old new all.items
 ReadsAreas later u old new (Err refused.NoMemory) = Unit {0}

@@ -36,6 +36,7 @@ abbrev pub IsToldOf : (ℕ → (ℕ → Option ℕ) → Type 0) → Disks → Di
 IsToldOf P old new which =
     IsKnown old which → AreHonestSince (length old.calls) new.starts new.calls → P (length (bytes_of old.starts which)) (content old which)
 
+-- the disk doesn't have P
 abbrev pub isnt : (ℕ → (ℕ → Option ℕ) → Type 0) → ℕ → (ℕ → Option ℕ) → Type 0
 isnt P size held = ¬ P size held
 

@@ -23,6 +23,7 @@ use Rattle.pool_labels.specs.declared.scanned.ScannedLabel.{ScannedLabel}
 
 -- ---- labels
 
+-- what was read is a valid label
 abbrev pub IsValidReading : Reading → Type 0
 IsValidReading (Valid l) = Unit {0}
 IsValidReading (Bad it) = ⊥
@@ -33,6 +34,7 @@ pub record IsValidAt (labels : List ScannedLabel) (i : ℕ) (s : ScannedLabel) (
   pub at : slice_get labels i ≡ Some s
   pub valid : s.reading ≡ Valid l
 
+-- some label in the list is valid
 pub record HasValid (labels : List ScannedLabel) : Type 0 where
   pub i : ℕ
   pub s : ScannedLabel
@@ -57,6 +59,8 @@ pub record AreOfOnePool (disk : ℕ) (l : Label) (other : ℕ) (m : Label) : Typ
   pub same : disk ≡ other → l.guid ≡ m.guid
   pub apart : l.guid ≡ m.guid → disk ≡ other
 
+-- what was read of labels on two disks agrees: both are of one pool, and have one guid just where the disks
+-- are one; or one of them isn't valid
 abbrev pub Agree : ℕ → Reading → ℕ → Reading → Type 0
 Agree disk (Valid l) other (Valid m) = AreOfOnePool disk l other m
 Agree disk (Valid l) other (Bad it) = Unit {0}
@@ -64,6 +68,7 @@ Agree disk (Valid l) other Unreadable = Unit {0}
 Agree disk (Bad it) other reading = Unit {0}
 Agree disk Unreadable other reading = Unit {0}
 
+-- what was read of two scanned labels agrees, each on its disk
 abbrev pub LabelsAgree : ScannedLabel → ScannedLabel → Type 0
 LabelsAgree s t = Agree s.disk s.reading t.disk t.reading
 
@@ -140,9 +145,11 @@ IsAbove claim group state other_claim other_group other_state =
     ⊎ (((other_claim ≡ claim) × (other_group < group))
     ⊎ ((other_claim ≡ claim) × (other_group ≡ group) × (other_state < state)))
 
+-- the first label is later than the second, where one that is exported is later than one in use
 abbrev pub IsLater : Label → Label → Type 0
 IsLater l m = IsAbove l.claim l.group (state_number l.state) m.claim m.group (state_number m.state)
 
+-- the label has the configuration of this digest
 abbrev pub of_config : List ℕ → Label → Type 0
 of_config digest l = sha256 (config_bytes (config_view l.config)) ≡ digest
 
@@ -176,6 +183,7 @@ HasFitSource labels u i = (s : ScannedLabel) × (l : Label) × IsSource labels u
 abbrev pub HasLabelAt : List ScannedLabel → ℕ → Type 0
 HasLabelAt labels i = (s : ScannedLabel) × (l : Label) × IsValidAt labels i s l
 
+-- why no label gives the configuration: want of memory, or none has it, or the latest that has it isn't fit
 abbrev pub SourceRefuses : List ScannedLabel → Uberblock → Refusal → Type 0
 SourceRefuses labels u NoMemory = Unit {0}
 SourceRefuses labels u (BadLabel it) = ⊥
@@ -243,6 +251,7 @@ pub record HasTooFew (scan : Scan) (vdevs : List PlainVdev) : Type 0 where
   pub members : AreAllMembers scan vdevs all
   pub few : ¬ AreEnough vdevs all
 
+-- why the children's disks aren't found: want of memory, or too many of a vdev are absent
 abbrev pub MembersRefuse : Scan → List PlainVdev → Refusal → Type 0
 MembersRefuse scan vdevs NoMemory = Unit {0}
 MembersRefuse scan vdevs (BadLabel it) = ⊥

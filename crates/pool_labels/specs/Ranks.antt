@@ -8,6 +8,7 @@ use Rattle.pool_labels.specs.declared.scanned.Reading.TheVariants.{Valid, Bad, U
 use Rattle.pool_labels.specs.declared.scanned.ScannedLabel.{ScannedLabel}
 use Rattle.pool_labels.specs.declared.sources.Rank.{Rank}
 
+-- the first rank is later than the second: by claim, then group, then state
 abbrev pub IsLaterRank : Rank → Rank → Type 0
 IsLaterRank r t = IsAbove r.claim r.group r.state t.claim t.group t.state
 
@@ -27,6 +28,7 @@ pub record AreRanks (digest : List ℕ) (labels : List ScannedLabel) (ranks : Li
   pub count : length ranks ≡ length labels
   pub each : (i : ℕ) (s : ScannedLabel) → slice_get labels i ≡ Some s → RankIs digest s.reading (get_or ranks i None)
 
+-- the label at this place has this rank
 abbrev pub AtRank : List (Option Rank) → ℕ → Rank → Type 0
 AtRank ranks i r = get_or ranks i None ≡ Some r
 
@@ -43,6 +45,7 @@ pub record IsLatestBelow (n : ℕ) (ranks : List (Option Rank)) (i : ℕ) (r : R
 abbrev pub NoneAt : List (Option Rank) → Type 0
 NoneAt ranks = NoneBelow (length ranks) ranks
 
+-- the label at this place is the latest of all that have a rank, the first of several
 abbrev pub IsLatest : List (Option Rank) → ℕ → Type 0
 IsLatest ranks i = (r : Rank) × IsLatestBelow (length ranks) ranks i r
 

@@ -59,6 +59,7 @@ pub record IsScannedLabel (old new : Disks) (s : ScannedLabel) : Type 0 where
   pub says : IsKnown old s.disk → AreHonestSince (length old.calls) new.starts new.calls
       → IsReadingOf (length (bytes_of old.starts s.disk)) (content old s.disk) s.number s.reading
 
+-- where a scanned label lies: the number of its disk, and its own on that disk
 abbrev pub place_of : ScannedLabel → ℕ × ℕ
 place_of s = (s.disk, s.number)
 
@@ -114,6 +115,7 @@ pub record IsScannedDisk (old new : Disks) (which : ℕ) (d : ScannedDisk) : Typ
   pub size : d.size ≡ length (bytes_of old.starts which)
   pub failed : IsTrue d.failed ↔ HasFailedOn old new which
 
+-- each scanned disk has the size of its disk in bytes, and says whether a call on it failed
 abbrev pub AreScannedDisks : Disks → Disks → List ScannedDisk → Type 0
 AreScannedDisks old new disks = (which : ℕ) (d : ScannedDisk) → slice_get disks which ≡ Some d → IsScannedDisk old new which d
 
@@ -125,6 +127,7 @@ has_allowed_size disks which = IsAllowedSize (length (bytes_of disks.starts whic
 abbrev pub is_allowed_disk : Disks → ℕ → ℕ → Type 0
 is_allowed_disk disks disk which = (which ≡ disk) × has_allowed_size disks disk
 
+-- any disk, where a clause asks on which disks reads may have failed
 abbrev pub anywhere : ℕ → Type 0
 anywhere which = Unit {0}
 
@@ -150,6 +153,7 @@ abbrev pub IsUnread : Result ScannedLabel AllocError → ℕ → Type 0
 IsUnread (Ok s) which = s.reading ≡ Unreadable
 IsUnread (Err e) which = Unit {0}
 
+-- what a scan tells of the label of this number on this disk
 abbrev pub ScansLabel : Disks → Disks → ℕ → ℕ → ScannedLabel → Type 0
 ScansLabel old new which number s = (s.disk ≡ which) × (s.number ≡ number) × IsScannedLabel old new s
 
@@ -164,12 +168,14 @@ AreLost (Ok (Some slots)) which = ⊥
 AreLost (Ok None) which = Unit {0}
 AreLost (Err e) which = Unit {0}
 
+-- what the slots of a disk show, all of it and nothing else, where its answers were true
 pub record AreReadSlots (old new : Disks) (which : ℕ) (slots : List (Option Uberblock)) : Type 0 where
   pub fits : (i : ℕ) (u : Uberblock) → Has slots i u → Fits u
   pub each : (i : ℕ) (u : Uberblock) → Has slots i u → IsKnown old which → AreHonestSince (length old.calls) new.starts new.calls
       → IsReadOn (length (bytes_of old.starts which)) (content old which) u
   pub all : HasAllSlots old new slots which
 
+-- what the slots of a disk show, or that the read of one failed
 abbrev pub ScansSlots : Disks → Disks → ℕ → Option (Vec (Option Uberblock) Global) → Type 0
 ScansSlots old new which (Some slots) = AreReadSlots old new which slots.items
 ScansSlots old new which None = IsSlotLost old new which

@@ -6,6 +6,7 @@ use Rattle.vdev_label.specs.Place.{rounded}
 abbrev pub is_allowed_size : ℕ → Bool
 is_allowed_size size = nat_le 8388608 (rounded size) && nat_le (rounded size) (2 ^ 43)
 
+-- a disk of this size in bytes may be one of a pool: from 8 MiB to 2^43 in whole labels
 abbrev pub IsAllowedSize : ℕ → Type 0
 IsAllowedSize size = IsTrue (is_allowed_size size)
 

@@ -101,6 +101,7 @@ module _ {D : Type 0} where
         ⊎ ((back : List D) × (refusal : Refusal) × (is : IsUnopened g disks rewind back refusal) × AnswerTruly is.ordered.found.old is.ordered.found.new
         × AnswerTruly is.array is.new × IsLeft is.out is.array is.new left)
 
+  -- what happened leads from one place to the next, by what the call ensured or what a stop in it left
   abbrev pub Goes : disk.Ghosts D → Place → Happening → Place → Type 0
   Goes g (Up core) (Runs steps replies) (Up later) = IsRun core steps replies later
   Goes g (Up core) (StopsRunning steps at) (Down images) = IsRunStopped core steps at images

@@ -59,6 +59,7 @@ pub record OpensPossible (p : Possible) (pools : Uberblock → PlainPool) (rewin
   pub vdevs : List Vdev
   pub served : v ≡ opened_as vdevs (λ disk. false) none_stale claim.taken.group (pools claim.taken)
 
+-- what is known of a place, and what happens there, tell what is known of the next one
 abbrev pub Tells : Known → Happening → Known → Type 0
 Tells (Serving v last before) (Runs steps replies) (Serving w later earlier) = TakesSteps v last before steps replies w later earlier
 Tells (Serving v last before) (StopsRunning steps at) (Resting p pools) = StopsInSteps v last before steps at p pools
@@ -69,6 +70,7 @@ Tells (Resting p pools) (StopsOpening rewind) (Resting later others) = IsPossibl
 Tells (Resting p pools) (FindsNone rewind) (Resting later others) = (later ≡ p) × (others ≡ pools)
 Tells _ _ _ = ⊥
 
+-- it goes on so, from what is known at first to what is known at last
 abbrev pub IsTale : Known → List Happening → Known → Type 0
 IsTale from [] to = from ≡ to
 IsTale from (it ∷ its) to = (next : Known) × Tells from it next × IsTale next its to

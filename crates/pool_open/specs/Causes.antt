@@ -14,6 +14,7 @@ use Rattle.vdev_label.specs.declared.refusal.Breach.TheVariants as breach
 use Rattle.pool_open.specs.declared.refusal.Refusal.{Refusal}
 use Rattle.pool_open.specs.declared.refusal.Refusal.TheVariants.{NoMemory, DiskFault, NoSpace, BadLabel, NoUberblock, BadPointer, BadDigest, TooManyMissing, PoolMismatch, BadConfig, BadMap}
 
+-- the number by which a schedule's output and a program's error name a refusal
 abbrev pub number_of : Refusal → ℕ
 number_of NoMemory = 1
 number_of DiskFault = 2
@@ -27,6 +28,7 @@ number_of PoolMismatch = 23
 number_of BadConfig = 24
 number_of BadMap = 27
 
+-- the name that stands after the number
 abbrev pub name_of : Refusal → List ℕ
 name_of NoMemory = codes "NoMemory"
 name_of DiskFault = codes "DiskFault"

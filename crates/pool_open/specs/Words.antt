@@ -10,6 +10,7 @@ use Rattle.uberblock_ring.specs.declared.uberblock.Uberblock.{Uberblock}
 abbrev pub vdevs_in : List VdevShape → List Vdev
 vdevs_in shapes = map (λ shape. shown shape.vdev) shapes
 
+-- how many sectors of 512 bytes for blocks the vdevs of these shapes have, over all their children
 abbrev pub sectors_in : List VdevShape → ℕ
 sectors_in [] = 0
 sectors_in (shape ∷ shapes) = shape.child_sectors * shape.vdev.geometry.children + sectors_in shapes

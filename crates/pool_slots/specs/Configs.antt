@@ -75,5 +75,7 @@ pub record MayConfigure (out : List Bool) (disks : Disks) (areas : List (Option 
   pub each : (which : ℕ) (area : Area) → slice_get areas which ≡ Some (Some area) → IsOfConfig digest area
   pub beside : (which : ℕ) (area : Area) → ShowsConfig out disks digest which → slice_get areas which ≡ Some (Some area) → IsBeside (length (bytes_of disks.starts which)) (content disks which) area.first digest
 
+-- Where all areas have a configuration, and each disk that shows it does so beside its claim label too,
+-- a stop at any moment of the claim leaves it in some label of each such disk.
 abbrev pub ClaimConfigures : List Bool → Disks → List (Option Area) → Disks → Type 0
 ClaimConfigures out old areas new = (digest : List ℕ) → MayConfigure out old areas digest → EachSince (length old.calls) (LeavesConfiguredOn (ShowsConfig out old digest) old.starts digest) new.calls

@@ -77,6 +77,7 @@ HasLabeled all which = (it : Labeled) × (slice_get all which ≡ Some (Some it)
 abbrev pub AreLabeledOn : List Bool → List (Option Labeled) → Type 0
 AreLabeledOn out all = (which : ℕ) → InUse out which ↔ HasLabeled all which
 
+-- in what was read of each disk the claim label and the source are among its labels 0 to 3
 abbrev pub AreSmall : List (Option Labeled) → Type 0
 AreSmall all = (which : ℕ) (it : Labeled) → slice_get all which ≡ Some (Some it) → (it.first < 4) × (it.source < 4)
 
@@ -196,6 +197,8 @@ AreFromSources labels donor u disks areas =
     → IsKnown disks donor.disk → IsLabelShown (length (bytes_of disks.starts which)) (content disks which) it.source own
     → IsLabelShown (length (bytes_of disks.starts donor.disk)) (content disks donor.disk) donor.label given → IsAreaFrom it u own given area
 
+-- the areas of all disks of which something was read; else want of memory, a call that failed, or a label
+-- that one is made of shows nothing
 abbrev pub MakesAreas : List (Option Labeled) → Donor → Uberblock → Disks → Disks → Result (Vec (Option Area) Global) Refusal → Type 0
 MakesAreas labels donor u old new (Ok areas) = (length areas.items ≡ length labels) × AreMadeFor labels areas.items × AreasFit u areas.items
     × (AreHonestSince (length old.calls) new.starts new.calls → AreFromSources labels donor u old areas.items)

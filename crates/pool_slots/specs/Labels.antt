@@ -132,6 +132,7 @@ pub record FitsArea (u : Uberblock) (area : Area) : Type 0 where
   pub label : PlainLabel
   pub inscribed_as : IsInscribed u label area.bytes.items
 
+-- each area that a disk has is of a label for this uberblock
 abbrev pub AreasFit : Uberblock → List (Option Area) → Type 0
 AreasFit u areas = (which : ℕ) (area : Area) → slice_get areas which ≡ Some (Some area) → FitsArea u area
 

@@ -24,6 +24,7 @@ AreMarked out starts held claim = (which : ℕ) → InUse out which → IsMarked
 abbrev pub LeavesMarked : List Bool → List (List ℕ) → ℕ → List JointCall → Type 0
 LeavesMarked out starts claim calls = (images : List (List ℕ)) → MayLeaveAll starts calls images → AreMarked out images (held_by images) claim
 
+-- a stop at any moment since the old one leaves, on each disk in use, a label with a claim that is no less
 abbrev pub MarkedAlways : List Bool → Disks → Disks → ℕ → Type 0
 MarkedAlways out old new claim = EachSince (length old.calls) (LeavesMarked out old.starts claim) new.calls
 

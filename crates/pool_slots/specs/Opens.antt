@@ -24,6 +24,7 @@ use Rattle.pool_slots.specs.declared.refusal.Refusal.TheVariants.{NoMemory, Disk
 abbrev pub IsKnown : Disks → ℕ → Type 0
 IsKnown disks which = (i : ℕ) → i < length (bytes_of disks.starts which) → (value : ℕ) × (content disks which i ≡ Some value)
 
+-- each byte of each disk in use is known
 abbrev pub AreKnown : List Bool → Disks → Type 0
 AreKnown out disks = (which : ℕ) → InUse out which → IsKnown disks which
 
@@ -53,6 +54,7 @@ abbrev pub IsFoundOn : List Bool → Disks → ℕ → Option Found → Type 0
 IsFoundOn out disks which None = InUse out which → IsBareOn (length (bytes_of disks.starts which)) (content disks which)
 IsFoundOn out disks which (Some found) = InUse out which × IsHighest (length (bytes_of disks.starts which)) (content disks which) found
 
+-- what was found: the highest uberblock of each disk in use that shows one, and nothing of the others
 abbrev pub AreFound : List Bool → Disks → List (Option Found) → Type 0
 AreFound out disks all = (which : ℕ) → IsFoundOn out disks which (get_or all which None)
 
@@ -97,6 +99,7 @@ pub record IsHighestShown (out : List Bool) (disks : Disks) (u : Uberblock) : Ty
   pub shown : IsRead out disks u
   pub greatest : (v : Uberblock) → IsShown out disks v → RanksUpTo v u
 
+-- the uberblock that was found, if one was
 abbrev pub uberblock_of : Option Found → Option Uberblock
 uberblock_of None = None
 uberblock_of (Some found) = Some found.uberblock
@@ -109,6 +112,7 @@ pub record IsHighestOf (all : List (Option Found)) (u : Uberblock) : Type 0 wher
   pub is : u ≡ found.uberblock
   pub greatest : (other : ℕ) (it : Found) → FoundAt all other it → RanksUpTo it.uberblock u
 
+-- each uberblock that was found has a spelling
 abbrev pub AreFitting : List (Option Found) → Type 0
 AreFitting all = (which : ℕ) (found : Found) → FoundAt all which found → Fits found.uberblock
 
@@ -234,6 +238,7 @@ pub record IsNotThere (out : List Bool) (disks : Disks) (rewind : ℕ) : Type 0 
   pub top : IsHighestShown out disks highest
   pub none : (v : Uberblock) → IsShown out disks v → ¬ IsRewound highest rewind v
 
+-- the same possible uberblocks, and this one as begun to be written too
 abbrev pub also_begun : Uberblock → Possible → Possible
 also_begun u p = record { last = p.last; begun = u ∷ p.begun; before = p.before }
 
@@ -288,6 +293,8 @@ OpenMarks out rewind old new =
 abbrev pub SlotsKeep : List Bool → Disks → Uberblock → List (Option Found) → Disks → Type 0
 SlotsKeep out old u all new = (trees : Trees) (p : Possible) → MayClaim trees out old p u all → LeadAlways trees out old new (also_begun u p)
 
+-- Once all slots of an uberblock that may be claimed are written, it is committed: nothing is unflushed,
+-- and all disks in use lead to it alone.
 abbrev pub SlotsGive : List Bool → Disks → Uberblock → List (Option Found) → Disks → Type 0
 SlotsGive out old u all new =
     (trees : Trees) (p : Possible) → MayClaim trees out old p u all → AreAt trees out new u [] × Leads trees out new.starts (content new) (also_begun u p)
@@ -304,9 +311,13 @@ ClaimsAt trees out old p u areas calls =
     (LeavesLeading trees out old.starts p calls × ((claim : ℕ) → AreSpared out old areas claim → LeavesMarked out old.starts claim calls))
     ⊎ (LeavesLeading trees out old.starts (also_begun u p) calls × LeavesMarked out old.starts u.claim calls)
 
+-- At each moment while an uberblock that may be claimed is claimed, a stop leaves what led there before; or
+-- what leads also to the claim, with a label on each disk in use that shows it.
 abbrev pub ClaimKeeps : List Bool → Disks → Uberblock → List (Option Found) → List (Option Area) → Disks → Type 0
 ClaimKeeps out old u all areas new =
     (trees : Trees) (p : Possible) → MayClaim trees out old p u all → EachSince (length old.calls) (ClaimsAt trees out old p u areas) new.calls
 
+-- Once the claim of an uberblock that may be claimed is done it is committed: nothing is unflushed, and all
+-- disks in use lead to it alone.
 abbrev pub ClaimGives : List Bool → Disks → Uberblock → List (Option Found) → Disks → Type 0
 ClaimGives out old u all new = (trees : Trees) (p : Possible) → MayClaim trees out old p u all → AreAt trees out new u []

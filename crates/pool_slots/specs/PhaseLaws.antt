@@ -62,6 +62,7 @@ LastTreeStands =
 
 -- ---- the slots phase
 
+-- it begins where nothing is unflushed and the next uberblock's tree stands
 abbrev pub SlotsBegin : Type 0
 SlotsBegin =
     (trees : Trees) (out : List Bool) (disks : Disks) (last : Uberblock) (before : List Uberblock) (u : Uberblock) → CanWriteSlots trees out disks last before u
@@ -113,6 +114,7 @@ pub record KeptWithFewer (trees : Trees) (out later : List Bool) (disks : Disks)
   pub settled : AreSettled out disks.calls → AreSettled later disks.calls
   pub stand : (u : Uberblock) → SlotsStand (content disks) disks.starts u (in_use out) (length disks.starts) → SlotsStand (content disks) disks.starts u (in_use later) (length disks.starts)
 
+-- where disks go out, what held in each phase holds of the disks that are left
 abbrev pub DisksGoOut : Type 0
 DisksGoOut =
     (trees : Trees) (out later : List Bool) (disks : Disks) (last : Uberblock) (before : List Uberblock) → StayOut out later
@@ -127,6 +129,7 @@ pub record KeptUnwritten (trees : Trees) (out : List Bool) (old new : Disks) (la
   pub settled : (which : ℕ) → IsSettled (calls_on which old.calls) → IsSettled (calls_on which new.calls)
   pub bytes : (which i : ℕ) → content new which i ≡ content old which i
 
+-- reads and flushes, answered or failed, change no phase and no byte, and what was settled stays so
 abbrev pub ReadsAndFlushesKeep : Type 0
 ReadsAndFlushesKeep =
     (trees : Trees) (out : List Bool) (old new : Disks) (last : Uberblock) (before : List Uberblock) → Makes no_write old new

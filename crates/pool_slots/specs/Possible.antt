@@ -12,6 +12,7 @@ pub record Possible : Type 0 where
   pub begun : List Uberblock
   pub before : List Uberblock
 
+-- the last uberblock, and those that were begun to be written since
 abbrev pub all_of : Possible → List Uberblock
 all_of p = p.last ∷ p.begun
 

@@ -8,6 +8,7 @@ use Rattle.pool_slots.specs.Reads.{OnlyReads, is_fault}
 use Rattle.pool_slots.specs.Slots.{InUse, MakesOn, StayOut}
 use Rattle.pool_slots.specs.declared.refusal.Refusal.{Refusal}
 
+-- the disk of this number is not in use
 abbrev pub is_out : List Bool → ℕ → Type 0
 is_out out which = ¬ InUse out which
 

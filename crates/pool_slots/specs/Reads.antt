@@ -25,6 +25,7 @@ pub record OnlyReads (used faulty : ℕ → Type 0) (old new : Disks) : Type 0 w
   pub calls : new.calls ≡ newer ++ old.calls
   pub reads : All (IsReadOf used faulty) newer
 
+-- no disk at all, where a clause asks on which disks reads may have failed
 abbrev pub nowhere : ℕ → Type 0
 nowhere which = ⊥
 

@@ -95,6 +95,7 @@ pub record AreMarkedFirst (out : List Bool) (old : Disks) (u : Uberblock) (new :
   pub settled : AreSettled out now.calls
   pub marked : (which : ℕ) → InUse out which → ShowsClaim old u now which
 
+-- where bytes were known and answers are true, a claim writes and flushes all claim labels before all else
 abbrev pub OpenMarksFirst : List Bool → Disks → Uberblock → Disks → Type 0
 OpenMarksFirst out old u new = AreKnown out old → AreHonestSince (length old.calls) new.starts new.calls → AreMarkedFirst out old u new
 
@@ -109,6 +110,8 @@ pub record IsMadeOf (out : List Bool) (disks : Disks) (u : Uberblock) (which : �
   pub source : IsLabelFor out disks u which it label
   pub spells : area.bytes.items ≡ inscribed (relabeled label u.claim u.group Active)
 
+-- each area is made of its disk's latest label with the uberblock's configuration, or where the disk has
+-- none of another disk's label with it
 abbrev pub AreMadeOf : List Bool → Disks → Uberblock → List (Option Area) → Type 0
 AreMadeOf out disks u areas = (which : ℕ) (area : Area) → slice_get areas which ≡ Some (Some area) → IsMadeOf out disks u which area
 

@@ -19,9 +19,11 @@ pub record HasBeside (shown : List (Option Shown)) (k : ℕ) (P : Shown → Type
   pub other : ¬ (j ≡ k)
   pub has : P s
 
+-- what a label shows has this claim
 abbrev pub has_claim : ℕ → Shown → Type 0
 has_claim claim s = s.claim ≡ claim
 
+-- what a label shows has the configuration of this digest
 abbrev pub has_config : List ℕ → Shown → Type 0
 has_config digest s = s.config_digest ≡ digest
 

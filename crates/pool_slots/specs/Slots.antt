@@ -30,6 +30,7 @@ HaveLabels starts = (which : ℕ) → which < length starts → 1048576 ≤ leng
 abbrev pub AreSettled : List Bool → List JointCall → Type 0
 AreSettled out calls = (which : ℕ) → InUse out which → IsSettled (calls_on which calls)
 
+-- that one disk, and no other
 abbrev pub is_disk : ℕ → ℕ → Type 0
 is_disk disk which = which ≡ disk
 

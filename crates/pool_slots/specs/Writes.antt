@@ -24,6 +24,7 @@ in_use out which label = InUse out which
 abbrev pub InHalf : ℕ → ℕ → Type 0
 InHalf half label = (label ≡ half) ⊎ (label ≡ half + 2)
 
+-- one half of the labels of one disk: its labels 0 and 2, or its labels 1 and 3
 abbrev pub in_half_of : ℕ → ℕ → ℕ → ℕ → Type 0
 in_half_of disk half which label = (which ≡ disk) × InHalf half label
 

@@ -29,11 +29,13 @@ sector_at shape disk i = (i - offset_of_sector 0) / 512 * shape.vdev.geometry.ch
 
 -- ---- whether it is filled
 
+-- a sector of this state is not free: it is in use, or was released and is not free again yet
 abbrev pub is_taken : State → Bool
 is_taken Free = false
 is_taken InUse = true
 is_taken (Released group) = true
 
+-- the sector of the metaslab is not free; where there is no such metaslab none is taken
 abbrev pub is_taken_in : Option Space → ℕ → Bool
 is_taken_in None sector = false
 is_taken_in (Some metaslab) sector = is_taken (state metaslab sector)

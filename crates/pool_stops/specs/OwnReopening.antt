@@ -126,6 +126,8 @@ module _ {D : Type 0} where
   abbrev pub ArraysComeBack : disk.Ghosts D → Type 0
   ArraysComeBack g = (array : Disks) (disks : List D) → IsArrayOf g disks array → AreSafe array → (order : List ℕ) × ComeBack g array disks order
 
+  -- Disks that lead to a pool of their own open again as `OpenAgain` says, in whatever order they are handed
+  -- in; and wherever such an open is stopped they lead to one again.
   abbrev pub OwnPoolsOpenAgain : disk.Ghosts D → Type 0
   OwnPoolsOpenAgain g =
       (pool : PoolIdentity) (vdevs : List PlainVdev) (digest : List ℕ) (images : List (List ℕ)) (shapes : List VdevShape) (out : List Bool) (p : Possible)

@@ -29,6 +29,7 @@ pub record IsInSlots (s : State) (plan : Planned) (last : Uberblock) (before : L
   pub begun : plan.behind.flushes.items ≡ []
   pub slots : AreInSlots (block_trees s.store.spaces s.store.disks) s.store.out s.store.disks last before plan.uberblock
 
+-- the plan is in one of its two phases: no slot is written yet, or slots may be
 abbrev pub IsInPhase : State → Planned → Uberblock → List Uberblock → Type 0
 IsInPhase s plan last before = IsBeforeSlots s plan last before ⊎ IsInSlots s plan last before
 

@@ -69,6 +69,8 @@ pub record IsOpenedWell (p : Possible) (pools : Uberblock → PlainPool) (shapes
   pub runs : IsRunning core (opened_as (vdevs_in shapes) (is_out out) none_stale opened.claim.taken.group
       (pools opened.claim.taken)) claimed []
 
+-- An open of disks that lead to pools, where all are in use and answers were true, gives a core of one of
+-- these pools, or of that of a group so many below, and it runs on.
 abbrev pub LedDisksOpen : Type 0
 LedDisksOpen =
     (old : Disks) (shapes : List VdevShape) (out : List Bool) (rewind : ℕ) (p : Possible) (pools : Uberblock → PlainPool) (claimed : Uberblock) (core : CoreState)

@@ -106,6 +106,8 @@ pub record StepsOn (old : CoreState) (v : View) (new : CoreState) (w : View) (la
   pub runs : IsRunning new w later earlier
   pub stops : StopsAt old.commit v (disks_in new) last before
 
+-- A pool that runs with no disk out runs on with each step in which none goes out. Stopped at any moment of
+-- it, its disks lead to the last committed group, or from the slots on to that or the planned one.
 abbrev pub RunningPoolsStepOn : Type 0
 RunningPoolsStepOn =
     (old new : CoreState) (v w : View) (step : Step) (given : Given) (reply : Reply) (last : Uberblock) (before : List Uberblock)
@@ -127,6 +129,7 @@ pub record RunStopsAt (mid : CoreState) (between : View) (new : CoreState) (w : 
   pub runs : IsRunning mid between last earlier
   pub steps : StepsOn mid between new w last earlier
 
+-- so it is of each step of a run, where no disk is out by the end of that step
 abbrev pub RunsStopWell : Type 0
 RunsStopWell =
     (old mid new : CoreState) (v between w : View) (steps : List Step) (replies : List Reply) (step : Step) (reply : Reply) (last : Uberblock) (before : List Uberblock)

@@ -27,6 +27,7 @@ use Rattle.pool_stops.specs.Filled.{all_picked, is_filled, is_for_blocks}
 abbrev pub filled_trees : List VdevSpace → Disks → Trees
 filled_trees spaces disks = all_picked (is_filled spaces) (content disks)
 
+-- the tree of every root taken to be all bytes for blocks, as the disks have them
 abbrev pub block_trees : List VdevSpace → Disks → Trees
 block_trees spaces disks = all_picked (is_for_blocks spaces) (content disks)
 

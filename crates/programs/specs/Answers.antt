@@ -21,6 +21,7 @@ runs_on Commit = true
 runs_on Sync = true
 runs_on _ = false
 
+-- a command takes its step; one that goes on takes all that follow from it too
 abbrev pub Goes : {M : Type 0} → (M → Step → Reply → M → Type 0) → Bool → M → Step → Reply → M → Type 0
 Goes Steps true old s last new = RunsOn Steps old s last new
 Goes Steps false old s last new = Steps old s last new

@@ -52,6 +52,7 @@ pub record EndsInClaim {D : Type 0} (g : disk.Ghosts D) (disks : List D) (rewind
 
 -- ---- disks that are told to fail
 
+-- a disk in memory that was told which of its calls fail
 abbrev pub ToldDisk : Type 0
 ToldDisk = FaultDisk MemDisk ghosts
 

@@ -23,6 +23,7 @@ present_from number absent [] = []
 present_from number absent (disk ∷ disks) =
     if is_left_out absent number then present_from (suc number) absent disks else disk ∷ present_from (suc number) absent disks
 
+-- the disks that are not left out
 abbrev pub present : List ℕ → List MemDisk → List MemDisk
 present absent disks = present_from 0 absent disks
 

@@ -73,6 +73,7 @@ pub record StopsPool {M : Type 0} (Outcomes : M → Command → Outcome → M �
   pub appends : Appends old new text
   pub cause : CannotGoOn (Faults last) rest
 
+-- why a schedule isn't run against a pool to its end: such a line; of another cause nothing is said
 abbrev pub IsPoolFault : {M : Type 0} → (M → Command → Outcome → M → Type 0) → (M → Command → Type 0) → M → Option (List ℕ) → ℕ → Option (List ℕ) → Option (List ℕ) → Refusal → Type 0
 IsPoolFault Outcomes Faults pool input k old new (LineFault n) = StopsPool Outcomes Faults pool input k old new n
 IsPoolFault Outcomes Faults pool input k old new _ = Unit {0}

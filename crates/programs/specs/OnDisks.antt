@@ -36,6 +36,7 @@ pub record PoolState : Type 0 where
   pub absent : List ℕ  -- the numbers that are left out
   pub stop : Option StopPoint
 
+-- what this pool shows
 abbrev pub state_of : PoolOnDisks → PoolState
 state_of pool = record { core = option_map core_state pool.core; disks = pool.disks.items; absent = pool.absent.items; stop = pool.stop }
 
@@ -95,6 +96,7 @@ pub record StopsThere (old : PoolState) (command : Command) (outcome : Outcome) 
   pub closes : Closes (Some later) old.disks disks
   pub same : new ≡ record { core = None; disks = disks; absent = old.absent; stop = None }
 
+-- what comes of a command that takes steps: it runs whole, ends before a stop that is set, or stops there
 abbrev pub TakesSteps : PoolState → Command → Outcome → PoolState → Type 0
 TakesSteps old command outcome new = RunsWhole old command outcome new ⊎ (RunsShort old command outcome new ⊎ StopsThere old command outcome new)
 

@@ -20,6 +20,7 @@ argument_text (letter ∷ rest) = 32 ∷ (letter ∷ rest)
 abbrev pub unopened_text : Refusal → List ℕ
 unopened_text refusal = codes "refused " ++ (decimal (number_of refusal) ++ (32 ∷ (name_of refusal ++ argument_text (argument_of refusal))))
 
+-- the text of what came of a command, without a line feed
 abbrev pub IsOutcomeText : Outcome → List ℕ → Type 0
 IsOutcomeText (Replied reply) text = IsReplyText reply text
 IsOutcomeText StopIsSet text = text ≡ codes "stop"

@@ -13,6 +13,7 @@ use Rattle.programs.specs.declared.stopping.Point.{Point}
 
 -- ---- replies that tell it
 
+-- the two phases are the same
 abbrev pub is_same : Phase → Phase → Bool
 is_same Blocks Blocks = true
 is_same BlocksFlush BlocksFlush = true

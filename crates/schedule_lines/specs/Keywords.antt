@@ -4,6 +4,7 @@ use Rattle.std.specs.Str.{bytes_eq}
 use Rattle.schedule_lines.specs.declared.keyword.Keyword.{Keyword}
 use Rattle.schedule_lines.specs.declared.keyword.Keyword.TheVariants.{Pool, Hold, Release, Write, Create, Snapshot, Clone, Destroy, Close, Quiesced, Plan, Device, Commit, Sync, Read, Under, Out, Stop, Reopen}
 
+-- the word that the keyword is in a line
 abbrev pub keyword_text : Keyword → List ℕ
 keyword_text Pool = codes "pool"
 keyword_text Hold = codes "hold"
@@ -25,8 +26,10 @@ keyword_text Out = codes "out"
 keyword_text Stop = codes "stop"
 keyword_text Reopen = codes "reopen"
 
+-- all keywords
 abbrev pub keywords : List Keyword
 keywords = Pool ∷ Hold ∷ Release ∷ Write ∷ Create ∷ Snapshot ∷ Clone ∷ Destroy ∷ Close ∷ Quiesced ∷ Plan ∷ Device ∷ Commit ∷ Sync ∷ Read ∷ Under ∷ Out ∷ Stop ∷ Reopen ∷ []
 
+-- the keyword that this word is, if it is one
 unfoldable pub keyword_of : List ℕ → Option Keyword
 keyword_of word = find (λ keyword. bytes_eq (keyword_text keyword) word) keywords

@@ -27,10 +27,12 @@ use Rattle.schedule_lines.specs.Hexadecimal.{byte_text}
 use Rattle.schedule_lines.specs.Keywords.{keyword_of}
 
 infixl 10 ◌>>=◌
+-- what is read next, by what was read before; nothing where nothing was
 abbrev pub ◌>>=◌ : {A B : Type 0} → Option A → (A → Option B) → Option B
 (Some x) >>= f = f x
 None >>= f = None
 
+-- what is read at the front of some words, and the words behind it; or nothing
 abbrev pub Parse : Type 0 → Type 0
 Parse A = List (List ℕ) → Option (A × List (List ℕ))
 
@@ -43,28 +45,34 @@ words_left (Some bytes) = slice_split (λ b. b == 32) bytes
 abbrev pub if_text : (ℕ → List ℕ) → ℕ → List ℕ → ℕ → Option ℕ
 if_text text limit word n = if nat_lt n limit && bytes_eq (text n) word then Some n else None
 
+-- the number below the limit that this word is in decimal, without leading zeros
 unfoldable pub number_of : ℕ → List ℕ → Option ℕ
 number_of limit word = if_text decimal limit word (digits_value 10 word)
 
+-- the byte that this word is in two hexadecimal digits, lower case
 unfoldable pub byte_of : List ℕ → Option ℕ
 byte_of word = if_text byte_text (2 ^ 8) word (digits_value 16 word)
 
+-- the first word
 abbrev pub word_at : Parse (List ℕ)
 word_at [] = None
 word_at (word ∷ words) = Some (word, words)
 
+-- a number below the limit
 unfoldable pub number_at : ℕ → Parse ℕ
 number_at limit words = do
   word ← word_at words
   number ← number_of limit word.0
   Some (number, word.1)
 
+-- a byte in two hexadecimal digits
 unfoldable pub byte_at : Parse ℕ
 byte_at words = do
   word ← word_at words
   byte ← byte_of word.0
   Some (byte, word.1)
 
+-- a word of one byte or more, good as a name or not
 unfoldable pub name_at : Parse (List ℕ)
 name_at words = do
   word ← word_at words
@@ -75,6 +83,7 @@ abbrev pub end_at : List (List ℕ) → Option (Unit {0})
 end_at [] = Some tt
 end_at (word ∷ words) = None
 
+-- the arguments of `pool P C BYTES MS META`
 unfoldable pub pool_at : Parse PoolLine
 pool_at words = do
   parities ← number_at (2 ^ 32) words
@@ -84,6 +93,7 @@ pool_at words = do
   meta_metaslabs ← number_at (2 ^ 32) metaslab_shift.1
   Some (record { parities = parities.0; disks = disks.0; bytes = bytes.0; metaslab_shift = metaslab_shift.0; meta_metaslabs = meta_metaslabs.0 }, meta_metaslabs.1)
 
+-- the arguments of `write W N VOL OFF LEN BYTE`
 unfoldable pub write_at : Parse WriteLine
 write_at words = do
   writer ← number_at (2 ^ 32) words
@@ -94,6 +104,7 @@ write_at words = do
   byte ← byte_at len.1
   Some (record { writer = writer.0; number = number.0; volume = volume.0; offset = offset.0; len = len.0; byte = byte.0 }, byte.1)
 
+-- the arguments of `create W N VOL SIZE BLOCK`
 unfoldable pub create_at : Parse CreateLine
 create_at words = do
   writer ← number_at (2 ^ 32) words
@@ -103,6 +114,7 @@ create_at words = do
   block_size ← number_at (2 ^ 64) size.1
   Some (record { writer = writer.0; number = number.0; volume = volume.0; size = size.0; block_size = block_size.0 }, block_size.1)
 
+-- the arguments of `snapshot W N VOL PART`
 unfoldable pub snapshot_at : Parse SnapshotLine
 snapshot_at words = do
   writer ← number_at (2 ^ 32) words
@@ -111,6 +123,7 @@ snapshot_at words = do
   part ← name_at volume.1
   Some (record { writer = writer.0; number = number.0; volume = volume.0; part = part.0 }, part.1)
 
+-- the arguments of `clone W N VOL@PART NAME`
 unfoldable pub clone_at : Parse CloneLine
 clone_at words = do
   writer ← number_at (2 ^ 32) words
@@ -119,6 +132,7 @@ clone_at words = do
   name ← name_at snapshot.1
   Some (record { writer = writer.0; number = number.0; snapshot = snapshot.0; name = name.0 }, name.1)
 
+-- the arguments of `destroy W N NAME`
 unfoldable pub destroy_at : Parse DestroyLine
 destroy_at words = do
   writer ← number_at (2 ^ 32) words
@@ -126,6 +140,7 @@ destroy_at words = do
   name ← name_at number.1
   Some (record { writer = writer.0; number = number.0; name = name.0 }, name.1)
 
+-- the arguments of `read NAME OFF LEN`
 unfoldable pub read_at : Parse ReadLine
 read_at words = do
   name ← name_at words
@@ -133,6 +148,7 @@ read_at words = do
   len ← number_at (2 ^ 64) offset.1
   Some (record { name = name.0; offset = offset.0; len = len.0 }, len.1)
 
+-- the arguments of `under G NAME OFF LEN`
 unfoldable pub under_at : Parse UnderLine
 under_at words = do
   group ← number_at (2 ^ 64) words
@@ -141,6 +157,7 @@ under_at words = do
   len ← number_at (2 ^ 64) offset.1
   Some (record { group = group.0; name = name.0; offset = offset.0; len = len.0 }, len.1)
 
+-- something is made of what was read, and the words behind it stay
 abbrev pub of_read : {A B : Type 0} → (A → B) → Option (A × List (List ℕ)) → Option (B × List (List ℕ))
 of_read f read = option_map (λ x. (f x.0, x.1)) read
 
@@ -152,6 +169,7 @@ point_at word words =
     else (if bytes_eq word (codes "claim") then of_read Claim (number_at (2 ^ 32) words)
     else None))
 
+-- the arguments of `stop`: `blocks`, `slots K` or `claim K`
 unfoldable pub stop_at : Parse StopPoint
 stop_at words = do
   word ← word_at words
@@ -169,6 +187,7 @@ numbers_of (word ∷ words) = do
 unfoldable pub numbers_at : Parse (List ℕ)
 numbers_at words = option_map (λ numbers. (numbers, [])) (numbers_of words)
 
+-- the arguments of `reopen R D ..`: how many groups it goes back, 0 to 2, and the absent disks
 unfoldable pub reopen_at : Parse ReopenLine
 reopen_at words = do
   rewind ← number_at 3 words
@@ -197,6 +216,7 @@ command_at keyword.Out words = of_read Out (number_at (2 ^ 32) words)
 command_at keyword.Stop words = of_read Stop (stop_at words)
 command_at keyword.Reopen words = of_read Reopen (reopen_at words)
 
+-- a keyword with its arguments, and no word behind them
 unfoldable pub whole_command : List (List ℕ) → Option Line
 whole_command words = do
   word ← word_at words
@@ -209,6 +229,7 @@ whole_command words = do
 unfoldable pub said_line : List ℕ → Option Line
 said_line bytes = if bytes_eq bytes (codes "threads") then Some Threads else whole_command (slice_split (λ b. b == 32) bytes)
 
+-- the line that these bytes are, if any: skipped (empty, or '#' in front), `threads`, or a command
 unfoldable pub line_of : List ℕ → Option Line
 line_of [] = Some Skipped
 line_of (b ∷ bytes) = if b == 35 then Some Skipped else said_line (b ∷ bytes)
@@ -218,6 +239,7 @@ abbrev pub Fails : {A : Type 0} → Refusal → Option A → Type 0
 Fails NoMemory read = Unit {0}
 Fails Fault read = read ≡ None
 
+-- a function answers what reading gives, seen by view; or memory ran out, or reading gives nothing
 abbrev pub Gives : {X A : Type 0} → (X → A) → Result X Refusal → Option A → Type 0
 Gives view (Ok x) read = read ≡ Some (view x)
 Gives view (Err e) read = Fails e read

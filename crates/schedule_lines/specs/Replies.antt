@@ -11,6 +11,7 @@ use Rattle.pool_model.specs.Causes.{number_of_cause, name_of_cause}
 use Rattle.schedule_lines.specs.declared.equal_bytes.Run.{Run}
 use Rattle.schedule_lines.specs.Runs.{AreRuns, runs_text}
 
+-- the name of a phase of a plan's device calls
 abbrev pub phase_text : Phase → List ℕ
 phase_text Blocks = codes "Blocks"
 phase_text BlocksFlush = codes "BlocksFlush"
@@ -30,12 +31,15 @@ refusal_text refusal = codes "refused " ++ (decimal (number_of_cause refusal) ++
 abbrev pub group_and_claim : List ℕ → ℕ → ℕ → List ℕ
 group_and_claim front group claim = front ++ (decimal group ++ (codes " claim " ++ decimal claim))
 
+-- what is told of a pool that was opened again: its group, and the number of its claim
 abbrev pub opened_text : ℕ → ℕ → List ℕ
 opened_text group claim = group_and_claim (codes "opened ") group claim
 
+-- what is told of a new pool: its first group, and the number of its claim
 abbrev pub made_text : ℕ → ℕ → List ℕ
 made_text group claim = group_and_claim (codes "pool ") group claim
 
+-- the text of a reply, without a line feed
 abbrev pub IsReplyText : Reply → List ℕ → Type 0
 IsReplyText (Held group) text = text ≡ codes "held " ++ decimal group
 IsReplyText (Receipt group) text = text ≡ codes "receipt " ++ decimal group

@@ -6,6 +6,7 @@ abbrev pub with_words : List ℕ → List (List ℕ) → List ℕ
 with_words line [] = line
 with_words line (word ∷ words) = with_words (line ++ 32 ∷ word) words
 
+-- the words, one space between two
 abbrev pub spelled : List (List ℕ) → List ℕ
 spelled [] = []
 spelled (word ∷ words) = with_words word words

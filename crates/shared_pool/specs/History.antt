@@ -9,6 +9,7 @@ use Rattle.shared_pool.specs.declared.recorded.Entry.{Entry}
 use Rattle.shared_pool.specs.Replay.{Replays}
 use Rattle.shared_pool.specs.Weights.{weight_of, writers_steps, steps_of, replies_of}
 
+-- a core, its recorded steps with their replies, and what is counted beside them
 pub record History (C : Type 0) : Type 0 where
   pub core : C
   pub origin : C  -- the core as the first record began
@@ -29,6 +30,7 @@ pub record IsRecord {C : Type 0} (g : Ghosts C) (h : History C) : Type 0 where
   pub fits : length h.entries ≤ 65536
   pub few : h.sealed ≤ 2 ^ 62
 
+-- a step, as it is recorded with its reply
 abbrev pub entry : Step → Reply → Entry
 entry step reply = record { step = step; reply = reply }
 

@@ -23,9 +23,11 @@ weight_of step = if is_writers step then 1 else 0
 abbrev pub writers_steps : List Entry → ℕ
 writers_steps entries = count_by (λ e. is_writers e.step) entries
 
+-- the recorded steps, in order
 abbrev pub steps_of : List Entry → List Step
 steps_of entries = map (λ e. e.step) entries
 
+-- their replies, in order
 abbrev pub replies_of : List Entry → List Reply
 replies_of entries = map (λ e. e.reply) entries
 

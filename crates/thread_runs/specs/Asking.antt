@@ -13,6 +13,7 @@ asked writer Release = step.Release writer
 asked writer (Write number volume offset bytes) = step.Write (record { writer = writer; number = number; volume = volume; offset = offset; bytes = bytes })
 asked writer (Act number change) = step.Act (record { writer = writer; number = number; change = change })
 
+-- the step that a line of a writer asks for
 abbrev pub step_of : WriterLine → Step
 step_of line = asked line.writer line.ask
 

@@ -35,5 +35,6 @@ module _ {C : Type 0} (g : Ghosts C) where
   PrintsSoMany zero old new = old ≡ new
   PrintsSoMany (suc count) old new = (between : Option (List ℕ)) × PrintsSoMany count old between × PrintsRecord between new
 
+  -- the output grows by a number of such records, one behind the other, and by nothing else
   abbrev pub PrintsRecords : Option (List ℕ) → Option (List ℕ) → Type 0
   PrintsRecords old new = (count : ℕ) × PrintsSoMany count old new

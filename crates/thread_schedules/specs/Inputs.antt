@@ -41,6 +41,7 @@ pub record StopsInFront {P : Type 0} (Creates : PoolLine → P → Type 0) (Refu
   pub number : n ≡ counted (length front.lines + 1)
   pub cause : IsAtEnd rest ⊎ CannotGoOn (Misplaced Faults stage) rest
 
+-- why the lines before `threads` are not all run: such a line; of another cause nothing is said
 abbrev pub IsFrontFault : {P : Type 0} → (PoolLine → P → Type 0) → (PoolLine → Cause → Type 0) → (P → Command → Outcome → P → Type 0) → (P → Command → Type 0) → Option (List ℕ) → Option (List ℕ) → Option (List ℕ) → Refusal → Type 0
 IsFrontFault Creates Refuses Outcomes Faults input old new (LineFault n) = StopsInFront Creates Refuses Outcomes Faults input old new n
 IsFrontFault Creates Refuses Outcomes Faults input old new _ = Unit {0}
@@ -58,6 +59,7 @@ pub record StopsInBack (CannotFollow : List Command → Command → Type 0) (inp
   pub number : n ≡ counted (k + length back.lines + 1)
   pub cause : ((end : Option (List ℕ)) × ReadsThreads rest end) ⊎ CannotGoOn (CannotFollow (commands_of back.lines)) rest
 
+-- why the lines behind `threads` are not run: such a line; of another cause nothing is said
 abbrev pub IsBackFault : (List Command → Command → Type 0) → Option (List ℕ) → ℕ → Refusal → Type 0
 IsBackFault CannotFollow input k (LineFault n) = StopsInBack CannotFollow input k n
 IsBackFault CannotFollow input k _ = Unit {0}

@@ -33,5 +33,6 @@ abbrev pub PrintsSoMany : CoreState → ℕ → Option (List ℕ) → Option (Li
 PrintsSoMany core zero old new = old ≡ new
 PrintsSoMany core (suc count) old new = (between : Option (List ℕ)) × PrintsSoMany core count old between × PrintsRun core between new
 
+-- the output grows by a number of such records, one behind the other, and by nothing else
 abbrev pub PrintsRuns : CoreState → Option (List ℕ) → Option (List ℕ) → Type 0
 PrintsRuns core old new = (count : ℕ) × PrintsSoMany core count old new

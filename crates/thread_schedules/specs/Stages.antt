@@ -30,6 +30,7 @@ Misplaced Faults Refused command = Unit {0}
 abbrev pub told_as : List ℕ → List ℕ → List ℕ
 told_as line said = line ++ (codes "\n# " ++ (said ++ codes "\n"))
 
+-- a command's line, and behind it in a comment what is said of it
 abbrev pub recounted : Command → List ℕ → List ℕ
 recounted command said = told_as (line_of_command command) said
 

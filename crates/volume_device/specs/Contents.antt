@@ -23,6 +23,7 @@ pub record IsOverwritten (name : List ℕ) (offset : ℕ) (bytes : List ℕ) (be
   pub each : (other : List ℕ) → volume_at other after ≡ volume_at other (overwritten name offset bytes before)
   pub whole : AreAscending before.volumes → after ≡ overwritten name offset bytes before
 
+-- nothing has changed, neither what there is now nor what is committed
 abbrev pub IsSame : Contents → Contents → Type 0
 IsSame c d = d ≡ c
 
