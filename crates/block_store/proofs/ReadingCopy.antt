@@ -44,6 +44,7 @@ ok_read spaces absent block i old new extent bytes copy reads digest choice righ
   untouched = reads.untouched;
   digest = digest;
   size = choice.are_bytes.block_size ∙ ap (λ n. n * 512) copy.extent_is.sectors_are;
+  choice = choice;
   right = right;
   refused = tt;
 }
@@ -69,6 +70,7 @@ err_read spaces absent block i old new extent refusal copy reads cause = record 
   untouched = reads.untouched;
   digest = tt;
   size = tt;
+  choice = tt;
   right = tt;
   refused = cause;
 }

@@ -1,6 +1,6 @@
 -- What a read of a block gives.
-use Rattle.std.proofs.Common.{ℕ, ◌≡◌, ◌⊎◌, inl, inr, ◌-◌, Some, Ok, Err, Result, IfOk, IfErr, OnOk, List, Vec, Global, [], ◌++◌, length, append-nil, sym, ap, subst, arith}
-use Rattle.std.proofs.lemmas.List.Elements.{Contains-append_left, Contains-append_right}
+use Rattle.std.proofs.Common.{ℕ, ◌≡◌, ◌⊎◌, inl, inr, ◌-◌, Some, Ok, Err, Result, IfOk, IfErr, OnOk, List, Vec, Global, [], ◌++◌, length, Contains, append-nil, sym, ap, subst, ◌∙◌, arith}
+use Rattle.std.proofs.lemmas.List.Elements.{Contains-append_left, Contains-append_right, Contains-append_cases}
 use Rattle.model_disk.specs.Joint.{content, failed_since}
 use Rattle.model_disk.specs.Laws.{PartsAreHonest}
 use Rattle.block_pointer.specs.declared.block.Block.{Block}
@@ -8,7 +8,8 @@ use Rattle.block_pointer.specs.declared.dva.Dva.{Dva}
 use Rattle.block_pointer.specs.Copies.{dvas}
 use Rattle.raidz_io.specs.declared.vdev.Extent.{Extent}
 use Rattle.raidz_io.specs.Elsewhere.{StandsWhileKept, StandsWithMoreAbsent}
-use Rattle.raidz_io.specs.Reads.{OnlyReads, AreUntouched, IsHonestSince, absent_since, FewAreLost, ReadsKeepContents}
+use Rattle.raidz_io.specs.Reads.{OnlyReads, AreUntouched, absent_since, FewAreLost, HonestDisksGiveTruly, PartsGiveTruly, ReadsKeepContents}
+use Rattle.raidz_io.specs.Choices.{LaterChoicesStay}
 use Rattle.raidz_io.specs.Stands.{ExtentStands}
 use Rattle.block_store.specs.declared.block.Asked.{Asked}
 use Rattle.block_store.specs.declared.refusal.Refusal.{Refusal}
@@ -16,10 +17,11 @@ use Rattle.block_store.specs.declared.refusal.Refusal.TheVariants.{NoMemory, Bad
 use Rattle.block_store.specs.Blocks.{Contents}
 use Rattle.block_store.specs.Losses.{IsForLoss}
 use Rattle.block_store.specs.Reading.{Asks, IsReadable, IsLastFault, IsFirstRead, IsFailedCopy, HaveFailed, IsReadUpTo}
+use Rattle.block_store.specs.Steps.{AnswersTell, FewLie}
 use Rattle.block_store.specs.Store.{Store, outs, missed, lost, Holds}
 use Rattle.block_store.proofs.Lost.{lose_same, lost_is_out}
 use Rattle.block_store.proofs.Kept.{IsKept}
-use Rattle.block_store.proofs.ReadingLost.{honest_later, stands_later}
+use Rattle.block_store.proofs.ReadingLost.{absent_earlier, few_lost, honest_later, stands_later}
 use Rattle.block_store.proofs.ReadingSteps.{reads_on, untouched_on, failed_by}
 
 -- the laws of blocks that are read
@@ -28,6 +30,9 @@ pub record Laws : Type 0 where
   pub kept : StandsWhileKept
   pub more_absent : StandsWithMoreAbsent
   pub parts_honest : PartsAreHonest
+  pub honest_truly : HonestDisksGiveTruly
+  pub parts_truly : PartsGiveTruly
+  pub later_choices : LaterChoicesStay
 
 -- the copies of a block were read, and nothing but the disks is another
 pub record IsBlockRead (old new : Store) (missing : List ℕ) (block : Block) (result : Result (Vec ℕ Global) Refusal) : Type 0 where
@@ -82,11 +87,59 @@ stands_there laws old new missing block result stored bytes is holds known =
     ]))
     (holds.stand block bytes is.read.i is.read.read.extent known is.read.read.is_copy)
 
+-- where few disks lie, few columns of the copy that was read last are lost or lie
+few_lie : (old new : Store) (missing : List ℕ) (block : Block) (result : Result (Vec ℕ Global) Refusal) (fewer : List ℕ) → (is : IsBlockRead old new missing block result)
+    → (lie : FewLie old new missing)
+    → ((disk : ℕ) → Contains fewer disk
+    → Contains lie.liars disk ⊎ Contains (absent_since old.disks new.disks ((outs old ++ missing) ++ missed old block.birth)) disk)
+    → FewAreLost is.read.read.extent fewer
+few_lie old new missing block result fewer is lie among =
+    let at = is.read.read.is_copy.extent_is in
+    let liars : List ℕ = lie.liars in
+    let gone : List ℕ = (outs old ++ (missing ++ liars)) ++ missed old block.birth in
+    let failed : List ℕ = failed_since (length old.disks.calls) new.disks.calls in
+    let named : (disk : ℕ) → Contains (missing ++ liars) disk → Contains (gone ++ failed) disk = λ disk held.
+    Contains-append_left gone failed disk (Contains-append_left (outs old ++ (missing ++ liars)) (missed old block.birth) disk
+    (Contains-append_right (outs old) (missing ++ liars) disk held)) in
+    few_lost at.space.shape.vdev is.read.read.extent (gone ++ failed) fewer at.vdev
+    (λ disk held. elim (among disk held) [
+      | inl lies ↦ named disk (Contains-append_right missing liars disk lies)
+      | inr lost ↦ elim (Contains-append_cases ((outs old ++ missing) ++ missed old block.birth) failed disk lost) [
+        | inl away ↦ elim (Contains-append_cases (outs old ++ missing) (missed old block.birth) disk away) [
+          | inl there ↦ elim (Contains-append_cases (outs old) missing disk there) [
+            | inl out ↦
+                Contains-append_left gone failed disk (Contains-append_left (outs old ++ (missing ++ liars)) (missed old block.birth) disk
+                (Contains-append_left (outs old) (missing ++ liars) disk out))
+            | inr asked ↦ named disk (Contains-append_left missing liars disk asked)
+          ]
+          | inr stale ↦
+              Contains-append_left gone failed disk (Contains-append_right (outs old ++ (missing ++ liars)) (missed old block.birth) disk stale)
+        ]
+        | inr fails ↦ Contains-append_right gone failed disk fails
+      ]
+    ])
+    (lie.few block.birth is.read.read.is_copy.place.vdev at.space at.found)
+
 pub bytes_right : Laws → (old new : Store) (missing : List ℕ) (block : Block) (result : Result (Vec ℕ Global) Refusal) → IsBlockRead old new missing block result
-    → IfOk result (λ read. (stored : Contents) (bytes : List ℕ) → Holds old stored → stored block ≡ Some bytes → IsHonestSince old.disks new.disks → read.items ≡ bytes)
-bytes_right laws old new missing block (Ok read) is = λ stored bytes holds known honest.
-    is.read.read.right (honest_later laws.parts_honest old.disks is.read.mid new.disks is.read.before honest) bytes
-    (stands_there laws old new missing block (Ok read) stored bytes is holds known) ((holds.blocks block bytes known).digest)
+    → IfOk result (λ read. (stored : Contents) (bytes : List ℕ) → Holds old stored → stored block ≡ Some bytes → AnswersTell old new missing → read.items ≡ bytes)
+bytes_right laws old new missing block (Ok read) is = λ stored bytes holds known tell. elim tell [
+  | inl honest ↦
+      is.read.read.right (honest_later laws.parts_honest old.disks is.read.mid new.disks is.read.before honest) bytes
+      (stands_there laws old new missing block (Ok read) stored bytes is holds known) ((holds.blocks block bytes known).digest)
+  | inr lie ↦
+      let away : List ℕ = (outs old ++ missing) ++ missed old block.birth in
+      let failed : List ℕ = failed_since (length old.disks.calls) new.disks.calls in
+      lie.told is.read.read.extent (lost old block.birth) bytes read.items
+      (few_lie old new missing block (Ok read) (lost old block.birth) is lie
+      (λ disk held. inr (Contains-append_left away failed disk
+      (elim (lost_is_out old block.birth disk held) [
+        | inl out ↦ Contains-append_left (outs old ++ missing) (missed old block.birth) disk (Contains-append_left (outs old) missing disk out)
+        | inr stale ↦ Contains-append_right (outs old ++ missing) (missed old block.birth) disk stale
+      ]))))
+      (holds.stand block bytes is.read.i is.read.read.extent known is.read.read.is_copy)
+      (laws.later_choices old.disks is.read.mid new.disks is.read.read.extent read.items is.read.before is.read.read.choice)
+      (is.read.read.digest ∙ sym (holds.blocks block bytes known).digest)
+]
 bytes_right laws old new missing block (Err refusal) is = tt
 
 pub last_fault : (old new : Store) (missing : List ℕ) (block : Block) (asked : Asked) (result : Result (Vec ℕ Global) Refusal) → IsBlockRead old new missing block result
@@ -124,10 +177,10 @@ first_read old new missing block (Err refusal) is = tt
 
 -- a block that is stored is read, unless it lacks too many columns
 pub is_known : Laws → (old new : Store) (missing : List ℕ) (block : Block) (asked : Asked) (result : Result (Vec ℕ Global) Refusal) → IsBlockRead old new missing block result
-    → IfErr result (λ refusal. (stored : Contents) (bytes : List ℕ) → Holds old stored → stored block ≡ Some bytes → Asks asked block → IsHonestSince old.disks new.disks
+    → IfErr result (λ refusal. (stored : Contents) (bytes : List ℕ) → Holds old stored → stored block ≡ Some bytes → Asks asked block → AnswersTell old new missing
     → IsForLoss refusal)
 is_known laws old new missing block asked (Ok read) is = tt
-is_known laws old new missing block asked (Err refusal) is = λ stored bytes holds known asks honest.
+is_known laws old new missing block asked (Err refusal) is = λ stored bytes holds known asks tell.
     let absent : List ℕ = absent_since is.read.mid new.disks ((outs old ++ missing) ++ missed old block.birth) in
     let extent : Extent = is.read.read.extent in
     elim is.read.read.refused [
@@ -135,10 +188,26 @@ is_known laws old new missing block asked (Err refusal) is = λ stored bytes hol
       | inr (inl (fault, more)) ↦ inr fault
       | inr (inr (digest, none)) ↦
           let stands = stands_there laws old new missing block (Err refusal) stored bytes is holds known in
-          let nil : absent ++ [] ≡ absent = append-nil absent in
-          absurd (none.none_stands (honest_later laws.parts_honest old.disks is.read.mid new.disks is.read.before honest) bytes []
-          (subst (λ (xs : List ℕ). ExtentStands (content is.read.mid) xs extent bytes) (sym nil) stands)
-          (subst (λ (xs : List ℕ). FewAreLost extent xs) (sym nil) none.enough) ((holds.blocks block bytes known).digest))
+          let digest_is = (holds.blocks block bytes known).digest in
+          absurd (elim tell [
+            | inl honest ↦
+                let nil : absent ++ [] ≡ absent = append-nil absent in
+                none.none_stands bytes []
+                (λ disk there. laws.honest_truly is.read.mid new.disks is.read.read.reads
+                (honest_later laws.parts_honest old.disks is.read.mid new.disks is.read.before honest) disk)
+                (subst (λ (xs : List ℕ). ExtentStands (content is.read.mid) xs extent bytes) (sym nil) stands)
+                (subst (λ (xs : List ℕ). FewAreLost extent xs) (sym nil) none.enough) digest_is
+            | inr lie ↦
+                none.none_stands bytes lie.liars
+                (λ disk there. (laws.parts_truly old.disks is.read.mid new.disks is.read.before is.read.read.reads disk (lie.truly disk there)).1)
+                (laws.more_absent (content is.read.mid) absent (absent ++ lie.liars) extent bytes (λ disk held. Contains-append_left absent lie.liars disk held) stands)
+                (few_lie old new missing block (Err refusal) (absent ++ lie.liars) is lie
+                (λ disk held. elim (Contains-append_cases absent lie.liars disk held) [
+                  | inl lost ↦
+                      inr (absent_earlier old.disks is.read.mid new.disks ((outs old ++ missing) ++ missed old block.birth) disk is.read.before lost)
+                  | inr lies ↦ inl lies
+                ])) digest_is
+          ])
     ]
 
 -- the pointer of a block that is stored may be read

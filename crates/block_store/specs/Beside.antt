@@ -15,6 +15,7 @@ pub record IsFreeBeside (space : VdevSpace) : Type 0 where
   pub free : (m s : ℕ) (metaslab later : Space) → slice_get (filled space) m ≡ Some metaslab → slice_get (planned_marks space) m ≡ Some later
       → state later s ≡ Free → state metaslab s ≡ Free
 
+-- of each vdev: what is free with the plan is free without it
 abbrev pub AreFreeBeside : List VdevSpace → Type 0
 AreFreeBeside spaces = (v : ℕ) (space : VdevSpace) → slice_get spaces v ≡ Some space → IsFreeBeside space
 

@@ -13,6 +13,7 @@ use Rattle.block_store.specs.declared.block.NewBlock.{NewBlock}
 abbrev pub Contents : Type 0
 Contents = Block → Option (List ℕ)
 
+-- no block is known
 abbrev pub nothing_stored : Contents
 nothing_stored block = None
 

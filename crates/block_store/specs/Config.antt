@@ -18,6 +18,7 @@ pub record IsAllowedSize (size : ℕ) : Type 0 where
 abbrev pub sectors_of : ℕ → ℕ
 sectors_of size = (used_bytes size - 0x480000) / 512
 
+-- how many bytes that disk has: 0 where no disk has that number
 abbrev pub size_of : List (List ℕ) → ℕ → ℕ
 size_of starts disk = length (bytes_of starts disk)
 

@@ -17,6 +17,7 @@ use Rattle.block_store.specs.declared.shape.VdevShape.{VdevShape}
 use Rattle.block_store.specs.Spaces.{VdevSpace}
 use Rattle.block_store.specs.Shapes.{metaslab_sectors, metaslabs, metaslab_of, sector_of, IsPlace, IsInRegion}
 
+-- the shapes of these vdevs, in order
 abbrev pub shapes_of : List VdevSpace → List VdevShape
 shapes_of spaces = map (λ space. space.shape) spaces
 
@@ -24,9 +25,11 @@ shapes_of spaces = map (λ space. space.shape) spaces
 abbrev pub Marks : Type 0
 Marks = VdevSpace → List Space
 
+-- by blocks that are stored alone: each metaslab as the last committed group left it
 abbrev pub filled : Marks
 filled space = space.kept
 
+-- with the blocks of the plan: each metaslab as the plan of the next group has it
 abbrev pub planned : Marks
 planned space = space.planned
 
@@ -41,6 +44,7 @@ pub record IsEmpty (space : VdevSpace) : Type 0 where
   pub none_planned : planned space ≡ filled space
   pub none_pinned : space.pins ≡ []
 
+-- so it is of every vdev
 abbrev pub AreEmpty : List VdevSpace → Type 0
 AreEmpty spaces = All IsEmpty spaces
 
@@ -76,9 +80,11 @@ pub record EachSector (is : State → Type 0) (marks : List Space) (shape : Vdev
   pub found : slice_get marks (metaslab_of shape place) ≡ Some metaslab
   pub each : (s : ℕ) → IsTrue (names (run_at shape place) s) → is (state metaslab s)
 
+-- the sector is free: neither in use nor released
 abbrev pub IsFree : State → Type 0
 IsFree state = state ≡ Free
 
+-- the sector is in use or released
 abbrev pub IsNotFree : State → Type 0
 IsNotFree state = state ≢ Free
 
@@ -129,6 +135,7 @@ pub record HasRoomFor (spaces : List VdevSpace) (sectors copies v metaslab : ℕ
 abbrev pub IsInVdev : List Dva → ℕ → Type 0
 IsInVdev taken v = (place : Dva) × Contains taken place × (place.vdev ≡ v)
 
+-- one of the places is in that metaslab of the vdev with that number and this shape
 abbrev pub IsInMetaslab : VdevShape → List Dva → ℕ → ℕ → Type 0
 IsInMetaslab shape taken v metaslab = (place : Dva) × Contains taken place × (place.vdev ≡ v) × (metaslab_of shape place ≡ metaslab)
 

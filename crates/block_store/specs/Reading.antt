@@ -9,7 +9,7 @@ use Rattle.raidz_io.specs.declared.vdev.Extent.{Extent}
 use Rattle.raidz_io.specs.declared.vdev.Vdev.{Vdev}
 use Rattle.raidz_io.specs.Reads.{OnlyReads, AreUntouched, IsHonestSince, absent_since, MoreAreLost}
 use Rattle.raidz_io.specs.Stands.{ExtentStands}
-use Rattle.raidz_io.specs.Choices.{HasNoChoice}
+use Rattle.raidz_io.specs.Choices.{IsChoice, HasNoChoice}
 use Rattle.block_store.specs.declared.block.Asked.{Asked}
 use Rattle.block_store.specs.declared.refusal.Refusal.{Refusal}
 use Rattle.block_store.specs.declared.refusal.Refusal.TheVariants.{NoMemory, DiskFault, BadDigest}
@@ -87,6 +87,7 @@ pub record IsCopyRead (spaces : List VdevSpace) (absent : List ℕ) (block : Blo
   pub untouched : AreUntouched absent old new
   pub digest : IfOk result (λ read. sha256 read.items ≡ block.checksum)
   pub size : IfOk result (λ read. length read.items ≡ block.property.sectors * 512)
+  pub choice : IfOk result (λ read. IsChoice old new extent read.items)
   pub right : IfOk result (λ read. IsHonestSince old new → (bytes : List ℕ) → ExtentStands (content old) (absent_since old new absent) extent bytes
       → sha256 bytes ≡ block.checksum → read.items ≡ bytes)
   pub refused : IfErr result (λ refusal. (refusal ≡ NoMemory)

@@ -26,9 +26,11 @@ pub record CopyAt : Type 0 where
 abbrev pub copy_of_at : Block → Dva → CopyAt
 copy_of_at block place = record { sectors = block.property.sectors; copies = length (dvas block.copies); place = place }
 
+-- the block's copies that lie at these places, in their order
 abbrev pub copies_of_at : Block → List Dva → List CopyAt
 copies_of_at block places = map (copy_of_at block) places
 
+-- all copies of the block, in order
 abbrev pub copies_of : Block → List CopyAt
 copies_of block = copies_of_at block (dvas block.copies)
 

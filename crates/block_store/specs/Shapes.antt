@@ -8,9 +8,11 @@ use Rattle.block_store.specs.declared.shape.VdevShape.{VdevShape}
 abbrev pub vdev_sectors : VdevShape → ℕ
 vdev_sectors shape = shape.vdev.geometry.children * shape.child_sectors
 
+-- how many sectors of 512 bytes each metaslab of the vdev has
 abbrev pub metaslab_sectors : VdevShape → ℕ
 metaslab_sectors shape = 2 ^ shape.metaslab_shift
 
+-- how many metaslabs the vdev has: sectors at its end that fill none are in no metaslab
 abbrev pub metaslabs : VdevShape → ℕ
 metaslabs shape = vdev_sectors shape / metaslab_sectors shape
 
@@ -18,6 +20,7 @@ metaslabs shape = vdev_sectors shape / metaslab_sectors shape
 abbrev pub metaslab_of : VdevShape → Dva → ℕ
 metaslab_of shape place = place.offset / metaslab_sectors shape
 
+-- at which sector of its metaslab a copy begins
 abbrev pub sector_of : VdevShape → Dva → ℕ
 sector_of shape place = place.offset % metaslab_sectors shape
 

@@ -15,6 +15,7 @@ pub record VdevSpace : Type 0 where
 abbrev pub AreMetaslabsOf : VdevShape → List Space → Type 0
 AreMetaslabsOf shape spaces = (length spaces ≡ metaslabs shape) × All (λ space. sectors_of space ≡ metaslab_sectors shape) spaces
 
+-- so it is of the metaslabs as the last committed group left them, and as the plan has them
 pub record IsSpace (space : VdevSpace) : Type 0 where
   pub kept : AreMetaslabsOf space.shape space.kept
   pub planned : AreMetaslabsOf space.shape space.planned

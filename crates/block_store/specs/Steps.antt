@@ -1,8 +1,9 @@
 -- What calls over a store may do to it: reads of blocks, and plans of new ones.
-use Rattle.std.specs.Prelude.{ℕ, ◌≡◌, ◌≤◌, false, List, [], ◌∷◌, ◌++◌, map, All}
+use Rattle.std.specs.Prelude.{ℕ, ◌≡◌, ◌⊎◌, ◌≤◌, false, List, [], ◌∷◌, ◌++◌, map, All, Contains}
 use Rattle.block_pointer.specs.declared.dva.Dva.{Dva}
 use Rattle.raidz_io.specs.Writes.{ColumnWrite}
-use Rattle.raidz_io.specs.Reads.{OnlyReads, AreUntouched, IsHonestSince, absent_since}
+use Rattle.raidz_io.specs.Reads.{OnlyReads, AreUntouched, IsHonestSince, GivesTruly, absent_since}
+use Rattle.raidz_io.specs.Choices.{DigestsTell}
 use Rattle.block_store.specs.Spaces.{VdevSpace}
 use Rattle.block_store.specs.Blocks.{Contents, Extends}
 use Rattle.block_store.specs.Places.{shapes_of, AreChosen, RanOut}
@@ -62,6 +63,24 @@ AnswersAreTrue old new = IsHonestSince old.disks new.disks
 abbrev pub LossIsTolerable : Store → Store → List ℕ → Type 0
 LossIsTolerable old new missing =
     (birth : ℕ) → AreTolerable old.spaces (absent_since old.disks new.disks ((outs old ++ missing) ++ missed old birth))
+
+-- Some disks may lie. With those that are lost they are few in each vdev, all others gave what stood there, and of no block do other bytes
+-- that what was given could be have the digest.
+pub record FewLie (old new : Store) (missing : List ℕ) : Type 0 where
+  pub liars : List ℕ
+  pub few : LossIsTolerable old new (missing ++ liars)
+  pub truly : (disk : ℕ) → ¬ Contains liars disk → GivesTruly old.disks new.disks disk
+  pub told : DigestsTell old.disks new.disks
+
+-- what the disks answered since tells what was written: it is true, or few of them lie and digests tell
+abbrev pub AnswersTell : Store → Store → List ℕ → Type 0
+AnswersTell old new missing = AnswersAreTrue old new ⊎ FewLie old new missing
+
+-- where answers tell, those of each part of the reads do
+abbrev pub PartsOfAnswersTell : Type 0
+PartsOfAnswersTell =
+    (old mid new : Store) (missing : List ℕ) → OnlyReadsAndPlans old mid missing → OnlyReadsAndPlans mid new missing → AnswersTell old new missing
+    → AnswersTell old mid missing × AnswersTell mid new missing
 
 -- there is no room: behind such reads and plans no free place was left for a copy of a block of so many sectors
 pub record HasNoRoomFor (old new : Store) (missing : List ℕ) (sectors copies : ℕ) : Type 0 where

@@ -21,6 +21,7 @@ pub record Store : Type 0 where
   pub due : List ColumnWrite  -- the writes of the plan that are to be made, in order
   pub stray : Bool  -- whether a block may have taken places and then not have been planned
 
+-- the numbers of the disks that are out, in ascending order
 abbrev pub outs : Store → List ℕ
 outs store = outs_from 0 store.out
 

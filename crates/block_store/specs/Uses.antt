@@ -25,6 +25,7 @@ CopiesLieOn is spaces marks block =
 abbrev pub Passes : (State → Bool) → State → Type 0
 Passes test state = test state ≡ true
 
+-- the sector is in use: neither free nor released
 abbrev pub IsInUse : State → Type 0
 IsInUse state = state ≡ InUse
 

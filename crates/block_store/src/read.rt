@@ -2,12 +2,13 @@
 ghost use Rattle.std.specs.Prelude.{◌≡◌, ◌⊎◌, ◌++◌, ◌*◌, ◌↔◌, ◌<◌, ℕ, List, Some, IsTrue, IfOk, IfErr, OnOk, length};
 ghost use Rattle.sha2.specs.Sha256.{sha256};
 ghost use Rattle.block_pointer.specs.Copies.{dvas};
-ghost use Rattle.raidz_io.specs.Reads.{OnlyReads, AreUntouched, IsHonestSince};
+ghost use Rattle.raidz_io.specs.Reads.{OnlyReads, AreUntouched};
 ghost use Rattle.block_store.specs.Blocks.{Contents};
 ghost use Rattle.block_store.specs.Causes.{IsCaused};
 ghost use Rattle.block_store.specs.Losses.{IsForLoss};
 ghost use Rattle.block_store.specs.Plans.{KeepsPlans};
 ghost use Rattle.block_store.specs.Reading.{Asks, IsReadable, IsLastFault, IsFirstRead, IsFault};
+ghost use Rattle.block_store.specs.Steps.{AnswersTell};
 ghost use Rattle.block_store.specs.Store.{Holds, Keeps, KeepsStored, missed, outs};
 
 use crate::block::Asked;
@@ -17,7 +18,10 @@ use arrayvec::ArrayVec;
 use block_pointer::{Block, Copies, Dva};
 use model_disk::Disk;
 use model_disk::laws::parts_are_honest;
-use raidz_io::{reads_keep_contents, stands_while_kept, stands_with_more_absent};
+use raidz_io::{
+    honest_disks_give_truly, later_choices_stay, parts_give_truly, reads_keep_contents,
+    stands_while_kept, stands_with_more_absent,
+};
 use std::alloc::{AllocError, Global};
 
 impl<D: Disk + Drop> BlockStore<D> {
@@ -52,25 +56,28 @@ impl<D: Disk + Drop> BlockStore<D> {
         ensures first { OnOk result
             (IsFirstRead self.old self.new (outs self.old ++ missing.now) block.now) }
 
-        // A block that is stored is read as it was written.
+        // A block that is stored is read as it was written, though some disks may lie.
         ensures bytes { IfOk result (λ read. (stored : Contents) (bytes : List ℕ)
             → Holds self.old stored → stored block.now ≡ Some bytes
-            → IsHonestSince self.old.disks self.new.disks → read.items ≡ bytes) }
+            → AnswersTell self.old self.new missing.now → read.items ≡ bytes) }
         ensures refused { IfErr result (λ refusal. (refusal ≡ Refusal.NoMemory)
             ⊎ (((refusal ≡ Refusal.BadPointer) × ¬ IsReadable self.old.spaces asked block.now)
             ⊎ IsLastFault self.old self.new (outs self.old ++ missing.now) block.now refusal)) }
         ensures caused { IfErr result (IsCaused self.old self.new missing.now) }
 
-        // And it is read, over disks that answer truly, unless too many disks miss of the block.
+        // And it is read, unless too many disks miss of the block.
         ensures known { IfErr result (λ refusal. (stored : Contents) (bytes : List ℕ)
             → Holds self.old stored → stored block.now ≡ Some bytes
-            → Asks asked block.now → IsHonestSince self.old.disks self.new.disks
+            → Asks asked block.now → AnswersTell self.old self.new missing.now
             → IsForLoss refusal) }
     {
         reads_keep_contents();
         stands_while_kept();
         stands_with_more_absent();
         parts_are_honest();
+        honest_disks_give_truly();
+        parts_give_truly();
+        later_choices_stay();
         if !self.is_readable(block, asked) {
             return Err(Refusal::BadPointer);
         }

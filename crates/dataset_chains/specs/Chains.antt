@@ -37,6 +37,7 @@ pub record AreClones (pool : Pool) (number : ℕ) (clones : List ℕ) : Type 0 w
   pub which : (m : ℕ) → Contains clones m ↔ (((pool.datasets m).before ≡ number) × (m ≢ pool.next number))
   pub once : AllPairs (λ clone later. clone ≢ later) clones
 
+-- the dataset of that number has this many clones
 abbrev pub HasCloneCount : Pool → ℕ → ℕ → Type 0
 HasCloneCount pool number count = (clones : List ℕ) × AreClones pool number clones × (count ≡ length clones)
 

@@ -41,6 +41,7 @@ blocks_of lists.Gone = []
 abbrev pub FitsRecordState : RecordState → Type 0
 FitsRecordState state = IfSome (record_of state) FitsRecord
 
+-- each block that is known of the list may stand on disk
 abbrev pub FitsListState : ListState → Type 0
 FitsListState state = All FitsBlock (blocks_of state)
 

@@ -19,6 +19,7 @@ use Rattle.dataset_changes.specs.declared.states.RecordState.TheVariants as reco
 abbrev pub IsForRecord : Option Object → Type 0
 IsForRecord object = (there : Object) × (object ≡ Some there) × IsRecordObject there
 
+-- the object is there, and is one that may have a dead list
 abbrev pub IsForList : Option Object → Type 0
 IsForList object = (there : Object) × (object ≡ Some there) × IsOfKind dead_list_kind there
 
@@ -68,5 +69,6 @@ IsListNow object (Some lists.Gone) list = ⊥
 abbrev pub HasRecordNow : (ℕ → Option Object) → DatasetChanges → ℕ → DatasetRecord → Type 0
 HasRecordNow objects changes number r = IsRecordNow (objects number) (record_at changes number) r
 
+-- the object has this dead list now, as the group leaves it so far; the blocks' order doesn't matter
 abbrev pub HasListNow : (ℕ → Option Object) → DatasetChanges → ℕ → List Block → Type 0
 HasListNow objects changes number list = IsListNow (objects number) (list_at changes number) list

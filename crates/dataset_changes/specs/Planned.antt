@@ -52,6 +52,7 @@ abbrev pub IsListPlanned : Option ListState → Option (Option Change) → Optio
 IsListPlanned None old new = new ≡ old
 IsListPlanned (Some state) old new = (old ≡ None) × IsPlanned ServesList (Some state) new
 
+-- each list's plan stands in the new map, where the old one had none; where no list is the old plan stays
 abbrev pub AreListsPlanned : BTreeMap ℕ ListState → BTreeMap ℕ (Option Change) → BTreeMap ℕ (Option Change) → Type 0
 AreListsPlanned lists old new = (number : ℕ) → IsListPlanned (get nat_cmp lists number) (get nat_cmp old number) (get nat_cmp new number)
 
@@ -60,6 +61,7 @@ abbrev pub change_of : ℕ → Option Change → List ObjectChange → List Obje
 change_of number None changes = changes
 change_of number (Some change) changes = record { number = number; change = change } ∷ changes
 
+-- the changes of all these plans, in their order; a plan of no change adds none
 abbrev pub changes_of : List (ℕ × Option Change) → List ObjectChange
 changes_of [] = []
 changes_of (plan ∷ plans) = change_of plan.0 plan.1 (changes_of plans)

@@ -22,6 +22,7 @@ of_list (of_lists.Unread why) = why
 abbrev pub IsNoRecord : DatasetChanges → ℕ → Type 0
 IsNoRecord changes number = (¬ IsNumber number) ⊎ (record_at changes number ≡ Some records.Gone)
 
+-- the number is no object's behind the tables, or the dead list that had it is gone
 abbrev pub IsNoList : DatasetChanges → ℕ → Type 0
 IsNoList changes number = (¬ IsNumber number) ⊎ (list_at changes number ≡ Some lists.Gone)
 
@@ -40,6 +41,7 @@ IsListUnread old new changes number refusal =
     × IsListRefused old new [] (set_of changes) (birth_of changes) number why)
     ⊎ ((refusal ≡ BadPointer) × IsNoList changes number))
 
+-- why the end of a dead list is not read: memory, its object was refused, or it can't be there
 abbrev pub IsListEndUnread : Store → Store → DatasetChanges → ℕ → Refusal → Type 0
 IsListEndUnread old new changes number refusal =
     (refusal ≡ NoMemory)

@@ -16,6 +16,7 @@ use Rattle.meta_objset.specs.declared.record.DatasetRecord.{DatasetRecord}
 abbrev pub set_of : DatasetChanges → ObjectSet
 set_of changes = changes.set
 
+-- the group that the set's blocks were born in or before
 abbrev pub birth_of : DatasetChanges → ℕ
 birth_of changes = changes.birth
 
@@ -23,6 +24,7 @@ birth_of changes = changes.birth
 abbrev pub record_at : DatasetChanges → ℕ → Option RecordState
 record_at changes number = get nat_cmp changes.records number
 
+-- what became of the dead list at a number; None where it was neither read nor changed
 abbrev pub list_at : DatasetChanges → ℕ → Option ListState
 list_at changes number = get nat_cmp changes.lists number
 
@@ -30,6 +32,7 @@ list_at changes number = get nat_cmp changes.lists number
 abbrev pub AreUntouched : DatasetChanges → Type 0
 AreUntouched changes = (number : ℕ) → (record_at changes number ≡ None) × (list_at changes number ≡ None)
 
+-- both are changes of the same object set, born by the same group
 abbrev pub AreOfOneSet : DatasetChanges → DatasetChanges → Type 0
 AreOfOneSet old new = (set_of new ≡ set_of old) × (birth_of new ≡ birth_of old)
 
@@ -37,6 +40,7 @@ AreOfOneSet old new = (set_of new ≡ set_of old) × (birth_of new ≡ birth_of 
 abbrev pub HaveSameRecords : DatasetChanges → DatasetChanges → Type 0
 HaveSameRecords old new = (number : ℕ) → record_at new number ≡ record_at old number
 
+-- the same became of each dead list
 abbrev pub HaveSameLists : DatasetChanges → DatasetChanges → Type 0
 HaveSameLists old new = (number : ℕ) → list_at new number ≡ list_at old number
 
@@ -45,6 +49,7 @@ abbrev pub HasRecordPut : DatasetChanges → ℕ → Option RecordState → Data
 HasRecordPut old number state new =
     (record_at new number ≡ state) × ((other : ℕ) → other ≢ number → record_at new other ≡ record_at old other)
 
+-- this became of the dead list at a number, and of others what had
 abbrev pub HasListPut : DatasetChanges → ℕ → Option ListState → DatasetChanges → Type 0
 HasListPut old number state new =
     (list_at new number ≡ state) × ((other : ℕ) → other ≢ number → list_at new other ≡ list_at old other)
@@ -78,10 +83,12 @@ abbrev pub with_list : Option ListState → List Block → ListState
 with_list (Some (lists.Made one)) list = lists.Made list
 with_list state list = lists.Whole list
 
+-- what becomes of a dead list once its object goes: None of one that was made, else Gone
 abbrev pub without_list : Option ListState → Option ListState
 without_list (Some (lists.Made one)) = None
 without_list state = Some lists.Gone
 
+-- the dead list's object is made
 abbrev pub is_made_list : Option ListState → Bool
 is_made_list (Some (lists.Made one)) = true
 is_made_list state = false

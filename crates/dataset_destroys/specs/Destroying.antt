@@ -28,6 +28,7 @@ operation_of ASnapshot number = DestroySnapshot number
 abbrev pub destroy_of : Pool → ℕ → Operation
 destroy_of pool number = operation_of (pool.datasets number).kind number
 
+-- the dataset at a number may be destroyed: it is a head without snapshots of its own, or a snapshot without clones
 abbrev pub MayDestroy : Pool → ℕ → Type 0
 MayDestroy pool number = MayDo pool (destroy_of pool number)
 

@@ -25,6 +25,7 @@ IsUnlinked changes snapshot refusal =
     (refusal ≡ BadPointer) × ((r : DatasetRecord) × (next : DatasetRecord) × HasKnown changes snapshot r
     × HasKnown changes r.next next × (next.previous ≢ snapshot))
 
+-- why a snapshot is not destroyed: it has clones, what comes after it doesn't name it, or memory, a record or list, or its kind
 abbrev pub IsSnapshotKept : Store → Store → DatasetChanges → DatasetChanges → ℕ → Refusal → Type 0
 IsSnapshotKept old new changes far snapshot refusal =
     HasClones far snapshot refusal
@@ -66,6 +67,7 @@ IsHeadUnfit old new changes far head refusal =
     HasSnapshots far head refusal
     ⊎ (IsUncounted far head refusal ⊎ IsChainRefused old new changes far head kinds.Volume refusal)
 
+-- why a head is not destroyed: its tree was not read, its dead list is named where none can be, or it is unfit by the records
 abbrev pub IsHeadKept : Store → Store → DatasetChanges → DatasetChanges → ℕ → ℕ → ℕ → ℕ → Refusal → Type 0
 IsHeadKept old new changes far head group left_before left_after refusal =
     IsTreeLost old new far head group left_before left_after refusal

@@ -132,6 +132,7 @@ HasChangeDemands spaces group (Snapshot volume part) demands = demands ≡ []
 HasChangeDemands spaces group (Clone snapshot name) demands = demands ≡ []
 HasChangeDemands spaces group (Destroy name) demands = demands ≡ []
 
+-- an action asks for these blocks, as its change does
 abbrev pub HasActionDemands : List VdevSpace → ℕ → Action → List Demand → Type 0
 HasActionDemands spaces group action demands = HasChangeDemands spaces group action.change demands
 

@@ -59,6 +59,7 @@ TouchesChange old new rows next (Snapshot volume part) = TouchesTaken old new ro
 TouchesChange old new rows next (Clone snapshot name) = TouchesCloned old new rows next snapshot
 TouchesChange old new rows next (Destroy name) = ⊥
 
+-- one of the actions took a snapshot of the volume with this object
 abbrev pub IsHeadTaken : List DirectoryRow → List Action → ℕ → Type 0
 IsHeadTaken rows made number = Any (λ action. IsTakenBy rows number action.change) made
 

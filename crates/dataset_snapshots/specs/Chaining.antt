@@ -28,6 +28,7 @@ abbrev pub clones_among : List RowRecord → ℕ → ℕ → ℕ
 clones_among records object next =
     length (filter (λ one. one.record.previous == object && not (one.object == next)) records)
 
+-- the record of this row fits those of the others: what is before it, and of a snapshot what comes next and how many clones it has
 pub record IsChained (records : List RowRecord) (one : RowRecord) : Type 0 where
   pub behind : IsBehindOne records one.record
   pub followed : one.record.kind ≡ kinds.Snapshot → IsFollowed records one
@@ -45,6 +46,7 @@ pub record AreChained (records : List RowRecord) : Type 0 where
 abbrev pub RecordIndex : Type 0
 RecordIndex = HashMap ℕ DatasetRecord (BuildHasherDefault FoldHasher)
 
+-- how many, by the numbers of objects
 abbrev pub Counts : Type 0
 Counts = HashMap ℕ ℕ (BuildHasherDefault FoldHasher)
 

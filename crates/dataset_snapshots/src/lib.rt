@@ -23,7 +23,8 @@ pub use groups::{NextGroup, NextRoot, after_group};
 pub use kept::KeptDirectory;
 pub use laws::{
     good_changes_may_be_made, losses_by_rows, losses_of_datasets, losses_of_first_groups,
-    losses_of_groups, losses_of_ranges, reaches_lie_apart, replaced_of_groups_leave, roots_stay,
+    losses_of_groups, losses_of_ranges, reach_is_known, reaches_lie_apart,
+    replaced_of_groups_leave, roots_stay,
 };
 pub use pool_maps::load_maps;
 pub use ranges::{VolumeRange, read_range, read_range_in};

@@ -9,6 +9,7 @@ pub data Kind : Type 0 where
   Head : Kind
   Snapshot : Kind
 
+-- a volume, clone or snapshot with its blocks, or what stands at a number that is free
 pub record Dataset : Type 0 where
   pub kind : Kind
   pub group : ℕ  -- the group that it was made in
@@ -20,9 +21,11 @@ pub record Dataset : Type 0 where
 abbrev pub nothing : Dataset
 nothing = record { kind = Free; group = 0; before = 0; blocks = []; dead = [] }
 
+-- what each number stands for
 abbrev pub Datasets : Type 0
 Datasets = ℕ → Dataset
 
+-- the datasets as they are in a group, and what comes after each snapshot
 pub record Pool : Type 0 where
   pub group : ℕ  -- the group in which datasets change
   pub datasets : Datasets

@@ -4,6 +4,7 @@ use Rattle.block_pointer.specs.declared.block.Block.{Block}
 use Rattle.dead_list.specs.Blocks.{AreDistinct, IsDifference, IsSplit}
 use Rattle.dead_list.specs.Datasets.{Head, Snapshot, Dataset, Datasets, Pool, IsReached, group_before, nothing, updated, passed}
 
+-- one thing that is done with datasets; they are named by their numbers
 pub data Operation : Type 0 where
   NextGroup : Operation
   -- a number stands for a new volume without blocks
@@ -23,9 +24,11 @@ pub data Operation : Type 0 where
 abbrev pub IsUnused : Datasets → ℕ → Type 0
 IsUnused datasets n = (n ≢ 0) × (datasets n ≡ nothing)
 
+-- the number stands for a volume or clone that is written to
 abbrev pub IsHead : Datasets → ℕ → Type 0
 IsHead datasets head = (datasets head).kind ≡ Head
 
+-- the number stands for a snapshot
 abbrev pub IsSnapshot : Datasets → ℕ → Type 0
 IsSnapshot datasets snapshot = (datasets snapshot).kind ≡ Snapshot
 
@@ -45,6 +48,7 @@ HasNoSnapshots pool head = ((pool.datasets head).before ≡ 0) ⊎ (pool.next (p
 abbrev pub HasNoClones : Pool → ℕ → Type 0
 HasNoClones pool snapshot = (m : ℕ) → (pool.datasets m).before ≡ snapshot → m ≡ pool.next snapshot
 
+-- the operation may be done in this pool
 abbrev pub MayDo : Pool → Operation → Type 0
 MayDo pool NextGroup = Unit {0}
 MayDo pool (Create n) = IsUnused pool.datasets n
@@ -60,6 +64,7 @@ MayDo pool (DestroySnapshot snapshot) = IsSnapshot pool.datasets snapshot × Has
 abbrev pub with_dataset : Pool → ℕ → Dataset → Pool
 with_dataset pool n dataset = record pool { datasets = updated pool.datasets n dataset }
 
+-- a volume without blocks, made in the pool's group
 abbrev pub new_volume : Pool → Dataset
 new_volume pool = record { kind = Head; group = pool.group; before = 0; blocks = []; dead = [] }
 
@@ -75,6 +80,7 @@ snapshot_of group head = record head { kind = Snapshot; group = group }
 abbrev pub head_after : ℕ → Dataset → Dataset
 head_after n head = record head { before = n; dead = [] }
 
+-- the pool once a snapshot of the head is taken, with that number for it
 abbrev pub with_snapshot : Pool → ℕ → ℕ → Pool
 with_snapshot pool head n = record pool {
   datasets = updated (updated pool.datasets n (snapshot_of pool.group (pool.datasets head))) head (head_after n (pool.datasets head));

@@ -14,6 +14,7 @@ row block = spelling (pointers.Block block)
 abbrev pub FitsRow : Block → Type 0
 FitsRow block = FitsBlock block × (length (row block) ≡ 128)
 
+-- the bytes of the rows of these blocks, one after another
 abbrev pub rows : List Block → List ℕ
 rows blocks = flat_map row blocks
 

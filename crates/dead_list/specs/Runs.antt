@@ -15,6 +15,7 @@ abbrev pub Run : Pool → List Step → Pool → Type 0
 Run old [] new = new ≡ old
 Run old (step ∷ steps) new = (mid : Pool) × MayDo old step.operation × Makes old step.operation step.freed mid × Run mid steps new
 
+-- the blocks that enter a head by the operation: none but by an overwrite
 abbrev pub entered_by : Operation → List Block
 entered_by NextGroup = []
 entered_by (Create n) = []

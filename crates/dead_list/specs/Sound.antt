@@ -10,6 +10,7 @@ until_kind group Free made = group
 until_kind group Head made = group
 until_kind group Snapshot made = made
 
+-- the last group in which a block of this dataset may have been born
 abbrev pub until : ℕ → Dataset → ℕ
 until group x = until_kind group x.kind x.group
 
@@ -24,6 +25,7 @@ pub record Fits (group : ℕ) (x before : Dataset) : Type 0 where
   -- the dead blocks are those of the snapshot before that aren't reached any more
   pub dead : IsDifference before.blocks x.blocks x.dead
 
+-- all datasets of the pool fit one another, in chains that end
 pub record IsSound (pool : Pool) : Type 0 where
   pub none : pool.datasets 0 ≡ nothing
   -- the rank of each dataset is above that of the snapshot before it

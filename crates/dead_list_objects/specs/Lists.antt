@@ -24,6 +24,7 @@ abbrev pub HasDeadList : Option Object → List Block → Type 0
 HasDeadList object list =
     (rows : List ℕ) × HasTable dead_list_kind object rows × SpellsList rows list
 
+-- the object has some dead list
 abbrev pub HasSomeDeadList : Option Object → Type 0
 HasSomeDeadList object = (list : List Block) × HasDeadList object list
 

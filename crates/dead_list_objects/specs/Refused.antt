@@ -4,6 +4,7 @@ use Rattle.block_store.specs.declared.refusal.Refusal.TheVariants.{NoMemory as N
 use Rattle.dead_list_objects.specs.declared.refusal.Refusal.{Refusal}
 use Rattle.dead_list_objects.specs.declared.refusal.Refusal.TheVariants.{NoMemory, Unread}
 
+-- the store's refusal as the list reader's: no memory stays so, all others are Unread
 abbrev pub of_read : StoreRefusal → Refusal
 of_read NoStoreMemory = NoMemory
 of_read DiskFault = Unread DiskFault

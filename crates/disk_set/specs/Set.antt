@@ -5,6 +5,7 @@ use Rattle.raidz_io.specs.Writes.{ColumnWrite}
 use Rattle.raidz_io.specs.Stands.{IsWithin}
 use Rattle.disk_set.specs.Outs.{Spans}
 
+-- the disks of a pool with the calls on them, those that are out, the groups whose blocks they may lack, and the writes that are due
 pub record PoolDisks : Type 0 where
   pub disks : Disks
   pub out : List Bool  -- for each disk, whether it is out

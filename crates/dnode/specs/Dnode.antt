@@ -14,5 +14,6 @@ abbrev pub dnode_bytes : Dnode → List ℕ
 dnode_bytes Free = replicate 512 0
 dnode_bytes (Object n) = node_bytes n
 
+-- these bytes, and no others, spell the dnode
 abbrev pub SpellsDnode : List ℕ → Dnode → Type 0
 SpellsDnode bytes d = FitsDnode d × (bytes ≡ dnode_bytes d)

@@ -18,6 +18,7 @@ pub record FitsIndirect (pointers : List BlockPtr) : Type 0 where
 abbrev pub indirect_bytes : List BlockPtr → List ℕ
 indirect_bytes pointers = flat_map spelling pointers
 
+-- these bytes, and no others, spell the indirect block of these pointers
 abbrev pub SpellsIndirect : List ℕ → List BlockPtr → Type 0
 SpellsIndirect bytes pointers = FitsIndirect pointers × (bytes ≡ indirect_bytes pointers)
 
@@ -26,5 +27,6 @@ abbrev pub fill_of : BlockPtr → ℕ
 fill_of Hole = 0
 fill_of (Block b) = b.fill
 
+-- the number of data blocks below all of these pointers that are no holes
 abbrev pub total_fill : List BlockPtr → ℕ
 total_fill pointers = sum_by fill_of pointers

@@ -18,6 +18,7 @@ pub record IsRoot (n : ObjectNode) (p : Property) : Type 0 where
   pub object_type : p.object_type ≡ n.object_type
   pub sectors : p.sectors ≡ root_sectors n
 
+-- the pointer is a hole, or the block's property is one that the object's tree can begin at
 abbrev pub PointsToRoot : ObjectNode → BlockPtr → Type 0
 PointsToRoot n Hole = Unit {0}
 PointsToRoot n (Block b) = IsRoot n b.property
@@ -44,9 +45,11 @@ head_bytes n = n.object_type ∷ 14 ∷ levels_of n.highest ∷ 1 ∷ 0 ∷ 8 �
 abbrev pub node_words : ObjectNode → List ℕ
 node_words n = n.data_sectors ∷ n.highest ∷ 0 ∷ 0 ∷ 0 ∷ 0 ∷ 0 ∷ []
 
+-- the first 8 bytes, the words, the pointer, and zeros up to byte 512
 abbrev pub node_bytes : ObjectNode → List ℕ
 node_bytes n = head_bytes n ++ (word_bytes (node_words n) ++ (spelling n.pointer ++ replicate 320 0))
 
+-- these bytes, and no others, spell the object's dnode
 abbrev pub SpellsNode : List ℕ → ObjectNode → Type 0
 SpellsNode bytes n = FitsNode n × (bytes ≡ node_bytes n)
 

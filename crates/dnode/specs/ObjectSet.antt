@@ -7,6 +7,7 @@ use Rattle.dnode.specs.declared.object_set.ObjectSetKind.{ObjectSetKind}
 use Rattle.dnode.specs.declared.object_set.ObjectSetKind.TheVariants.{Meta, Volume}
 use Rattle.dnode.specs.Node.{FitsNode, node_bytes}
 
+-- the word that a kind is spelled as
 abbrev pub kind_word : ObjectSetKind → ℕ
 kind_word Meta = 1
 kind_word Volume = 3
@@ -26,9 +27,11 @@ FitsObjectSet s = FitsNode s.dnodes × IsObjectSet s
 abbrev pub set_words : ObjectSet → List ℕ
 set_words s = kind_word s.kind ∷ s.objects ∷ []
 
+-- the dnode of the object of the dnodes, the words, and zeros up to byte 1,024
 abbrev pub object_set_bytes : ObjectSet → List ℕ
 object_set_bytes s = node_bytes s.dnodes ++ (word_bytes (set_words s) ++ replicate 496 0)
 
+-- these bytes, and no others, spell the object set
 abbrev pub SpellsObjectSet : List ℕ → ObjectSet → Type 0
 SpellsObjectSet bytes s = FitsObjectSet s × (bytes ≡ object_set_bytes s)
 

@@ -45,6 +45,7 @@ abbrev pub is_there : BlockPtr → Bool
 is_there Hole = false
 is_there (At block) = true
 
+-- whether there are writes
 abbrev pub has_some : List BlockWrite → Bool
 has_some [] = false
 has_some (write ∷ writes) = true

@@ -32,6 +32,7 @@ pub record Reached : Type 0 where
   pub pointer : BlockPtr
   pub birth : ℕ
 
+-- the pointer that far above the data, with the latest birth that it may have
 abbrev pub reached : ℕ → BlockPtr → ℕ → Reached
 reached level pointer birth = record { level = level; pointer = pointer; birth = birth }
 
@@ -52,6 +53,7 @@ ComesTo spaces property (suc level) birth pointer place there =
 abbrev pub bytes_of : Option (Vec ℕ Global) → Option (List ℕ)
 bytes_of found = option_map (λ bytes. bytes.items) found
 
+-- the bytes of a data block, if there is one
 abbrev pub bytes_in : Option DataBlock → Option (List ℕ)
 bytes_in found = option_map (λ block. block.bytes.items) found
 

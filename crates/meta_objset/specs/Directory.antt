@@ -46,6 +46,7 @@ row_bytes row = row.name ++ word_bytes (row.object ∷ [])
 abbrev pub SpellsRow : List ℕ → DirectoryRow → Type 0
 SpellsRow bytes row = FitsRow row × (bytes ≡ row_bytes row)
 
+-- the bytes of the rows, one after another
 abbrev pub rows_bytes : List DirectoryRow → List ℕ
 rows_bytes rows = flat_map row_bytes rows
 

@@ -11,6 +11,7 @@ pub record IsNamed (padded name : List ℕ) : Type 0 where
   pub no_zero : All (λ byte. byte ≢ 0) name
   pub padded_is : padded ≡ name ++ replicate (56 - length name) 0
 
+-- these 56 bytes are some name with zeros behind it
 abbrev pub IsName : List ℕ → Type 0
 IsName padded = (name : List ℕ) × IsNamed padded name
 

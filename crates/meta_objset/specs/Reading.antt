@@ -17,6 +17,7 @@ use Rattle.meta_objset.specs.StaleSpans.{AreStaleSpans, spans_bytes, spans_kind}
 abbrev pub directory_kind : TableKind
 directory_kind = record { object_type = 200; rows = directory_shape }
 
+-- the configuration has type 203
 abbrev pub config_kind : TableKind
 config_kind = record { object_type = 203; rows = config_shape }
 

@@ -10,6 +10,7 @@ use Rattle.meta_objset.specs.declared.record.DatasetKind.{DatasetKind}
 use Rattle.meta_objset.specs.declared.record.DatasetKind.TheVariants.{Volume, Snapshot}
 use Rattle.meta_objset.specs.declared.record.DatasetRecord.{DatasetRecord}
 
+-- the word that a kind is spelled as
 abbrev pub kind_word : DatasetKind → ℕ
 kind_word Volume = 1
 kind_word Snapshot = 2

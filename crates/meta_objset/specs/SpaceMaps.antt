@@ -46,9 +46,11 @@ IsWithoutMetaslab before metaslab after = (other : MetaslabMap)
 abbrev pub map_words : MetaslabMap → List ℕ
 map_words map = map.metaslab.vdev ∷ map.metaslab.index ∷ map.object ∷ 0 ∷ []
 
+-- the 32 bytes of a row
 abbrev pub map_bytes : MetaslabMap → List ℕ
 map_bytes map = word_bytes (map_words map)
 
+-- the bytes of the rows, one after another
 abbrev pub maps_bytes : List MetaslabMap → List ℕ
 maps_bytes maps = flat_map map_bytes maps
 

@@ -36,9 +36,11 @@ IsWithoutDisk before disk after = (other : StaleSpan)
 abbrev pub span_words : StaleSpan → List ℕ
 span_words span = span.disk ∷ span.from ∷ span.to ∷ 0 ∷ []
 
+-- the 32 bytes of a span's row
 abbrev pub span_bytes : StaleSpan → List ℕ
 span_bytes span = word_bytes (span_words span)
 
+-- the bytes of the spans' rows, one after another
 abbrev pub spans_bytes : List StaleSpan → List ℕ
 spans_bytes spans = flat_map span_bytes spans
 

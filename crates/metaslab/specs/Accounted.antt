@@ -20,6 +20,7 @@ pub record IsFreedIn (pool : Pool) (group s : ℕ) : Type 0 where
 abbrev pub IsWaiting : Pool → ℕ → Type 0
 IsWaiting pool group = (pool.last ≤ suc group) ⊎ ((pin : ℕ) × (is_pinned pool.pins pin ≡ true) × (pin < group))
 
+-- no sector of a tree that may be read is handed out, and none is held back but for the last tree, a recent release or a pin
 pub record IsAccounted (pool : Pool) : Type 0 where
   -- what may be handed out to the next plan is in no tree that may be read
   pub no_double_use : (s group : ℕ) → next_state pool s ≡ Free → IsReadable pool group → pool.reach group s ≡ false

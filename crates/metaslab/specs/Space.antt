@@ -6,12 +6,14 @@ use Rattle.metaslab.specs.declared.settling.Release.{Release}
 use Rattle.metaslab.specs.Released.{released_by}
 use Rattle.metaslab.specs.State.{State, Free, InUse, Released}
 
+-- the free runs of a metaslab, the runs that groups released, the pinned groups, and a count of calls
 pub record Space : Type 0 where
   pub free : FreeRuns
   pub released : List Release
   pub pins : List ℕ  -- the groups that are pinned
   pub ticks : ℕ  -- how many calls on the free runs led to this
 
+-- what a sector is used for, by whether it is in a free run and which group released it, if any
 abbrev pub state_of : Bool → Option ℕ → State
 state_of true releasing = Free
 state_of false None = InUse

@@ -21,6 +21,7 @@ pub record IsWhollyFree (space : Space) (sectors : ℕ) : Type 0 where
   pub size : sectors_of space ≡ sectors
   pub free : (s : ℕ) → s < sectors → state space s ≡ Free
 
+-- each of the metaslabs has so many sectors, and all are free
 abbrev pub AreWhollyFree : List Space → ℕ → Type 0
 AreWhollyFree spaces sectors = All (λ space. IsWhollyFree space sectors) spaces
 

@@ -19,6 +19,7 @@ settled pins group Free = Free
 settled pins group InUse = InUse
 settled pins group (Released releasing) = if is_due pins group releasing then Free else Released releasing
 
+-- whether the sector is in use: not where it is free or released
 abbrev pub is_in_use : State → Bool
 is_in_use Free = false
 is_in_use InUse = true

@@ -83,6 +83,7 @@ ChangesOne this old new set change noted noted_later node =
     × (later : Contents) × Plans new stored later
     × IsObjectChanged (object_copies this.copies) planned later this.birth node (after_change change.change (objects change.number)) (before change.number) noted noted_later
 
+-- why one change of an object of the set was refused, where the answers are true: for memory, room or a lost block, or it may not be made
 abbrev pub IsOneRefused : Changing → Store → Store → ObjectSet → ObjectChange → Refusal → Type 0
 IsOneRefused this old new set change refusal =
     (stored planned : Contents) (bound : ℕ) (objects : ℕ → Option Object) (own : List Block) (before : ℕ → List Block) → Plans old stored planned
@@ -99,6 +100,7 @@ ChangesNode this old new dnode change noted noted_later after =
     × (later : Contents) × Plans new stored later
     × IsObjectChanged (object_copies this.copies) planned later this.birth after (after_change change object) blocks noted noted_later
 
+-- why a change of a dnode's object was refused, where the answers are true: for memory, room or a lost block, or it may not be made
 abbrev pub IsNodeRefused : Changing → Store → Store → Dnode → Change → Refusal → Type 0
 IsNodeRefused this old new dnode change refusal =
     (stored planned : Contents) (bound : ℕ) (object : Option Object) (blocks : List Block) → Plans old stored planned

@@ -57,6 +57,7 @@ pub record AreNodesRewritten (copies : CopyCounts) (planned later : Contents) (b
 
 -- ---- places
 
+-- the numbers of the dnodes that are written, in the order of the writes
 abbrev pub numbers_of : List NodeWrite → List ℕ
 numbers_of writes = map (λ write. write.number) writes
 

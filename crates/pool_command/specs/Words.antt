@@ -45,13 +45,13 @@ abbrev pub leaf_app : Text → List Rule → App
 leaf_app name rules = record { top = record (new_shape name) { rules = rules }; subs = [] }
 
 -- no command is in the list: true where there is none
-abbrev pub has_subs : List Shape → Bool
-has_subs [] = true
-has_subs (s ∷ subs) = false
+abbrev pub has_no_subs : List Shape → Bool
+has_no_subs [] = true
+has_no_subs (s ∷ subs) = false
 
 -- a program, of which one command has to be named
 abbrev pub program_app : Text → List Shape → App
-program_app name subs = record { top = record (new_shape name) { is_leaf = has_subs subs; has_version = true; subcommand_required = true }; subs = subs }
+program_app name subs = record { top = record (new_shape name) { is_leaf = has_no_subs subs; has_version = true; subcommand_required = true }; subs = subs }
 
 -- a command that takes files and nothing else
 abbrev pub files_alone : Text → App

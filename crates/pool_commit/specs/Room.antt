@@ -36,13 +36,13 @@ IsNextRefused old new (Some root) rows vdevs group spans items refusal =
 IsNextRefused old new None rows vdevs group spans items refusal =
     IsFirstRefused old new group vdevs (stale_after spans []) (made_by items) refusal
 
--- Why the root of the group behind the last one is not planned: memory ran out; or it has this table of stale spans and is refused so.
+-- why the root of the next group is not planned, behind the last one: it has this table of stale spans, or none of its own, and is refused so
 pub record IsGroupUnplanned (old new : Store) (last : KeptGroup) (group : ℕ) (items : Entry) (refusal : StoreRefusal) : Type 0 where
   pub spans : Option (List StaleSpan)
   pub are : AreSpansAfter (guids_in (config_view last.config.value)) old.out group last.spans.value (stale_after spans last.spans_under.value)
   pub why : IsNextRefused old new last.root last.directory.value (config_view last.config.value) group spans items refusal
 
--- why the root of the next group is not planned: memory ran out, or it is refused with its stale spans
+-- why the root of the next group is not planned: memory ran out, or its root is refused so
 abbrev pub IsGroupRefusedBehind : Store → Store → KeptGroup → ℕ → Entry → StoreRefusal → Type 0
 IsGroupRefusedBehind old new last group items refusal = (refusal ≡ store.NoMemory) ⊎ IsGroupUnplanned old new last group items refusal
 

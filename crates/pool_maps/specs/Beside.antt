@@ -17,6 +17,7 @@ abbrev pub IsInMeta : List VdevSpace → CopyAt → Type 0
 IsInMeta spaces copy =
     (space : VdevSpace) → slice_get spaces copy.place.vdev ≡ Some space → first_meta space.shape ≤ metaslab_of space.shape copy.place
 
+-- the copy lies before the meta region of its vdev
 abbrev pub IsBeforeMeta : List VdevSpace → CopyAt → Type 0
 IsBeforeMeta spaces copy =
     (space : VdevSpace) → slice_get spaces copy.place.vdev ≡ Some space → metaslab_of space.shape copy.place < first_meta space.shape
@@ -25,5 +26,6 @@ IsBeforeMeta spaces copy =
 abbrev pub LieInMeta : List VdevSpace → List Block → Type 0
 LieInMeta spaces blocks = All (IsInMeta spaces) (copies_of_all blocks)
 
+-- all copies of these blocks lie before the meta regions
 abbrev pub LieBeforeMeta : List VdevSpace → List Block → Type 0
 LieBeforeMeta spaces blocks = All (IsBeforeMeta spaces) (copies_of_all blocks)

@@ -64,6 +64,7 @@ pub record IsFreeFound (spaces : List VdevSpace) (set : ObjectSet) (birth : ℕ)
   pub sectors : HasSectors spaces row.metaslab.vdev read.free.sectors
   pub map : IsMapFound spaces set birth row.object read.free.sectors read.free
 
+-- a table of space maps was found, and for each of its rows in order this is what the map that was found leaves free
 pub record AreFreeFound (spaces : List VdevSpace) (set : ObjectSet) (birth : ℕ) (read : List FreeMetaslab) : Type 0 where
   pub maps : List MetaslabMap
   pub table : AreMapsFound spaces set birth maps

@@ -180,9 +180,11 @@ pub record Advances (objects : ℕ → Option Object) (spaces : List VdevSpace) 
 abbrev pub AreAll : MetaslabPlace → Type 0
 AreAll place = Unit {0}
 
+-- the metaslabs of that vdev
 abbrev pub AreIn : ℕ → MetaslabPlace → Type 0
 AreIn vdev place = place.vdev ≡ vdev
 
+-- that metaslab alone
 abbrev pub IsThat : MetaslabPlace → MetaslabPlace → Type 0
 IsThat that place = place ≡ that
 

@@ -11,7 +11,7 @@ use Rattle.block_store.specs.Places.{IsPlaceIn, shapes_of}
 use Rattle.block_store.specs.Spaces.{VdevSpace}
 use Rattle.block_store.specs.Store.{Store, Holds, is_out, is_stale, lost, outs_from}
 use Rattle.block_store.specs.declared.shape.VdevShape.{VdevShape}
-use Rattle.dataset_snapshots.proofs.Reaching.{reach_known}
+use Rattle.dataset_snapshots.specs.Laws.{ReachIsKnown}
 use Rattle.disk_set.specs.declared.stale.GroupSpan.{GroupSpan}
 use Rattle.model_disk.specs.Joint.{Disks, content}
 use Rattle.model_disk.specs.declared.disk.Disk as disk
@@ -49,6 +49,7 @@ pub record Laws : Type 0 where
   pub share : ApartBlocksShareNoByte
   pub keep : ReadsKeepContents
   pub still : StandsWhileKept
+  pub reach : ReachIsKnown
 
 -- ---- disks of the same bytes
 
@@ -193,7 +194,7 @@ held_whatever laws before core u counts stored pool is has own told honest store
     let blocks : it.blocks ≡ _ = it.walked.reach stored pool has.held has.spells.0
     (honest_part (disks_of before) (disks_of before) it.mid (disks_of core) (no_calls (disks_of before)) (grew_on it.mid is.mid (disks_of core) healed rest) honest) in
     let are : AreStored stored it.blocks =
-    λ block is_one. reach_known stored u.group u.root pool has.spells.0 block (subst (λ (them : List Block). Contains them block) blocks is_one) in
+    λ block is_one. laws.reach.known stored u.group u.root pool has.spells.0 block (subst (λ (them : List Block). Contains them block) blocks is_one) in
     let apart : AreCopiesApart shapes it.blocks =
     laws.share (disks_of before).starts shapes it.blocks it.walked.may.lie
     (subst (λ (them : List Block). AreBlocksApart them) (sym blocks) (has.spells.1 store.spaces over.shapes_are).apart)

@@ -64,8 +64,8 @@ abbrev pub NonePresentIsStale : List Bool → CoreState → Type 0
 NonePresentIsStale out core =
     (disk birth : ℕ) → disk < length out → is_out out disk ≡ false → is_stale core.commit.store.spans.stale disk birth ≡ false
 
--- Where it ends clean, no disk that is there misses a group; and it is enough that no bytes which stand on all these disks happen to have another
--- block's digest.
+-- Where a scrub ends clean, over disks with a pool that answer truly, the core represents that pool, and no disk that is there misses a group. It is
+-- enough that no other bytes of a block which stand on all disks that aren't out have its digest.
 abbrev pub CleanScrubsGoOnWhole : Type 0
 CleanScrubsGoOnWhole =
     (before core : CoreState) (u : Uberblock) (counts : ScrubCounts) (stored : Contents) (pool : PlainPool) → (is : IsScrubbedOver before u core counts)

@@ -12,6 +12,7 @@ ghost use Rattle.pool_scrub.specs.Scrubbing.{IsScrubbed, IsScrubbedOver, IsUnloo
 use crate::counting::{missing_of, whole_of};
 use crate::healing::{Healed, heal};
 use crate::walking::{PoolLayout, walk};
+use dataset_snapshots::reach_is_known;
 use model_disk::{Disk, DiskArray, Member};
 use pool_open::{Core, KnownDisks, NotOpened, OpenedFrom, OpenedPool, Refusal, core_again, open};
 use raidz_io::{reads_keep_contents, stands_while_kept};
@@ -216,6 +217,7 @@ pub fn scrubs_go_on<D: Disk + Drop>()
     apart_blocks_share_no_byte();
     reads_keep_contents();
     stands_while_kept();
+    reach_is_known();
 }
 
 /// A law: where nothing is left to be mended of a disk that is there, the pool goes on as the open found it, and no disk that is there is stale.

@@ -15,7 +15,7 @@ use Rattle.raidz_io.specs.declared.vdev.Extent.{Extent}
 use Rattle.raidz_io.specs.Places.{disk_of, offset_of, sizes_of}
 use Rattle.raidz_io.specs.Stands.{parity_of, IsLayout, all_columns, AreBytesOf, ExtentStands}
 use Rattle.raidz_io.specs.Stripe.{stripe_sizes, HasSizes, read_columns, MatchesBut}
-use Rattle.raidz_io.specs.Reads.{GaveSince, absent_since, IsHonestSince, HoldsColumn, FewAreLost}
+use Rattle.raidz_io.specs.Reads.{GaveSince, GivesTruly, absent_since, IsHonestSince, HoldsColumn, FewAreLost}
 use Rattle.raidz_io.specs.Choices.{IsChoice, HasNoChoice, IsWhole, IsFoundChoice, HasNone, AreFurther}
 use Rattle.raidz_io.proofs.Agree.{IsSoFar, stands_as, has_sizes, matches, present, stripe_of_order, take_front, number, order_apart, disk_at, disk_is, length-order, lost_below, disks_differ, holds_column, Contains-map_cases}
 use Rattle.raidz_io.proofs.DataWrites.{made_columns}
@@ -23,7 +23,7 @@ use Rattle.raidz_io.proofs.Further.{contains_or_not, further_with, further_below
 use Rattle.raidz_io.proofs.Layouts.{layouts_agree, same_column}
 use Rattle.raidz_io.proofs.Order.{take_data}
 use Rattle.raidz_io.proofs.Parities.{whole_of}
-use Rattle.raidz_io.proofs.Parts.{slice_get_before, slice_get_front, slice_get_back}
+use Rattle.raidz_io.proofs.Parts.{slice_get_before, slice_get_front, slice_get_back, length-columns_of, lengths-columns_of}
 use Rattle.raidz_io.proofs.Pigeons.{distinct_fit}
 use Rattle.raidz_io.proofs.Placed.{more_columns, few_columns, placed, placed_at}
 use Rattle.raidz_io.proofs.Rebuilt.{Contains-map}
@@ -227,10 +227,10 @@ enough_read law old new extent missing layout count bytes lost so_far all few =
 
 -- what stands but for few disks is a choice
 pub standing_is_choice : (old new : Disks) (extent : Extent) (missing : List ℕ) (layout : List Column) (count : ℕ) (bytes lost : List ℕ)
-    → IsSoFar old new extent missing layout count bytes lost → count ≡ length layout → IsHonestSince old new → (block wrong : List ℕ)
-    → ExtentStands (content old) (absent_since old new missing ++ wrong) extent block
+    → IsSoFar old new extent missing layout count bytes lost → count ≡ length layout → (block wrong : List ℕ)
+    → ((disk : ℕ) → ¬ Contains wrong disk → GivesTruly old new disk) → ExtentStands (content old) (absent_since old new missing ++ wrong) extent block
     → FewAreLost extent (absent_since old new missing ++ wrong) → IsChoice old new extent block
-standing_is_choice old new extent missing layout count bytes lost so_far all honest block wrong stands few =
+standing_is_choice old new extent missing layout count bytes lost so_far all block wrong truly stands few =
     let p : ℕ = parity_of extent in
     let order : List Column = drop p layout ++ take p layout in
     let absent : List ℕ = absent_since old new missing in
@@ -251,10 +251,20 @@ standing_is_choice old new extent missing layout count bytes lost so_far all hon
           let here : slice_get (take count order) place.0 ≡ Some column = ap (λ cs. slice_get cs place.0) (whole_order extent layout count all) ∙ place.1 in
           let not_lost : ¬ Contains lost place.0 = λ held.
           not_absent (Contains-append_left absent wrong (disk_of extent.vdev column) (so_far.read.lost_are_absent place.0 column held here)) in
-          so_far.read.given place.0 column part here not_lost
-          (so_far.read.right honest place.0 column part here not_lost
-          (size_at (all_columns columns) layout i column part found.1.are_bytes.sizes at at')
-          (found.1.stand i column part at at' not_absent));
+          let cs : List Column = take count order in
+          let parts : List (List ℕ) = columns_of (sizes_of cs) bytes in
+          let enough : sum (sizes_of cs) ≤ length bytes = omega (arith, so_far.read.size) in
+          let inside : place.0 < length parts =
+          omega (arith, slice_get_within cs place.0 column here, length-columns_of (sizes_of cs) bytes, length-sizes cs) in
+          let was = slice_get_some parts place.0 inside in
+          let gave = so_far.read.given place.0 column was.0 here not_lost was.1 in
+          let long : length was.0 ≡ length part =
+          size_at parts cs place.0 column was.0 (lengths-columns_of (sizes_of cs) bytes enough) here was.1
+          ∙ sym (size_at (all_columns columns) layout i column part found.1.are_bytes.sizes at at') in
+          let same : was.0 ≡ part =
+          truly (disk_of extent.vdev column) (λ held. not_absent (Contains-append_right absent wrong (disk_of extent.vdev column) held)) (offset_of column)
+          was.0 part gave long (found.1.stand i column part at at' not_absent) in
+          subst (λ (b : List ℕ). GaveSince (length old.calls) new.calls (disk_of extent.vdev column) (offset_of column) b) same gave;
     }
 
 -- a column that a read gave, and that is so one of those that were read
@@ -438,8 +448,8 @@ has_no_choice law old new extent missing layout back count p bytes bytes' lost l
     record {
       enough = enough_read law old new extent missing layout count bytes lost so_far all few;
       no_choice = no;
-      none_stands = λ honest block wrong stands few_lost.
-          no block (standing_is_choice old new extent missing layout count bytes lost so_far all honest block wrong stands few_lost);
+      none_stands = λ block wrong truly stands few_lost.
+          no block (standing_is_choice old new extent missing layout count bytes lost so_far all block wrong truly stands few_lost);
     }
 
 -- what was found, by the names that the code has

@@ -7,7 +7,7 @@ use Rattle.raidz_parity.specs.Layout.{Block, columns_of}
 use Rattle.raidz_parity.specs.Parity.{IsParity}
 use Rattle.raidz_io.specs.declared.vdev.Extent.{Extent}
 use Rattle.raidz_io.specs.Places.{disk_of, offset_of}
-use Rattle.raidz_io.specs.Reads.{GaveSince, IsHonestSince, absent_since, FewAreLost}
+use Rattle.raidz_io.specs.Reads.{OnlyReads, GaveSince, GivesTruly, absent_since, FewAreLost}
 use Rattle.raidz_io.specs.Stands.{parity_of, IsLayout, all_columns, AreBytesOf, ExtentStands}
 use Rattle.raidz_io.specs.Stripe.{stripe_sizes, HasSizes, read_columns, MatchesBut}
 
@@ -23,13 +23,27 @@ pub record IsChoice (old new : Disks) (extent : Extent) (block : List ℕ) : Typ
       → ¬ Contains wrong (disk_of extent.vdev column)
       → GaveSince (length old.calls) new.calls (disk_of extent.vdev column) (offset_of column) bytes
 
--- enough columns were read, and neither a choice nor what stands on all but few disks has the digest
+-- Enough columns were read, and neither a choice has the digest nor what stands on all but few disks, where the others gave what stood there.
 pub record HasNoChoice (old new : Disks) (missing digest : List ℕ) (extent : Extent) : Type 0 where
   pub enough : FewAreLost extent (absent_since old new missing)
   pub no_choice : (block : List ℕ) → IsChoice old new extent block → ¬ (sha256 block ≡ digest)
-  pub none_stands : IsHonestSince old new → (block wrong : List ℕ)
+  pub none_stands : (block wrong : List ℕ) → ((disk : ℕ) → ¬ Contains wrong disk → GivesTruly old new disk)
       → ExtentStands (content old) (absent_since old new missing ++ wrong) extent block
       → FewAreLost extent (absent_since old new missing ++ wrong) → ¬ (sha256 block ≡ digest)
+
+-- no other bytes that what reads gave could be have the digest of a block that stood on all but few disks
+abbrev pub DigestsTell : Disks → Disks → Type 0
+DigestsTell old new =
+    (extent : Extent) (absent block other : List ℕ) → FewAreLost extent absent → ExtentStands (content old) absent extent block → IsChoice old new extent other
+    → sha256 other ≡ sha256 block → other ≡ block
+
+-- where digests tell blocks, they do so in each part of the reads
+abbrev pub PartsTell : Type 0
+PartsTell = (old mid new : Disks) → OnlyReads old mid → OnlyReads mid new → DigestsTell old new → DigestsTell old mid × DigestsTell mid new
+
+-- a choice of what later reads gave is one of what all gave
+abbrev pub LaterChoicesStay : Type 0
+LaterChoicesStay = (old mid new : Disks) (extent : Extent) (block : List ℕ) → OnlyReads old mid → IsChoice mid new extent block → IsChoice old new extent block
 
 -- the columns, of these sizes, of a block
 pub record IsWhole (parity : ℕ) (sizes block : List ℕ) (columns : Block) : Type 0 where

@@ -6,7 +6,7 @@ use Rattle.std.proofs.lemmas.List.Elements.{Contains-append_left, Contains-appen
 use Rattle.std.proofs.lemmas.Option.{slice_get-get_or, slice_get_within}
 use Rattle.sha2.specs.Sha256.{sha256}
 use Rattle.model_disk.specs.Call.{Call, Read}
-use Rattle.model_disk.specs.Joint.{JointCall, Disks, calls_on, content, AreHonestSince}
+use Rattle.model_disk.specs.Joint.{JointCall, Disks, calls_on, content}
 use Rattle.model_disk.proofs.JointLemmas.{calls_on-same}
 use Rattle.block_pointer.specs.declared.block.Block.{Block}
 use Rattle.block_pointer.specs.declared.dva.Dva.{Dva}
@@ -19,7 +19,7 @@ use Rattle.raidz_io.specs.declared.vdev.Extent.{Extent}
 use Rattle.raidz_io.specs.Places.{Stands, disk_of, offset_of}
 use Rattle.raidz_io.specs.Reads.{AreUntouched, FewAreLost, FewAreNotMore, GaveSince, IsHonestSince, OnlyReads, absent_since}
 use Rattle.raidz_io.specs.Stands.{AreBytesOf, ExtentStands, all_columns}
-use Rattle.raidz_io.proofs.Calls.{content-OnlyReads, length-OnlyReads}
+use Rattle.raidz_io.proofs.Calls.{content-OnlyReads}
 use Rattle.raidz_io.proofs.Layouts.{layouts_agree, same_list}
 use Rattle.scrub_resilver.specs.Checking.{AreChecked, ArePlacesChecked, IsBlockChecked, IsPlaceChecked}
 use Rattle.scrub_resilver.specs.Copies.{AreUnread, IsUnread, IsUnreadAt, IsExtentOn}
@@ -28,7 +28,7 @@ use Rattle.scrub_resilver.specs.Looking.{IsCopyChecked, IsJudged, ReadFailedSinc
 use Rattle.scrub_resilver.specs.declared.fault.Fault.{Fault}
 use Rattle.scrub_resilver.specs.declared.fault.Fault.TheVariants.{Unreadable, Wrong}
 use Rattle.scrub_resilver.specs.declared.fault.Finding.{Finding}
-use Rattle.scrub_resilver.proofs.Logs.{absent_from, absent_later}
+use Rattle.scrub_resilver.proofs.Logs.{absent_from, absent_later, gave_later, gave_since}
 use Rattle.scrub_resilver.proofs.Placing.{size_at}
 use Rattle.scrub_resilver.proofs.Stood.{column_count, copy_of, fault_at, finding_here, given_is, none_gave, one_extent, same_some}
 
@@ -138,26 +138,11 @@ isnt_faulty old new missing it true bytes reads untouched honest same (told, gav
 
 -- ---- blocks that could be read
 
-honest_back : (n : ℕ) (starts : List (List ℕ)) (newer calls : List JointCall) → AreHonestSince n starts (newer ++ calls) → AreHonestSince n starts calls
-honest_back n starts [] calls honest = honest
-honest_back n starts (made ∷ newer) calls honest = honest_back n starts newer calls honest.1
-
-honest_from : (n m : ℕ) (starts : List (List ℕ)) (calls : List JointCall) → n ≤ m → AreHonestSince n starts calls → AreHonestSince m starts calls
-honest_from n m starts [] le honest = honest
-honest_from n m starts (made ∷ calls) le honest = (λ since. honest.0 (omega (arith, le, since)), honest_from n m starts calls le honest.1)
-
-honest_between : (old before after new : Disks) → OnlyReads old before → OnlyReads after new → IsHonestSince old new → IsHonestSince before after
-honest_between old before after new first later honest =
-    subst (λ (starts : List (List ℕ)). AreHonestSince (length before.calls) starts after.calls) later.starts
-    (honest_from (length old.calls) (length before.calls) new.starts after.calls (length-OnlyReads old before first)
-    (honest_back (length old.calls) new.starts later.newer after.calls
-    (subst (λ (calls : List JointCall). AreHonestSince (length old.calls) new.starts calls) later.calls honest)))
-
 -- a copy that stood on enough disks wasn't unread at any moment
-was_read : FewAreNotMore → (old new : Disks) (missing wrong digest bytes : List ℕ) (extent : Extent) → IsHonestSince old new → sha256 bytes ≡ digest
+was_read : FewAreNotMore → (old new : Disks) (missing wrong digest bytes : List ℕ) (extent : Extent) → OnlyReads old new → IsHonestSince old new → sha256 bytes ≡ digest
     → FewAreLost extent (absent_since old new missing ++ wrong) → ExtentStands (content old) (absent_since old new missing ++ wrong) extent bytes
     → ¬ IsUnread old new missing digest extent
-was_read law old new missing wrong digest bytes extent honest is few stood unread =
+was_read law old new missing wrong digest bytes extent reads honest is few stood unread =
     let lost : List ℕ = absent_since old new missing ++ wrong in
     let then_lost : List ℕ = absent_since unread.before unread.after missing in
     let wider : (disk : ℕ) → Contains then_lost disk → Contains lost disk =
@@ -168,7 +153,11 @@ was_read law old new missing wrong digest bytes extent honest is few stood unrea
           law extent then_lost
           (record { disks = few.disks; few = few.few; all = λ disk holds held. few.all disk holds (wider disk held) }) more
       | inr none ↦
-          none.none_stands (honest_between old unread.before unread.after new unread.first unread.later honest) bytes lost
+          none.none_stands bytes lost
+          (λ disk there at others part gave long stands.
+          same_given old new disk at others part reads honest
+          (gave_later old unread.after new disk at others unread.later (gave_since old unread.before unread.after disk at others unread.first gave)) long
+          (λ i within. sym (content-OnlyReads old unread.before unread.first disk (at + i)) ∙ stands i within))
           (record {
             layout = stood.layout;
             columns = stood.columns;
@@ -193,20 +182,21 @@ unread_at shapes old new missing block (first ∷ places) zero place are at =
 unread_at shapes old new missing block (first ∷ places) (suc i) place are at = unread_at shapes old new missing block places i place are.1 at
 
 -- a block that wasn't read stood on enough disks with no bytes of its digest
-never_stood : FewAreNotMore → (shapes : List VdevShape) (old new : Disks) (missing : List ℕ) (block : Block) (bytes : List ℕ) → IsHonestSince old new
+never_stood : FewAreNotMore → (shapes : List VdevShape) (old new : Disks) (missing : List ℕ) (block : Block) (bytes : List ℕ) → OnlyReads old new
+    → IsHonestSince old new
     → AreUnread shapes old new missing block (dvas block.copies) → sha256 bytes ≡ block.checksum → ¬ StoodOnEnough shapes old new missing block bytes
-never_stood law shapes old new missing block bytes honest are is stood =
+never_stood law shapes old new missing block bytes reads honest are is stood =
     let (extent, at, unread) = unread_at shapes old new missing block (dvas block.copies) stood.i stood.is_copy.place are stood.is_copy.is_copy in
     let same : extent ≡ stood.extent = one_extent shapes block.property.sectors stood.is_copy.place extent stood.extent at stood.is_copy.extent_is in
-    was_read law old new missing stood.others block.checksum bytes stood.extent honest is stood.few stood.stood
+    was_read law old new missing stood.others block.checksum bytes stood.extent reads honest is stood.few stood.stood
     (subst (λ (e : Extent). IsUnread old new missing block.checksum e) same unread)
 
-should_have : FewAreNotMore → (shapes : List VdevShape) (old new : Disks) (missing : List ℕ) (block : Block) (known : Bool) (bytes : List ℕ) → IsHonestSince old new
-    → (known ≡ true → sha256 bytes ≡ block.checksum) → (known ≡ false → AreUnread shapes old new missing block (dvas block.copies))
+should_have : FewAreNotMore → (shapes : List VdevShape) (old new : Disks) (missing : List ℕ) (block : Block) (known : Bool) (bytes : List ℕ) → OnlyReads old new
+    → IsHonestSince old new → (known ≡ true → sha256 bytes ≡ block.checksum) → (known ≡ false → AreUnread shapes old new missing block (dvas block.copies))
     → ShouldHave shapes old new missing block (known_bytes known bytes)
-should_have law shapes old new missing block true bytes honest digest unread = digest refl
-should_have law shapes old new missing block false bytes honest digest unread =
-    λ others is. never_stood law shapes old new missing block others honest (unread refl) is
+should_have law shapes old new missing block true bytes reads honest digest unread = digest refl
+should_have law shapes old new missing block false bytes reads honest digest unread =
+    λ others is. never_stood law shapes old new missing block others reads honest (unread refl) is
 
 -- ---- the bytes that blocks were looked at beside
 
@@ -466,7 +456,7 @@ found_are_faults law shapes old new missing blocks found are reads untouched hon
         each = λ n block bytes at at'.
             let it : IsBlockAt shapes old new missing found contents n block = block_at shapes old new missing blocks found are n block at in
             subst (λ (b : Option (List ℕ)). ShouldHave shapes old new missing block b) (same_some _ _ (sym it.content_is ∙ at'))
-            (should_have law shapes old new missing block it.checked.known it.checked.content honest it.checked.digest it.checked.unread);
+            (should_have law shapes old new missing block it.checked.known it.checked.content reads honest it.checked.digest it.checked.unread);
       },
       record {
         only = λ one held.

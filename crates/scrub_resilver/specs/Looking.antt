@@ -38,6 +38,7 @@ IsJudged old new missing known disk at bytes (Some Wrong) =
 abbrev pub finding : ℕ → Extent → ℕ → Column → Fault → Finding
 finding vdev extent k column fault = record { vdev = vdev; start = extent.start; sectors = extent.sectors; column = k; disk = disk_of extent.vdev column; fault = fault }
 
+-- the finding of that column, or none where nothing is wrong with it
 abbrev pub finding_of : ℕ → Extent → ℕ → Column → Option Fault → List Finding
 finding_of vdev extent k column None = []
 finding_of vdev extent k column (Some fault) = finding vdev extent k column fault ∷ []

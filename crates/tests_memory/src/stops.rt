@@ -7,12 +7,37 @@ use model_disk::Fault;
 use std::alloc::{AllocError, Global};
 use std::test::Fail;
 
-/// A command that is stopped or meets a fault, and its input.
-type Tried = (&'static str, (u8, usize));
+/// A command line and its input.
+type Line = (&'static str, (u8, usize));
 
-const WRITE: Tried = ("zfs write --at 0 v a b c", (0xbb, 512));
+/// A command that is stopped or meets a fault.
+#[derive(Clone, Copy)]
+struct Tried {
+    /// What comes before it in the pool whose volume has a block of `aa`.
+    before: Option<Line>,
+    line: Line,
+    /// The next command, where the disk of that place met the fault.
+    next: [&'static str; 3],
+}
 
-const STATUS: Tried = ("zpool status a b c", (0, 0));
+const WRITE: Tried = Tried {
+    before: None,
+    line: ("zfs write --at 0 v a b c", (0xbb, 512)),
+    next: READS_WITHOUT,
+};
+
+const STATUS: Tried = Tried {
+    before: None,
+    line: ("zpool status a b c", (0, 0)),
+    next: READS_WITHOUT,
+};
+
+/// A scrub, where the first disk missed the write of the new bytes.
+const SCRUB: Tried = Tried {
+    before: Some(("zfs write --at 0 v b c", (0xbb, 512))),
+    line: ("zpool scrub a b c", (0, 0)),
+    next: [READ; 3],
+};
 
 /// Reads what the tried write writes.
 const READ: &str = "zfs read --at 0 --len 512 v a b c";
@@ -44,8 +69,8 @@ const STOPPED: [&str; 4] = [
     ": refused 22 TooManyMissing\n",
 ];
 
-/// A pool whose volume has a block of `aa`.
-fn written(alloc: Global) -> Result<MemPools, AllocError> {
+/// A pool whose volume has a block of `aa`, and then that line.
+fn written(alloc: Global, before: Option<Line>) -> Result<MemPools, AllocError> {
     let mut pools = MemPools {
         shelf: Shelf::new(alloc)?,
     };
@@ -60,6 +85,9 @@ fn written(alloc: Global) -> Result<MemPools, AllocError> {
     for (line, given) in &lines {
         let _ = run(alloc, &mut pools, line, *given)?;
     }
+    if let Some((line, given)) = before {
+        let _ = run(alloc, &mut pools, line, given)?;
+    }
     Ok(pools)
 }
 
@@ -68,7 +96,7 @@ fn recorded(alloc: Global, base: &MemPools, tried: Tried) -> Result<MemPools, Al
     let mut pools = MemPools {
         shelf: base.shelf.copied(alloc, [NEVER; 3])?,
     };
-    let _ = run(alloc, &mut pools, tried.0, tried.1)?;
+    let _ = run(alloc, &mut pools, tried.line.0, tried.line.1)?;
     Ok(pools)
 }
 
@@ -91,7 +119,7 @@ fn tried_on(
     let mut pools = MemPools {
         shelf: base.shelf.copied(alloc, faults)?,
     };
-    let first = run(alloc, &mut pools, tried.0, tried.1)?;
+    let first = run(alloc, &mut pools, tried.line.0, tried.line.1)?;
     pools.shelf.mend();
     let next = run(alloc, &mut pools, next, (0, 0))?;
     Ok(Came {
@@ -161,7 +189,7 @@ fn changes(pools: &MemPools, count: u64) -> bool {
 
 /// Stops the command before its first call, after each write and flush, and after its last call. After a read the disks are as before it.
 fn stopped(alloc: Global, tried: Tried) -> Result<String, AllocError> {
-    let base = written(alloc)?;
+    let base = written(alloc, tried.before)?;
     let calls = recorded(alloc, &base, tried)?;
     let end = calls.shelf.call_count();
     let mut seen = Seen::new(&STOPPED);
@@ -177,9 +205,9 @@ fn stopped(alloc: Global, tried: Tried) -> Result<String, AllocError> {
 /// Of the calls whose moments are multiples of this number reads meet a fault too. A command makes some 3,000 reads, most of them of slots.
 const EACH_READ: u64 = 61;
 
-/// One call fails, and no other: each write and flush in turn, and some reads. The next command has the other two disks.
+/// One call fails, and no other: each write and flush in turn, and some reads.
 fn failed(alloc: Global, tried: Tried) -> Result<String, AllocError> {
-    let base = written(alloc)?;
+    let base = written(alloc, tried.before)?;
     let calls = recorded(alloc, &base, tried)?;
     let mut seen = Seen::new(&FAULTED);
     for moment in 0..calls.shelf.call_count() {
@@ -188,7 +216,7 @@ fn failed(alloc: Global, tried: Tried) -> Result<String, AllocError> {
         };
         if !is_read || moment % EACH_READ == 0 {
             let faults = calls.shelf.fault_at(place, moment);
-            let next = READS_WITHOUT.get(place).copied().unwrap_or(READ);
+            let next = tried.next.get(place).copied().unwrap_or(READ);
             seen.see(tried_on(alloc, &base, tried, moment, faults, next)?);
         }
     }
@@ -210,5 +238,14 @@ fn faults_leave_the_bytes_of_a_committed_group(rt: HostRuntime) -> Result<(), Fa
     let (write, status) = (failed(alloc, WRITE)?, failed(alloc, STATUS)?);
     let told = format!(in alloc; "{write}; {status}")?;
     assert!(rt; told.as_str() == "new; old", "{told}");
+    Ok(())
+}
+
+#[test]
+fn scrubs_that_fail_leave_the_bytes(rt: HostRuntime) -> Result<(), Fail> {
+    let alloc = rt.alloc();
+    let (stops, faults) = (stopped(alloc, SCRUB)?, failed(alloc, SCRUB)?);
+    let told = format!(in alloc; "{stops}; {faults}")?;
+    assert!(rt; told.as_str() == "new; new", "{told}");
     Ok(())
 }

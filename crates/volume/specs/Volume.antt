@@ -12,6 +12,7 @@ use Rattle.volume.specs.declared.volume.VolumeSet.{VolumeSet}
 abbrev pub size_of : VolumeSet → ℕ
 size_of volume = volume.size
 
+-- in bytes
 abbrev pub block_size_of : VolumeSet → ℕ
 block_size_of volume = volume.block_size
 
@@ -19,6 +20,7 @@ block_size_of volume = volume.block_size
 abbrev pub block_of : VolumeSet → Block
 block_of volume = volume.block
 
+-- the volume has this size and this block size, in bytes
 abbrev pub HasShape : VolumeSet → ℕ → ℕ → Type 0
 HasShape volume size block_size = (volume.size ≡ size) × (volume.block_size ≡ block_size)
 

@@ -1,4 +1,4 @@
-use Rattle.std.proofs.Common.{◌≡◌, suc, ◌+◌, ◌-◌, ◌*◌, ◌/◌, ◌%◌, ◌^◌, ◌<◌, ap, sym, subst, ◌∙◌, arith, refl}
+use Rattle.std.proofs.Common.{◌≡◌, inl, suc, ◌+◌, ◌-◌, ◌*◌, ◌/◌, ◌%◌, ◌^◌, ◌<◌, ap, sym, subst, ◌∙◌, arith, refl}
 use Rattle.std.proofs.lemmas.Result.{IfOk-weaker, IfErr-weaker}
 use Rattle.block_store.specs.Reading.{Asks, IsReadAs}
 use Rattle.block_store.proofs.Steps.{reads_on}
@@ -20,7 +20,7 @@ returns-in_err-bytes-clause-known g t c =
     passed_on _ _ _ c.from_residual.ensures.1
     (λ stored first array blocks held part honest.
     let there = data_part stored (property_of c.args.node.now) c.args.part.level 0 first c.args.part.birth c.args.part.pointer c.in-Block.block array blocks c.if-part-eq0.true c.in-Block.is part in
-    c.in_err-bytes.ensures.known stored there.0 held there.1.known (subst (λ asked. Asks asked c.in-Block.block) (sym c.asked_at-asked.ensures) there.1.asks) honest)
+    c.in_err-bytes.ensures.known stored there.0 held there.1.known (subst (λ asked. Asks asked c.in-Block.block) (sym c.asked_at-asked.ensures) there.1.asks) (inl honest))
 
 pub returns-in_err-children-clause-known : goal.returns-in_err-children-clause-known
 returns-in_err-children-clause-known g t c =

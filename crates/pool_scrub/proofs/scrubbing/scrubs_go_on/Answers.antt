@@ -9,4 +9,5 @@ returns g c =
       share = c.apart_blocks_share_no_byte.ensures;
       keep = c.reads_keep_contents.ensures;
       still = c.stands_while_kept.ensures;
+      reach = c.reach_is_known.ensures;
     }) g.D.Disk

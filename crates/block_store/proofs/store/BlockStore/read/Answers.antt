@@ -27,6 +27,9 @@ returns g c =
       kept = c.stands_while_kept.ensures;
       more_absent = c.stands_with_more_absent.ensures;
       parts_honest = c.parts_are_honest.ensures.all;
+      honest_truly = c.honest_disks_give_truly.ensures;
+      parts_truly = c.parts_give_truly.ensures;
+      later_choices = c.later_choices_stay.ensures;
     } in
     let is : IsBlockRead c.args.self.now c.read_places.new.self c.args.missing.now c.args.block.now c.read_places.result =
     block_read c.args.self.now c.read_places.new.self c.args.missing.now c.args.block.now c.read_places.result c.as_slice-2.result.now c.as_slice.result.now
