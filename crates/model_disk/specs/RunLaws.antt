@@ -81,6 +81,7 @@ pub record IsBegun (newer calls earlier : List JointCall) : Type 0 where
   pub newer_is : newer ≡ later ++ made
   pub earlier_is : earlier ≡ made ++ calls
 
+-- each moment since a run began comes after the first of the run's calls, or after none
 abbrev pub MomentsAreOfTheRun : Type 0
 MomentsAreOfTheRun = (newer calls earlier : List JointCall) → IsMoment (length calls) (newer ++ calls) earlier → IsBegun newer calls earlier
 
@@ -90,6 +91,7 @@ pub record IsLeftAtMoment (starts : List (List ℕ)) (calls : List JointCall) (n
   pub moment : IsMoment n calls earlier
   pub left : MayLeaveAll starts earlier images
 
+-- what a crash since there were n calls may leave is left by a crash at one of the moments since
 abbrev pub CrashesAreAtMoments : Type 0
 CrashesAreAtMoments =
     (starts : List (List ℕ)) (calls : List JointCall) (n : ℕ) (images : List (List ℕ)) → LeftSinceAll starts calls n images

@@ -68,6 +68,7 @@ IsSettled calls = (i : ℕ) → is_dirty calls i ≡ false
 abbrev pub AreSettledBelow : ℕ → List JointCall → Type 0
 AreSettledBelow count calls = (which : ℕ) → which < count → IsSettled (calls_on which calls)
 
+-- the same on each of the disks
 abbrev pub AreSettled : Disks → Type 0
 AreSettled disks = AreSettledBelow (length disks.starts) disks.calls
 

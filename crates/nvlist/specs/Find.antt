@@ -8,6 +8,7 @@ abbrev pub find : List ℕ → PlainList → Option PlainValue
 find name no_pairs = None
 find name (pair first value others) = if bytes_eq first name then Some value else find name others
 
+-- the number that a value is; None where there is no value, or one of another type
 abbrev pub number_in : Option PlainValue → Option ℕ
 number_in None = None
 number_in (Some (number n)) = Some n
@@ -15,6 +16,7 @@ number_in (Some (text t)) = None
 number_in (Some (list l)) = None
 number_in (Some (lists ls)) = None
 
+-- the bytes of the text that a value is; None where there is no value, or one of another type
 abbrev pub text_in : Option PlainValue → Option (List ℕ)
 text_in None = None
 text_in (Some (number n)) = None
@@ -22,6 +24,7 @@ text_in (Some (text t)) = Some t
 text_in (Some (list l)) = None
 text_in (Some (lists ls)) = None
 
+-- the list that a value is; None where there is no value, or one of another type
 abbrev pub list_in : Option PlainValue → Option PlainList
 list_in None = None
 list_in (Some (number n)) = None
@@ -29,6 +32,7 @@ list_in (Some (text t)) = None
 list_in (Some (list l)) = Some l
 list_in (Some (lists ls)) = None
 
+-- the lists that a value is, as an array; None where there is no value, or one of another type
 abbrev pub lists_in : Option PlainValue → Option PlainLists
 lists_in None = None
 lists_in (Some (number n)) = None

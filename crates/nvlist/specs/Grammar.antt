@@ -42,6 +42,7 @@ is_printable bytes = list_all (λ b. nat_le 0x20 b && nat_le b 0x7e) bytes
 abbrev pub is_behind : List ℕ → List ℕ → Bool
 is_behind name last = is_lt (slice_cmp nat_cmp last name)
 
+-- a text that may stand in a list: fewer than 2^32 bytes of printable ASCII
 pub record IsText (t : List ℕ) : Type 0 where
   pub len : length t < 2 ^ 32
   pub printable : IsTrue (is_printable t)
@@ -70,6 +71,7 @@ abbrev mutual
   FitsLists no_lists = Unit {0}
   FitsLists (next first others) = (pair_count first < 2 ^ 32) × FitsBehind [] first × FitsLists others
 
+-- a list of fewer than 2^32 pairs whose names ascend and whose values fit, however deep
 abbrev pub FitsList : PlainList → Type 0
 FitsList l = (pair_count l < 2 ^ 32) × FitsBehind [] l
 

@@ -22,6 +22,7 @@ abbrev pub pair_count : PlainList → ℕ
 pair_count no_pairs = 0
 pair_count (pair name value others) = suc (pair_count others)
 
+-- how many lists there are, not counting those inside them
 abbrev pub list_count : PlainLists → ℕ
 list_count no_lists = 0
 list_count (next first others) = suc (list_count others)

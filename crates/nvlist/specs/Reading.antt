@@ -8,10 +8,12 @@ use Rattle.nvlist.specs.Plain.{PlainValue, number, text, list, lists, PlainList,
 use Rattle.nvlist.specs.Grammar.{padding_of, is_printable, is_behind}
 
 infixl 10 ◌>>=◌
+-- one reading after another: f goes on from what the first gave; None where either gives None
 abbrev pub ◌>>=◌ : {A B : Type 0} → Option A → (A → Option B) → Option B
 (Some x) >>= f = f x
 None >>= f = None
 
+-- a reader: from bytes, Some of what stands at their front and the bytes after it; None where no such thing stands there
 abbrev pub Parse : Type 0 → Type 0
 Parse A = List ℕ → Option (A × List ℕ)
 
@@ -43,6 +45,7 @@ lists_at read (suc n) bytes = do
   others ← lists_at read n first.1
   Some (next first.0 others.0, others.1)
 
+-- what was read, made a value by f, and the bytes after it; None where nothing was read
 abbrev pub option_value : {A : Type 0} → (A → PlainValue) → Option (A × List ℕ) → Option (PlainValue × List ℕ)
 option_value f read = option_map (λ x. (f x.0, x.1)) read
 
@@ -63,6 +66,7 @@ value_at read bytes = do
   kind ← word_at bytes
   value_of_type_at read kind.0 kind.1
 
+-- a name of at most 64 bytes that stands behind the last in byte order
 abbrev pub is_name_behind : List ℕ → List ℕ → Bool
 is_name_behind last name = nat_le (length name) 64 && is_behind name last
 
@@ -93,11 +97,12 @@ list_at (suc depth) bytes = do
   n ← word_at bytes
   pairs_at (list_at depth) n.0 [] n.1
 
--- What a function returned, seen by view, is what reading gives, unless memory ran out.
+-- why reading is refused: memory ran out, or reading gives nothing
 abbrev pub Fails : {A : Type 0} → Refusal → Option A → Type 0
 Fails NoMemory read = Unit {0}
 Fails BadLabel read = read ≡ None
 
+-- a function returned what reading gives, seen by view; or it refused, as Fails allows
 abbrev pub Gives : {X A : Type 0} → (X → A) → Result X Refusal → Option A → Type 0
 Gives view (Ok x) read = read ≡ Some (view x)
 Gives view (Err e) read = Fails e read

@@ -14,10 +14,12 @@ use Rattle.nvlist.specs.declared.list.Value.TheOpen.{Value-F, NvList-F, Pair-F}
 abbrev pub PlainPair : Type 0
 PlainPair = List ℕ × PlainValue
 
+-- the plain list of these pairs, in order
 abbrev pub pairs_of : List PlainPair → PlainList
 pairs_of [] = no_pairs
 pairs_of (p ∷ ps) = pair p.0 p.1 (pairs_of ps)
 
+-- these plain lists in order, as plain lists one behind another
 abbrev pub lists_of : List PlainList → PlainLists
 lists_of [] = no_lists
 lists_of (l ∷ ls) = next l (lists_of ls)
@@ -29,18 +31,23 @@ value_step (Value-F.Text t) = text (string_bytes t)
 value_step (Value-F.List l) = list l
 value_step (Value-F.Lists ls) = lists (lists_of ls.items)
 
+-- one level of a list: its pairs were already seen as plain
 abbrev pub list_step : NvList-F PlainValue PlainList PlainPair → PlainList
 list_step l = pairs_of l.pairs.items
 
+-- one level of a pair: its value was already seen as plain
 abbrev pub pair_step : Pair-F PlainValue PlainList PlainPair → PlainPair
 pair_step p = (string_bytes p.name, p.value)
 
+-- the plain value that a value of the code stands for
 abbrev pub value_view : Value → PlainValue
 value_view = fold-Value PlainValue PlainList PlainPair value_step list_step pair_step
 
+-- the plain list that a list of the code stands for
 abbrev pub list_view : NvList → PlainList
 list_view = fold-NvList PlainValue PlainList PlainPair value_step list_step pair_step
 
+-- the plain pair that a pair of the code stands for: its name as bytes, and its value
 abbrev pub pair_view : Pair → PlainPair
 pair_view = fold-Pair PlainValue PlainList PlainPair value_step list_step pair_step
 
@@ -48,6 +55,7 @@ pair_view = fold-Pair PlainValue PlainList PlainPair value_step list_step pair_s
 abbrev pub pairs_view : List Pair → PlainList
 pairs_view ps = pairs_of (map pair_view ps)
 
+-- the plain lists that these lists of the code stand for, in order
 abbrev pub lists_view : List NvList → PlainLists
 lists_view ls = lists_of (map list_view ls)
 

@@ -110,7 +110,7 @@ pub record AreScannedSlots (old new : Disks) (labels : List ScannedLabel) (slots
 
 -- ---- disks
 
--- its size, and that a read of it failed
+-- what a scan tells of a disk: its size in bytes, and whether a call on it failed
 pub record IsScannedDisk (old new : Disks) (which : ℕ) (d : ScannedDisk) : Type 0 where
   pub size : d.size ≡ length (bytes_of old.starts which)
   pub failed : IsTrue d.failed ↔ HasFailedOn old new which

@@ -3,6 +3,7 @@ use Rattle.std.specs.Prelude.{ℕ, List, codes}
 use Rattle.pool_model.specs.declared.refusal.Refusal.{Refusal}
 use Rattle.pool_model.specs.declared.refusal.Refusal.TheVariants.{NoMemory, DiskFault, NoSpace, Suspended, AlreadyHeld, NoHold, OutOfOrder, NoSuchName, NotYet, Exists, OutOfRange, Misaligned, NotNow, HasClones, HasSnapshots, BadName, GroupGone, BadPointer, BadDigest, BadConfig, BadMap}
 
+-- the number of a refusal, each cause its own; for OutOfOrder the same whatever number was expected
 abbrev pub number_of_cause : Refusal → ℕ
 number_of_cause NoMemory = 1
 number_of_cause DiskFault = 2
@@ -26,6 +27,7 @@ number_of_cause BadDigest = 21
 number_of_cause BadConfig = 24
 number_of_cause BadMap = 27
 
+-- the name of a refusal, as the codes of its letters; for OutOfOrder the same whatever number was expected
 abbrev pub name_of_cause : Refusal → List ℕ
 name_of_cause NoMemory = codes "NoMemory"
 name_of_cause DiskFault = codes "DiskFault"

@@ -15,6 +15,7 @@ use Rattle.pool_model.specs.Pools.{Entry, Ledger, no_items}
 use Rattle.pool_model.specs.View.{View, is_syncing, waiting_after, open_after, hold_group, is_held}
 use Rattle.pool_model.specs.Refusals.{greatest}
 
+-- a view's groups, holds, next numbers and accepted items, without disks, pools and plans
 pub record Flow : Type 0 where
   pub committed : ℕ  -- the group that was committed last
   pub syncing : Bool  -- whether the group after that is synced
@@ -23,12 +24,15 @@ pub record Flow : Type 0 where
   pub next : ℕ → ℕ
   pub ledger : Ledger
 
+-- the flow of a view: of its sync it keeps only whether a group is synced
 abbrev pub flow_of : View → Flow
 flow_of v = record { committed = v.committed; syncing = is_syncing v.sync; waiting = v.waiting; holds = v.holds; next = v.next; ledger = v.ledger }
 
+-- the waiting group's number; where no group waits, the open group's
 abbrev pub waiting_in : Flow → ℕ
 waiting_in f = waiting_after f.committed f.syncing
 
+-- the open group's number
 abbrev pub opened : Flow → ℕ
 opened f = open_after f.committed f.syncing (is_some f.waiting)
 
@@ -43,6 +47,7 @@ added entry (ActionItem a) = record entry { actions = entry.actions ++ a ∷ [] 
 abbrev pub with_hold : Flow → ℕ → ℕ → Flow
 with_hold f writer group = record f { holds = f.holds ++ record { writer = writer; group = group } ∷ [] }
 
+-- the holds but for those of the writer
 abbrev pub released_by : List Holder → ℕ → List Holder
 released_by holds writer = filter (λ h. not (h.writer == writer)) holds
 
@@ -95,6 +100,7 @@ FlowStep f (ReadUnder group name offset len) (Bytes bytes) g = g ≡ f
 FlowStep f step (Refused cause) g = g ≡ f
 FlowStep f step reply g = ⊥
 
+-- steps and their replies, one for each, lead from flow f to flow g, each as FlowStep says
 abbrev pub FlowRun : Flow → List Step → List Reply → Flow → Type 0
 FlowRun f [] [] g = g ≡ f
 FlowRun f (step ∷ steps) (reply ∷ replies) g = (mid : Flow) × FlowStep f step reply mid × FlowRun mid steps replies g
@@ -106,6 +112,7 @@ FlowRun f steps replies g = ⊥
 abbrev pub Takes : Flow → ℕ → Type 0
 Takes f group = (group ≡ opened f) ⊎ ((f.waiting ≡ Some Quiescing) × (group ≡ waiting_in f))
 
+-- where holds and accepted items may be, and how far groups and numbers may go
 pub record IsSoundFlow (f : Flow) : Type 0 where
   -- each hold is in the open or the quiescing group
   pub holds : AllByRecursion (λ h. Takes f h.group) f.holds

@@ -1,4 +1,4 @@
--- How groups move: four counters, each of which a reply raises by one. That each step of the machine moves them so follows
+-- How groups move: four counters, each of which a reply raises by one, and whether the synced group has a plan. That each step of the machine moves them so follows
 -- from what Machine and Flow say of it.
 use Rattle.std.specs.Prelude.{◌≡◌, ◌⊎◌, ℕ, suc, ◌≤◌, List, [], ◌∷◌, Bool, true, false, is_some, if◌then◌else◌}
 use Rattle.pool_model.specs.declared.step.Step.{Step}
@@ -18,9 +18,11 @@ pub record Counters : Type 0 where
   pub closed : ℕ
   pub planned : Bool
 
+-- the last group that was taken to be synced: the one after the committed one where that is synced, or else the committed one
 abbrev pub taken_upto : View → ℕ
 taken_upto v = if is_syncing v.sync then suc v.committed else v.committed
 
+-- the counters of a view
 abbrev pub counters_of : View → Counters
 counters_of v = record {
   committed = v.committed;
@@ -68,6 +70,7 @@ MovesBy c (DiskOut disk) Out d = MayUnplan c d
 MovesBy c step (Refused cause) d = MovesRefused c step cause d
 MovesBy c step reply d = d ≡ c
 
+-- a run's replies, one for each step, move the groups from c to d, each as MovesBy says
 abbrev pub GroupsMove : Counters → List Step → List Reply → Counters → Type 0
 GroupsMove c [] [] d = d ≡ c
 GroupsMove c (step ∷ steps) (reply ∷ replies) d = (mid : Counters) × MovesBy c step reply mid × GroupsMove mid steps replies d

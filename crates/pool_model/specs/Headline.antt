@@ -62,6 +62,7 @@ OutsBy out Device given reply after = (disk : ℕ) → after disk ≡ (is_fault_
 OutsBy out (DiskOut gone) given Out after = (disk : ℕ) → after disk ≡ ((disk == gone) || out disk)
 OutsBy out step given reply after = (disk : ℕ) → after disk ≡ out disk
 
+-- a run's steps change which disks are out from `out` to `after`, each as OutsBy says
 abbrev pub OutsMove : (ℕ → Bool) → List Step → List Given → List Reply → (ℕ → Bool) → Type 0
 OutsMove out [] [] [] after = (disk : ℕ) → after disk ≡ out disk
 OutsMove out (step ∷ steps) (given ∷ givens) (reply ∷ replies) after = (mid : ℕ → Bool) × OutsBy out step given reply mid × OutsMove mid steps givens replies after

@@ -81,15 +81,19 @@ committed_next v = record (with_flow v (with_committed (flow_of v))) {
 
 -- ---- plans and device calls
 
+-- the write of blocks that has this number on the disk
 abbrev pub due_write : ℕ → ℕ → DueCall
 due_write disk number = record { disk = disk; phase = Blocks; number = number }
 
+-- the disk's flush behind the blocks
 abbrev pub due_flush : ℕ → DueCall
 due_flush disk = record { disk = disk; phase = BlocksFlush; number = 0 }
 
+-- whether a call is of that phase
 abbrev pub in_phase : Phase → DueCall → Bool
 in_phase phase call = rank call.phase == rank phase
 
+-- whether a call is a flush, behind the blocks or behind the slots; if not, it is a write
 abbrev pub is_flush : DueCall → Bool
 is_flush call = in_phase BlocksFlush call || in_phase SlotsFlush call
 
@@ -250,6 +254,7 @@ pub record IsRefused (v : View) (given : Given) (step : Step) (reply : Reply) (w
   pub quiet : IsQuiet given
   pub calls : MayCall step given
 
+-- the step is refused since memory ran out: only a plan changes something, as without_memory says
 pub record LacksMemory (v : View) (given : Given) (step : Step) (reply : Reply) (w : View) : Type 0 where
   pub may : MayLack v step
   pub answer : reply ≡ Refused NoMemory

@@ -28,6 +28,7 @@ or_else None next = next
 abbrev pub greatest : ℕ
 greatest = 2 ^ 62
 
+-- why an item's number is refused: it isn't the one expected, or is above the greatest. None: it is not refused
 abbrev pub number_refusal : ℕ → ℕ → Option Refusal
 number_refusal expected number = first_cause ((not (number == expected) || nat_lt greatest number, OutOfOrder expected) ∷ [])
 
@@ -44,6 +45,7 @@ abbrev pub place_refusal : Write → ℕ → Option PlainVolume → Option Refus
 place_refusal w group None = Some NoSuchName
 place_refusal w group (Some volume) = first_cause ((is_snapshot volume.kind, NoSuchName) ∷ (nat_le group volume.group, NotYet) ∷ (not (is_aligned w.offset (length w.bytes)), Misaligned) ∷ (not (is_in_range w.offset (length w.bytes) volume), OutOfRange) ∷ [])
 
+-- why a write is refused, by its writer's hold (None: it has none), its number, and then the volume found. None: it is not refused
 abbrev pub write_refusal : Write → ℕ → Option PlainVolume → Option ℕ → Option Refusal
 write_refusal w expected found None = Some NoHold
 write_refusal w expected found (Some group) = or_else (number_refusal expected w.number) (place_refusal w group found)
@@ -58,16 +60,19 @@ abbrev pub is_snapshot_there : Option PlainVolume → Bool
 is_snapshot_there None = false
 is_snapshot_there (Some volume) = is_snapshot volume.kind
 
+-- why a change is refused, by the pool as it is now. None: it is not refused
 abbrev pub change_refusal : Change → PlainPool → Option Refusal
 change_refusal (Create name size block_size) now = first_cause ((not (is_name name), BadName) ∷ (is_some (volume_at name now), Exists) ∷ (not (is_block_size block_size && (size % block_size == 0)), Misaligned) ∷ (not (nat_le block_size size && nat_le size (2 ^ 40)), OutOfRange) ∷ [])
 change_refusal (Snapshot volume part) now = first_cause ((not (is_name part), BadName) ∷ (not (is_volume (volume_at volume now)), NoSuchName) ∷ (is_some (volume_at (snapshot_name volume part) now), Exists) ∷ [])
 change_refusal (Clone snapshot name) now = first_cause ((not (is_name name), BadName) ∷ (not (is_snapshot_there (volume_at snapshot now)), NoSuchName) ∷ (is_some (volume_at name now), Exists) ∷ [])
 change_refusal (Destroy name) now = first_cause ((not (is_whole_name name), BadName) ∷ (is_none (volume_at name now), NoSuchName) ∷ (has_snapshots name now, HasSnapshots) ∷ (has_clones name now, HasClones) ∷ [])
 
+-- why an action is refused, by the hold, the number, whether the hold is in the open group, and the change. None: it is not refused
 abbrev pub act_refusal : Action → ℕ → ℕ → PlainPool → Option ℕ → Option Refusal
 act_refusal a expected opened now None = Some NoHold
 act_refusal a expected opened now (Some group) = or_else (number_refusal expected a.number) (or_else (first_cause ((not (group == opened), NotNow) ∷ [])) (change_refusal a.change now))
 
+-- why a read of len bytes from the offset is refused, by the volume or snapshot found, if any. None: it is not refused
 abbrev pub read_refusal : ℕ → ℕ → Option PlainVolume → Option Refusal
 read_refusal offset len None = Some NoSuchName
 read_refusal offset len (Some volume) = first_cause ((not (is_in_range offset len volume), OutOfRange) ∷ [])
@@ -80,7 +85,7 @@ may_plan v = not (is_planned v.sync) && (is_syncing v.sync || is_quiesced v.wait
 abbrev pub is_no_disk : View → ℕ → Bool
 is_no_disk v disk = not (list_any (λ d. d == disk) (disks_of v.vdevs))
 
--- the first cause that the view tells. Want of memory, missing disks and want of room are not among these.
+-- the first cause that the view tells. Want of memory, of disks for a block that is read, and of room are not among these.
 abbrev pub refusal_of : View → Step → Option Refusal
 refusal_of v (Hold writer) = first_cause ((is_suspended v, Suspended) ∷ (is_some (hold_group writer v.holds), AlreadyHeld) ∷ [])
 refusal_of v (WriteStep w) = or_else (first_cause ((is_suspended v, Suspended) ∷ [])) (write_refusal w (v.next w.writer) (volume_at w.volume (now_of v)) (hold_group w.writer v.holds))

@@ -27,13 +27,14 @@ pub data Sync : Type 0 where
   Unplanned : Sync
   Due : List DueCall → Sync
 
+-- what a caller can know of the pool between two steps
 pub record View : Type 0 where
   pub vdevs : List Vdev
   pub slots : Bool  -- whether a commit ends in uberblock slots: a pool whose disks have no labels has none
   pub first : ℕ  -- the group that was committed as the machine started
   pub committed : ℕ  -- the group that was committed last
   pub sync : Sync
-  pub waiting : Option Stage  -- how far the waiting group is, if one waiting_in
+  pub waiting : Option Stage  -- how far the waiting group is, if one waits
   pub holds : List Holder  -- oldest first
   pub next : ℕ → ℕ  -- each writer's next number
   pub ledger : Ledger  -- what each group above the committed one has accepted
@@ -56,21 +57,25 @@ opened_as vdevs out stale group pool =
 
 -- ---- groups
 
+-- whether the group after the committed one is synced, with a plan or without
 abbrev pub is_syncing : Sync → Bool
 is_syncing Idle = false
 is_syncing Unplanned = true
 is_syncing (Due calls) = true
 
+-- whether the group that is synced has a plan
 abbrev pub is_planned : Sync → Bool
 is_planned Idle = false
 is_planned Unplanned = false
 is_planned (Due calls) = true
 
+-- whether a group waits that still quiesces
 abbrev pub is_quiescing : Option Stage → Bool
 is_quiescing (Some Quiescing) = true
 is_quiescing (Some Quiesced) = false
 is_quiescing None = false
 
+-- whether a group waits that is quiesced
 abbrev pub is_quiesced : Option Stage → Bool
 is_quiesced (Some Quiesced) = true
 is_quiesced (Some Quiescing) = false
@@ -80,12 +85,15 @@ is_quiesced None = false
 abbrev pub waiting_after : ℕ → Bool → ℕ
 waiting_after committed syncing = if syncing then suc (suc committed) else suc committed
 
+-- the open group's number: the one after those that are committed, synced and waiting
 abbrev pub open_after : ℕ → Bool → Bool → ℕ
 open_after committed syncing has_waiting = if has_waiting then suc (waiting_after committed syncing) else waiting_after committed syncing
 
+-- the waiting group's number; where no group waits, the open group's
 abbrev pub waiting_group : View → ℕ
 waiting_group v = waiting_after v.committed (is_syncing v.sync)
 
+-- the open group's number
 abbrev pub open_group : View → ℕ
 open_group v = open_after v.committed (is_syncing v.sync) (is_some v.waiting)
 
@@ -112,6 +120,7 @@ abbrev pub counted : ℕ → ℕ → List ℕ
 counted first zero = []
 counted first (suc n) = counted first n ++ (first + n) ∷ []
 
+-- all disks of these vdevs, those that are out too
 abbrev pub disks_of : List Vdev → List ℕ
 disks_of vdevs = flat_map (λ vdev. counted vdev.first vdev.children) vdevs
 
@@ -159,5 +168,6 @@ abbrev pub is_fault_on : Option DueCall → ℕ → Bool
 is_fault_on None disk = false
 is_fault_on (Some call) disk = disk == call.disk
 
+-- the disks of the pool that are not out
 abbrev pub disks_in_use : View → List ℕ
 disks_in_use v = filter (λ disk. not (is_away v disk)) (disks_of v.vdevs)

@@ -234,7 +234,7 @@ unfoldable pub line_of : List ℕ → Option Line
 line_of [] = Some Skipped
 line_of (b ∷ bytes) = if b == 35 then Some Skipped else said_line (b ∷ bytes)
 
--- What a function returned, seen by view, is what reading gives, unless memory ran out.
+-- why reading is refused: memory ran out, or reading gives nothing
 abbrev pub Fails : {A : Type 0} → Refusal → Option A → Type 0
 Fails NoMemory read = Unit {0}
 Fails Fault read = read ≡ None

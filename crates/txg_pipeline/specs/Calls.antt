@@ -29,6 +29,7 @@ step_of Quiesce = steps.Quiesce
 step_of Take = steps.Plan 0
 step_of Commit = steps.Device
 
+-- the refusal of the machine that a pipeline's refusal is
 abbrev pub cause_of : Refusal → Cause
 cause_of NoMemory = causes.NoMemory
 cause_of AlreadyHeld = causes.AlreadyHeld

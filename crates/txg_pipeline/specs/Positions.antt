@@ -40,6 +40,7 @@ listed_in pieces piece = option_map_or (λ list. list.items) (get nat_eq pieces 
 abbrev pub listed_of : PlaceIndex → List ℕ → List ℕ
 listed_of places name = option_map_or (λ index. index.all.items) (get_by (λ key. same name key.items) places.volumes) []
 
+-- what an index has for a piece of a name; nothing where it has no such name or piece
 abbrev pub listed_at : PlaceIndex → List ℕ → ℕ → List ℕ
 listed_at places name piece = option_map_or (λ index. listed_in index.pieces piece) (get_by (λ key. same name key.items) places.volumes) []
 

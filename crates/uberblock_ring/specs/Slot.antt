@@ -11,6 +11,7 @@ use Rattle.uberblock_ring.specs.Uberblock.{Fits, head_words}
 abbrev pub front_bytes : Uberblock → List ℕ
 front_bytes u = word_bytes (head_words u) ++ (spelling (pointers.Block u.root) ++ (word_bytes (u.claim ∷ []) ++ (u.config_digest ++ replicate 776 0)))
 
+-- the 1,024 bytes of an uberblock's slot: the front and its seal
 abbrev pub slot_bytes : Uberblock → List ℕ
 slot_bytes u = sealed (front_bytes u)
 

@@ -33,10 +33,12 @@ vdev_pairs id v =
 abbrev pub tree_pairs : List PlainVdev → PlainList
 tree_pairs vdevs = pair (codes "children") (lists (lists_of (numbered vdev_pairs 0 vdevs))) no_pairs
 
+-- the number that a state is spelled as
 abbrev pub state_number : State → ℕ
 state_number Active = 0
 state_number Exported = 1
 
+-- a label, with the version 1
 abbrev pub label_pairs : PlainLabel → PlainList
 label_pairs l =
     pair (codes "claim") (number l.claim)
@@ -53,6 +55,7 @@ label_pairs l =
 abbrev pub is_letter : ℕ → Bool
 is_letter b = nat_le 97 b && nat_le b 122
 
+-- a lower case letter, a digit, or one of . _ -
 abbrev pub is_name_byte : ℕ → Bool
 is_name_byte b = is_letter b || (nat_le 48 b && nat_le b 57) || (b == 46) || (b == 95) || (b == 45)
 

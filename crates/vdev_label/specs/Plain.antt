@@ -5,6 +5,7 @@ use Rattle.vdev_label.specs.declared.label.Label.{Label}
 use Rattle.vdev_label.specs.declared.label.State.{State}
 use Rattle.vdev_label.specs.declared.label.Vdev.{Vdev}
 
+-- a vdev: it uses child_sectors sectors of 512 bytes of each disk, and a metaslab has 2 to the power of slab_shift sectors
 pub record PlainVdev : Type 0 where
   pub guid : ℕ
   pub parity : ℕ
@@ -14,6 +15,7 @@ pub record PlainVdev : Type 0 where
   -- the numbers of its disks, in order
   pub children : List ℕ
 
+-- a label: what a disk says of itself and of its pool, at a group
 pub record PlainLabel : Type 0 where
   pub claim : ℕ
   pub guid : ℕ
@@ -24,6 +26,7 @@ pub record PlainLabel : Type 0 where
   pub group : ℕ
   pub vdevs : List PlainVdev
 
+-- a vdev's values as a plain one
 abbrev pub vdev_view : Vdev → PlainVdev
 vdev_view v =
     record {
@@ -35,9 +38,11 @@ vdev_view v =
       children = v.children.items;
     }
 
+-- a configuration as the plain vdevs in it, in order
 abbrev pub config_view : Config → List PlainVdev
 config_view c = map vdev_view c.vdevs.items
 
+-- a label's values as a plain one
 abbrev pub label_view : Label → PlainLabel
 label_view l =
     record {

@@ -12,6 +12,7 @@ pub record Parted : Type 0 where
   pub destroyed : List (List ℕ)
   pub made : List Action
 
+-- no actions, parted
 abbrev pub nothing_parted : Parted
 nothing_parted = record { destroyed = []; made = [] }
 

@@ -9,6 +9,7 @@ use Rattle.volume_rules.specs.declared.shape.NamedShape.{NamedShape}
 use Rattle.volume_rules.specs.declared.shape.VolumeEntry.{VolumeEntry}
 use Rattle.volume_rules.specs.declared.shape.VolumeShape.{VolumeShape}
 
+-- a volume's size and block size in bytes, the group that made it, and its kind
 abbrev pub shape_of : PlainVolume → VolumeShape
 shape_of volume = record { size = length volume.bytes; block_size = volume.block_size; group = volume.group; kind = volume.kind }
 

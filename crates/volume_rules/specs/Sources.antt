@@ -15,6 +15,7 @@ source_by (Snapshot volume part) name = if same (snapshot_name volume part) name
 source_by (Clone snapshot called) name = if same called name then Some snapshot else Some name
 source_by (Destroy gone) name = Some name
 
+-- the same of a name that may be none: bytes that stand nowhere stay so
 abbrev pub source_in : Change → Option (List ℕ) → Option (List ℕ)
 source_in change None = None
 source_in change (Some name) = source_by change name
