@@ -1,4 +1,4 @@
-//! A disk that missed a group, or gives wrong bytes, has every block again behind a scrub, and is read for each at once.
+//! A disk that missed a group has every block again behind a scrub, and is read for each at once.
 use crate::lived::config;
 use line_steps::{first_step, next_step};
 use model_disk::{Disk, MemDisk, Member};
@@ -21,15 +21,7 @@ const AWAY: [(&str, &str); 6] = [
     ("sync", "committed 4"),
 ];
 
-/// A group is committed with all disks.
-const MADE: [(&str, &str); 4] = [
-    ("hold 1", "held 4"),
-    ("create 1 1 v 1024 512", "receipt 4"),
-    ("release 1", "released"),
-    ("sync", "committed 4"),
-];
-
-/// Bytes are committed, by the disks that are in use.
+/// Bytes are committed without disk 0 too.
 const WRITTEN: [(&str, &str); 4] = [
     ("hold 1", "held 5"),
     ("write 1 2 v 0 512 aa", "receipt 5"),
@@ -42,22 +34,6 @@ const STALE: [(&str, &str); 2] = [("out 1", "out"), ("read v 0 1024", "refused 2
 
 /// Behind the scrub they can, in the same life and in the next one.
 const WHOLE: [(&str, &str); 2] = [("out 1", "out"), ("read v 0 1024", "aax512 00x512")];
-
-/// Where disk 1 gives wrong bytes of every block, all is read as it was written, and more is.
-const LIES: [(&str, &str); 6] = [
-    ("read v 0 1024", "aax512 00x512"),
-    ("hold 1", "held 6"),
-    ("write 1 1 v 512 512 bb", "receipt 6"),
-    ("release 1", "released"),
-    ("sync", "committed 6"),
-    ("read v 0 1024", "aax512 bbx512"),
-];
-
-/// Behind a scrub it isn't wrong any more, so that another disk may go out.
-const MENDED: [(&str, &str); 2] = [("out 0", "out"), ("read v 0 1024", "aax512 bbx512")];
-
-/// Where blocks begin on a disk, in bytes, and how many bytes are for them.
-const BLOCKS: (u64, usize) = (0x40_0000, 0x38_0000);
 
 /// The first of these lines of which the last reply is another one.
 fn wrong<D: Disk + Drop>(
@@ -86,8 +62,8 @@ fn wrong<D: Disk + Drop>(
     Ok(String::new(alloc))
 }
 
-/// Three disks of a pool behind these lines and the writing.
-fn written_disks(alloc: Global, lines: &[(&str, &str)]) -> Result<Vec<MemDisk>, Fail> {
+/// Three disks of a pool in which disk 0 missed two groups.
+fn stale_disks(alloc: Global) -> Result<Vec<MemDisk>, Fail> {
     let disks = MemDisk::several(alloc, 3, 0x80_0000)?;
     let name = String::from_str(alloc, "pool")?;
     let identity = PoolIdentity { name, guid: 1 };
@@ -95,27 +71,13 @@ fn written_disks(alloc: Global, lines: &[(&str, &str)]) -> Result<Vec<MemDisk>, 
         return Err(Fail::new("not made"));
     };
     let OpenedPool { mut core, .. } = made;
-    let first = wrong(alloc, &mut core, lines)?;
+    let first = wrong(alloc, &mut core, &AWAY)?;
     let second = wrong(alloc, &mut core, &WRITTEN)?;
     if first.is_empty() && second.is_empty() {
         Ok(there(alloc, core.into_disks())?)
     } else {
         Err(Fail::new("not written"))
     }
-}
-
-/// The same disks, of which disk 1 holds other bytes in place of all blocks.
-fn spoilt_disks(alloc: Global) -> Result<Vec<MemDisk>, Fail> {
-    let mut disks = written_disks(alloc, &MADE)?;
-    let (at, count) = BLOCKS;
-    let bytes = vec![in alloc; 0xa5; count]?;
-    let Some(disk) = disks.get_mut(1) else {
-        return Err(Fail::new("no disk 1"));
-    };
-    let Ok(()) = disk.write_at(at, bytes.as_slice()) else {
-        return Err(Fail::new("not spoilt"));
-    };
-    Ok(disks)
 }
 
 /// The disks of members that are there.
@@ -166,21 +128,10 @@ fn wrong_scrubbed(
 #[test]
 fn a_stale_disk_is_read_behind_a_scrub(rt: HostRuntime) -> Result<(), Fail> {
     let alloc: Global = rt.alloc();
-    let (before, disks) = wrong_opened(alloc, written_disks(alloc, &AWAY)?, &STALE)?;
+    let (before, disks) = wrong_opened(alloc, stale_disks(alloc)?, &STALE)?;
     assert!(rt; before.is_empty(), "{before}");
     let (behind, counts) = wrong_scrubbed(alloc, disks, &WHOLE)?;
     assert!(rt; behind.is_empty(), "{behind}");
     assert!(rt; counts.group == 5 && counts.findings > 0 && counts.left == 0);
-    Ok(())
-}
-
-#[test]
-fn a_disk_of_wrong_bytes_is_read_past(rt: HostRuntime) -> Result<(), Fail> {
-    let alloc: Global = rt.alloc();
-    let (lies, disks) = wrong_opened(alloc, spoilt_disks(alloc)?, &LIES)?;
-    assert!(rt; lies.is_empty(), "{lies}");
-    let (behind, counts) = wrong_scrubbed(alloc, disks, &MENDED)?;
-    assert!(rt; behind.is_empty(), "{behind}");
-    assert!(rt; counts.group == 6 && counts.findings > 0 && counts.left == 0);
     Ok(())
 }
