@@ -42,4 +42,5 @@ pub mod TakenIn
 pub mod TakenPlans
 pub mod Taking
 pub mod Uses
+pub mod Telling
 pub mod Writing

@@ -13,8 +13,7 @@ use Rattle.block_pointer.specs.declared.block.Block.{Block}
 use Rattle.block_pointer.specs.declared.dva.Dva.{Dva}
 use Rattle.block_pointer.specs.Copies.{dvas}
 use Rattle.raidz_io.specs.Writes.{ColumnWrite}
-use Rattle.raidz_io.specs.Choices.{PartsTell}
-use Rattle.raidz_io.specs.Reads.{OnlyReads, PartsGiveTruly}
+use Rattle.raidz_io.specs.Reads.{OnlyReads}
 use Rattle.raidz_io.proofs.Calls.{length-OnlyReads, OnlyReads-none, failed_since-more}
 use Rattle.block_store.specs.declared.block.Asked.{Asked}
 use Rattle.block_store.specs.declared.refusal.Refusal.{Refusal}
@@ -27,7 +26,7 @@ use Rattle.block_store.proofs.Taking.{fills_nothing, places_too}
 use Rattle.block_store.specs.Places.{filled as filled_marks}
 use Rattle.block_store.specs.Plans.{Plans, KeepsPlans}
 use Rattle.block_store.specs.Reading.{FewAreAbsent, AreTolerable, IsReadable, IsReadAs}
-use Rattle.block_store.specs.Steps.{OnlyReadsBlocks, Placed, HavePlaced, OnlyReadsAndPlans, AnswersAreTrue, LossIsTolerable, PartsOfAnswersTell, HasNoRoomFor}
+use Rattle.block_store.specs.Steps.{OnlyReadsBlocks, Placed, HavePlaced, OnlyReadsAndPlans, AnswersAreTrue, LossIsTolerable, HasNoRoomFor}
 use Rattle.block_store.specs.Store.{Store, missed, stale_from, Spans, Keeps, in_group, reaching, outs, outs_from, is_out}
 use Rattle.block_store.proofs.ReadingLost.{failed_earlier}
 use Rattle.block_store.proofs.ReadingSteps.{reads_on as disk_reads_on, rest_on}
@@ -242,7 +241,7 @@ failed_since-append : (n : ℕ) (newer calls : List JointCall) (disk : ℕ) → 
 failed_since-append n [] calls disk held = held
 failed_since-append n (made ∷ newer) calls disk held = failed_since-more n made (newer ++ calls) disk (failed_since-append n newer calls disk held)
 
-fewer_absent : (spaces : List VdevSpace) (more fewer : List ℕ) → ((disk : ℕ) → Contains fewer disk → Contains more disk) → AreTolerable spaces more → AreTolerable spaces fewer
+pub fewer_absent : (spaces : List VdevSpace) (more fewer : List ℕ) → ((disk : ℕ) → Contains fewer disk → Contains more disk) → AreTolerable spaces more → AreTolerable spaces fewer
 fewer_absent spaces more fewer within few v space found =
     let there = few v space found in
     record { disks = there.disks; few = there.few; all = λ child below held. there.all child below (within (space.shape.vdev.first + child) held) }
@@ -268,7 +267,7 @@ shape_found spaces others v space same found = cases (slice_get spaces v) refl
     cases (Some there) e is =
         (there, e, same_Some there.shape space.shape (ap (λ o. option_map (λ (s : VdevSpace). s.shape) o) (sym e) ∙ is))
 
-tolerable_shapes : (spaces others : List VdevSpace) (absent : List ℕ) → shapes_of others ≡ shapes_of spaces → AreTolerable spaces absent → AreTolerable others absent
+pub tolerable_shapes : (spaces others : List VdevSpace) (absent : List ℕ) → shapes_of others ≡ shapes_of spaces → AreTolerable spaces absent → AreTolerable others absent
 tolerable_shapes spaces others absent same few v space found =
     let there = shape_found spaces others v space same found in
     subst (λ (shape : VdevShape). FewAreAbsent shape.vdev absent) there.2 (few v there.0 there.1)
@@ -296,27 +295,6 @@ few_after old mid new missing first out stale shapes few birth =
     (fewer_absent old.spaces (absent ++ failed) (later ++ fewer)
     (absent_more absent later failed fewer same
     (λ disk held. failed_earlier (length old.disks.calls) (length mid.disks.calls) new.disks.calls disk (length-OnlyReads old.disks mid.disks first) held)) (few birth))
-
--- ---- each part of what tells blocks tells them
-
-pub answers_of_parts_tell : PartsGiveTruly → PartsTell → PartsOfAnswersTell
-answers_of_parts_tell parts_give parts_are_told old mid new missing first rest tell = elim tell [
-  | inl honest ↦ (inl (true_before old mid new rest.reads honest), inl (true_after old mid new first.reads honest))
-  | inr lie ↦ (
-    inr (record {
-      liars = lie.liars;
-      few = few_before old mid new (missing ++ lie.liars) rest.reads lie.few;
-      truly = λ disk there. (parts_give old.disks mid.disks new.disks first.reads rest.reads disk (lie.truly disk there)).0;
-      told = (parts_are_told old.disks mid.disks new.disks first.reads rest.reads lie.told).0;
-    }),
-    inr (record {
-      liars = lie.liars;
-      few = few_after old mid new (missing ++ lie.liars) first.reads first.out first.stale first.shapes lie.few;
-      truly = λ disk there. (parts_give old.disks mid.disks new.disks first.reads rest.reads disk (lie.truly disk there)).1;
-      told = (parts_are_told old.disks mid.disks new.disks first.reads rest.reads lie.told).1;
-    }),
-  )
-]
 
 -- ---- there is no room
 

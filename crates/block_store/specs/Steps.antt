@@ -76,11 +76,11 @@ pub record FewLie (old new : Store) (missing : List ℕ) : Type 0 where
 abbrev pub AnswersTell : Store → Store → List ℕ → Type 0
 AnswersTell old new missing = AnswersAreTrue old new ⊎ FewLie old new missing
 
--- where answers tell, those of each part of the reads do
-abbrev pub PartsOfAnswersTell : Type 0
-PartsOfAnswersTell =
-    (old mid new : Store) (missing : List ℕ) → OnlyReadsAndPlans old mid missing → OnlyReadsAndPlans mid new missing → AnswersTell old new missing
-    → AnswersTell old mid missing × AnswersTell mid new missing
+-- the store has the same vdevs, and what was lost is still lost: the disks that are out, and those that missed the group of a birth
+pub record StaysLost (old new : Store) : Type 0 where
+  pub shapes : shapes_of new.spaces ≡ shapes_of old.spaces
+  pub out : (disk : ℕ) → Contains (outs old) disk → Contains (outs new) disk
+  pub stale : (birth disk : ℕ) → Contains (missed old birth) disk → Contains (missed new birth) disk
 
 -- there is no room: behind such reads and plans no free place was left for a copy of a block of so many sectors
 pub record HasNoRoomFor (old new : Store) (missing : List ℕ) (sectors copies : ℕ) : Type 0 where

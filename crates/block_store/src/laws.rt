@@ -4,12 +4,8 @@ ghost use Rattle.block_store.specs.Forgetting.{FewerAreHeld, FewerArePlanned};
 ghost use Rattle.block_store.specs.Losses.{LossesAreNotTolerable};
 ghost use Rattle.block_store.specs.Opened.{FoundAreHeld, FoundInUseAreStored};
 ghost use Rattle.block_store.specs.Releases.{PlacesSpare};
-ghost use Rattle.block_store.specs.Steps.{PartsOfAnswersTell};
 
-use raidz_io::{
-    few_are_not_more, parts_give_truly, parts_tell, reads_keep_contents, stands_while_kept,
-    stands_with_more_absent,
-};
+use raidz_io::{few_are_not_more, reads_keep_contents, stands_while_kept, stands_with_more_absent};
 
 /// What a store holds, it holds of fewer blocks.
 pub fn fewer_are_held()
@@ -62,12 +58,4 @@ pub fn losses_are_not_tolerable()
     ensures { LossesAreNotTolerable }
 {
     few_are_not_more();
-}
-
-/// Where what disks answered tells what was written, it does so in each part of the reads.
-pub fn parts_of_answers_tell()
-    ensures { PartsOfAnswersTell }
-{
-    parts_give_truly();
-    parts_tell();
 }

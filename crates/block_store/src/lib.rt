@@ -24,8 +24,8 @@ pub use block::{Asked, CopyCount, NewBlock};
 pub use create::{MAX_METASLAB_SHIFT, MIN_METASLAB_SHIFT, VdevConfig, sectors_for_blocks};
 pub use laws::{
     blocks_lie_in_sectors, fewer_are_held, fewer_are_planned, found_are_held,
-    found_in_use_are_stored, losses_are_not_tolerable, parts_of_answers_tell, places_spare,
-    reads_spare, writes_elsewhere_keep,
+    found_in_use_are_stored, losses_are_not_tolerable, places_spare, reads_spare,
+    writes_elsewhere_keep,
 };
 pub use refusal::Refusal;
 pub use shape::VdevShape;

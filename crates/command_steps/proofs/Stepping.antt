@@ -63,7 +63,7 @@ chain_more g old v steps givens replies mid between step given reply new w chain
 
 module _ {C : Type 0} (g : Ghosts C) (t : ℕ) where
   abbrev pub OneGoes : C → View → Step → Reply → C → Type 0
-  OneGoes = GoesFrom g.represents g.answers_truly g.links
+  OneGoes = GoesFrom g.represents g.answers_tell g.links
 
   -- one step
   abbrev pub one_step : (old : C) (v : View) (step : Step) (behind : List Step) (reply : Reply) (new : C) → OneGoes old v step reply new → Session g t old v (step ∷ behind) reply (due_after t behind reply) new
@@ -115,29 +115,29 @@ module _ {C : Type 0} (g : Ghosts C) (t : ℕ) where
   -- ---- from each view
 
   abbrev pub EachGoes : C → Step → Reply → C → Type 0
-  EachGoes = Goes g.represents g.answers_truly g.links
+  EachGoes = Goes g.represents g.answers_tell g.links
 
   abbrev pub CameFurther : Type 0
   CameFurther = (first mid last : C) → g.came_from first mid → g.came_from mid last → g.came_from first last
 
-  abbrev pub PartsAreTrue : Type 0
-  PartsAreTrue = (first mid last : C) → g.came_from first mid → g.came_from mid last → g.answers_truly first last → g.answers_truly first mid × g.answers_truly mid last
+  abbrev pub PartsTell : Type 0
+  PartsTell = (first mid last : C) → g.came_from first mid → g.came_from mid last → g.answers_tell first last → g.answers_tell first mid × g.answers_tell mid last
 
   -- a refused step is the last
   pub stops : (old : C) (step : Step) (behind : List Step) (reply : Reply) (new : C) (test : Bool) → test ≡ is_refused reply → test ≡ true → g.came_from old new → EachGoes old step reply new
       → RunsOn g t old (step ∷ behind) reply new
   stops old step behind reply new test tells refused follows goes = record {
     follows = follows;
-    sessions = λ v represents truly. (due_after t behind reply, one_step old v step behind reply new (goes v represents truly), inl (ends_there t behind reply (sym tells ∙ refused)));
+    sessions = λ v represents tell. (due_after t behind reply, one_step old v step behind reply new (goes v represents tell), inl (ends_there t behind reply (sym tells ∙ refused)));
   }
 
   -- behind another one the next is due
-  pub begins : CameFurther → PartsAreTrue → (old : C) (step next : Step) (behind : List Step) (reply : Reply) (mid : C) (last : Reply) (new : C) (test : Bool) → test ≡ is_refused reply → test ≡ false → g.came_from old mid
+  pub begins : CameFurther → PartsTell → (old : C) (step next : Step) (behind : List Step) (reply : Reply) (mid : C) (last : Reply) (new : C) (test : Bool) → test ≡ is_refused reply → test ≡ false → g.came_from old mid
       → EachGoes old step reply mid → RunsOn g t mid (next ∷ behind) last new → RunsOn g t old (step ∷ next ∷ behind) last new
   begins further parts old step next behind reply mid last new test tells accepted follows goes rest = record {
     follows = further old mid new follows rest.follows;
-    sessions = λ v represents truly.
-        let both = parts old mid new follows rest.follows truly in
+    sessions = λ v represents tell.
+        let both = parts old mid new follows rest.follows tell in
         let one = goes v represents both.0 in
         let due = sym (goes_on t next behind reply (sym tells ∙ accepted)) in
         let more = (subst (λ (d : List Step). RunsOn g t mid d last new) due rest).sessions one.after one.represents_after both.1 in
@@ -147,17 +147,17 @@ module _ {C : Type 0} (g : Ghosts C) (t : ℕ) where
   -- as far as steps were taken: the reply to the last of them tells what is due
   pub record RunsUpTo (old : C) (step : Step) (last : Reply) (count : ℕ) (new : C) : Type 0 where
     pub follows : g.came_from old new
-    pub sessions : (v : View) → g.represents old v → g.answers_truly old new → (s : Session g t old v (step ∷ []) last (due_after t [] last) new) × (length s.steps ≡ count)
+    pub sessions : (v : View) → g.represents old v → g.answers_tell old new → (s : Session g t old v (step ∷ []) last (due_after t [] last) new) × (length s.steps ≡ count)
 
   pub runs_one : (old : C) (step : Step) (reply : Reply) (new : C) → g.came_from old new → EachGoes old step reply new → RunsUpTo old step reply 1 new
-  runs_one old step reply new follows goes = record { follows = follows; sessions = λ v represents truly. (one_step old v step [] reply new (goes v represents truly), refl) }
+  runs_one old step reply new follows goes = record { follows = follows; sessions = λ v represents tell. (one_step old v step [] reply new (goes v represents tell), refl) }
 
-  pub runs_more : CameFurther → PartsAreTrue → (old : C) (step : Step) (last : Reply) (count : ℕ) (mid : C) (next : Step) (reply : Reply) (new : C) → next_of t last ≡ next ∷ [] → g.came_from mid new
+  pub runs_more : CameFurther → PartsTell → (old : C) (step : Step) (last : Reply) (count : ℕ) (mid : C) (next : Step) (reply : Reply) (new : C) → next_of t last ≡ next ∷ [] → g.came_from mid new
       → EachGoes mid next reply new → RunsUpTo old step last count mid → RunsUpTo old step reply (count + 1) new
   runs_more further parts old step last count mid next reply new is_next follows goes so_far = record {
     follows = further old mid new so_far.follows follows;
-    sessions = λ v represents truly.
-        let both = parts old mid new so_far.follows follows truly in
+    sessions = λ v represents tell.
+        let both = parts old mid new so_far.follows follows tell in
         let due = none_behind t last ∙ is_next in
         let s = subst (λ (left : List Step). (s : Session g t old v (step ∷ []) last left mid) × (length s.steps ≡ count)) due (so_far.sessions v represents both.0) in
         let one = goes (s.0).after (s.0).represents_after both.1 in
@@ -168,7 +168,7 @@ module _ {C : Type 0} (g : Ghosts C) (t : ℕ) where
   pub runs_out : (old : C) (step : Step) (last : Reply) (count : ℕ) (new : C) → (next_of t last ≡ []) ⊎ (2 ^ 64 ≤ count) → RunsUpTo old step last count new → RunsOn g t old (step ∷ []) last new
   runs_out old step last count new ends so_far = record {
     follows = so_far.follows;
-    sessions = λ v represents truly.
-        let s = so_far.sessions v represents truly in
+    sessions = λ v represents tell.
+        let s = so_far.sessions v represents tell in
         (due_after t [] last, s.0, ⊎_elim (λ (none : next_of t last ≡ []). inl (none_behind t last ∙ none)) (λ (many : 2 ^ 64 ≤ count). inr (omega (arith, s.1))) ends);
   }

@@ -81,9 +81,9 @@ module _ {C : Type 0} (g : Ghosts C) (t : ℕ) where
   AllSound = (core : C) (v : View) → g.represents core v → IsSound v
 
   pub changes : AllSound → (old : C) (item : Step) (last : Reply) (new : C) → RunsOn g t old (steps_of item) last new → Changes g t old item last new
-  changes sound old item last new runs = λ v represents truly.
-      let all = runs.sessions v represents truly in one_change old v item last all.0 new (sound old v represents) all.1 all.2
+  changes sound old item last new runs = λ v represents tell.
+      let all = runs.sessions v represents tell in one_change old v item last all.0 new (sound old v represents) all.1 all.2
 
   pub commits_all : AllSound → (old : C) (last : Reply) (new : C) → RunsOn g t old (Close ∷ []) last new → Commits g t old last new
-  commits_all sound old last new runs = λ v represents truly.
-      let all = runs.sessions v represents truly in one_commit old v last all.0 new (sound old v represents) all.1 all.2
+  commits_all sound old last new runs = λ v represents tell.
+      let all = runs.sessions v represents tell in one_commit old v last all.0 new (sound old v represents) all.1 all.2

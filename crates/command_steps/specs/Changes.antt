@@ -39,10 +39,10 @@ module _ {C : Type 0} (g : Ghosts C) (timestamp : ℕ) where
   abbrev pub IsOneCommit : C → View → Reply → C → Type 0
   IsOneCommit old v last new = IsOneRun old v (Close ∷ []) last new (λ group w. IsAtRest v → IsSame v group w) (IsKept v)
 
-  -- so it is from each view that the old core represents, where the disks answered truly
+  -- so it is from each view that the old core represents, where what the disks answered tells what was written
   abbrev pub Changes : C → Step → Reply → C → Type 0
-  Changes old item last new = (v : View) → g.represents old v → g.answers_truly old new → IsOneChange old v item last new
+  Changes old item last new = (v : View) → g.represents old v → g.answers_tell old new → IsOneChange old v item last new
 
   -- the same of a commit of what the open group has
   abbrev pub Commits : C → Reply → C → Type 0
-  Commits old last new = (v : View) → g.represents old v → g.answers_truly old new → IsOneCommit old v last new
+  Commits old last new = (v : View) → g.represents old v → g.answers_tell old new → IsOneCommit old v last new

@@ -28,7 +28,7 @@ module _ {C : Type 0} (g : Ghosts C) where
     pub chain : Chain old v steps givens replies new after
     pub represents_after : g.represents new after
 
-  -- the new core came from the old one; from each view that the old one represents, where the disks answered truly, steps were taken until none was left, or 2^64 were taken
+  -- the new core came from the old one; from each view that the old one represents, where what the disks answered tells what was written, steps were taken until none was left, or 2^64 were taken
   pub record RunsOn (timestamp : ℕ) (old : C) (due : List Step) (last : Reply) (new : C) : Type 0 where
     pub follows : g.came_from old new
-    pub sessions : (v : View) → g.represents old v → g.answers_truly old new → (left : List Step) × (s : Session timestamp old v due last left new) × ((left ≡ []) ⊎ (2 ^ 64 ≤ length s.steps))
+    pub sessions : (v : View) → g.represents old v → g.answers_tell old new → (left : List Step) × (s : Session timestamp old v due last left new) × ((left ≡ []) ⊎ (2 ^ 64 ≤ length s.steps))

@@ -15,7 +15,7 @@ const WRITER: u32 = 1;
 /// uberblock.
 ///
 /// `Committed` says that the next group is committed: of a pool at rest, with the item alone. The first refusal ends it and
-/// is the answer: no group is committed then. Where the disks answer truly, another answer comes only after 2^64 steps.
+/// is the answer: no group is committed then. Where what the disks answer tells what was written, another answer comes only after 2^64 steps.
 pub fn change<P: PoolSteps>(pool: &mut P, item: Step, timestamp: u64) -> Reply
     ensures follows { P.came_from pool.old pool.new }
     ensures changes { Changes P.PoolSteps timestamp pool.old item result pool.new }

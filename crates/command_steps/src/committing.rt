@@ -10,7 +10,7 @@ use pool_steps::PoolSteps;
 /// Closes the open group with what it has, and commits it. The timestamp goes into the uberblock.
 ///
 /// `Committed` says that the next group is committed: of a pool at rest, with the pool of the last one. The first refusal
-/// ends it and is the answer: no group is committed then. Where the disks answer truly, another answer comes only after 2^64
+/// ends it and is the answer: no group is committed then. Where what the disks answer tells what was written, another answer comes only after 2^64
 /// steps.
 pub fn commit<P: PoolSteps>(pool: &mut P, timestamp: u64) -> Reply
     ensures follows { P.came_from pool.old pool.new }

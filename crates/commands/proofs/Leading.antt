@@ -44,18 +44,18 @@ front_more name n len xs ys c d e front read = (
 )
 
 module _ {P : Type 0} (g : Ghosts P) where
-  abbrev pub PartsAreTrue : Type 0
-  PartsAreTrue = (first mid last : P) → g.came_from first mid → g.came_from mid last → g.answers_truly first last → g.answers_truly first mid × g.answers_truly mid last
+  abbrev pub PartsTell : Type 0
+  PartsTell = (first mid last : P) → g.came_from first mid → g.came_from mid last → g.answers_tell first last → g.answers_tell first mid × g.answers_tell mid last
 
   abbrev pub CameFurther : Type 0
   CameFurther = (first mid last : P) → g.came_from first mid → g.came_from mid last → g.came_from first last
 
   -- one behind another
-  pub leads_on : PartsAreTrue → (first mid last : Device P) (r s t : Contents → Contents → Type 0) → g.came_from first.core mid.core → g.came_from mid.core last.core
+  pub leads_on : PartsTell → (first mid last : Device P) (r s t : Contents → Contents → Type 0) → g.came_from first.core mid.core → g.came_from mid.core last.core
       → ((c d e : Contents) → r c d → s d e → t c e) → Leads g first mid r → Leads g mid last s → Leads g first last t
   leads_on parts first mid last r s t from to join one other =
-      λ c shown truly.
-      let both = parts first.core mid.core last.core from to truly in
+      λ c shown tell.
+      let both = parts first.core mid.core last.core from to tell in
       let a = one c shown both.0 in
       let b = other a.0 a.1 both.1 in
       (b.0, b.1, join c a.0 b.0 a.2 b.2)
@@ -70,10 +70,10 @@ module _ {P : Type 0} (g : Ghosts P) where
   none_poured device now still = record {
     follows = still;
     named = refl;
-    poured = record { bytes = []; appends = appends_nothing now; reads = λ c shown truly. (c, shown, (refl, λ volume there. refl)) };
+    poured = record { bytes = []; appends = appends_nothing now; reads = λ c shown tell. (c, shown, (refl, λ volume there. refl)) };
   }
 
-  pub poured_more : PartsAreTrue → CameFurther → (old mid new : Device P) (n len : ℕ) (a b c : Option (List ℕ)) (bytes : List ℕ) → PouredSoFar old mid n a b → g.came_from mid.core new.core → name_of new ≡ name_of mid
+  pub poured_more : PartsTell → CameFurther → (old mid new : Device P) (n len : ℕ) (a b c : Option (List ℕ)) (bytes : List ℕ) → PouredSoFar old mid n a b → g.came_from mid.core new.core → name_of new ≡ name_of mid
       → Leads g mid new (AreRead (name_of mid) n len bytes) → Appends b c bytes → PouredSoFar old new (n + len) a c
   poured_more parts further old mid new n len a b c bytes so_far follows named reads printed = record {
     follows = further old.core mid.core new.core so_far.follows follows;
@@ -87,7 +87,7 @@ module _ {P : Type 0} (g : Ghosts P) where
   }
 
   -- a call that changed nothing
-  pub poured_still : PartsAreTrue → (old mid new : Device P) (n : ℕ) (a b : Option (List ℕ)) → PouredSoFar old mid n a b → g.came_from mid.core new.core → Leads g mid new (λ c d. d ≡ c) → IsPouredOut g old new n a b
+  pub poured_still : PartsTell → (old mid new : Device P) (n : ℕ) (a b : Option (List ℕ)) → PouredSoFar old mid n a b → g.came_from mid.core new.core → Leads g mid new (λ c d. d ≡ c) → IsPouredOut g old new n a b
   poured_still parts old mid new n a b so_far follows still = record {
     bytes = so_far.poured.bytes;
     appends = so_far.poured.appends;

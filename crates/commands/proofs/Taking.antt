@@ -7,7 +7,7 @@ use Rattle.volume_device.specs.Contents.{Contents, FitsIn, IsCutOff, IsFlushed, 
 use Rattle.volume_device.specs.Devices.{Leads, name_of}
 use Rattle.volume_device.specs.declared.device.Device.{Device}
 use Rattle.commands.proofs.Consuming.{consumed_more, nothing}
-use Rattle.commands.proofs.Leading.{CameFurther, PartsAreTrue, leads_on}
+use Rattle.commands.proofs.Leading.{CameFurther, PartsTell, leads_on}
 use Rattle.commands.specs.Input.{IsNoInput}
 use Rattle.commands.specs.Pouring.{IfKnown, IsFrontIn, IsIn, IsPouredIn, IsPouredInPart, IsTakenIn, IsWhollyIn}
 use Rattle.commands.specs.declared.stop.Stop.{Stop}
@@ -93,9 +93,9 @@ module _ {P : Type 0} (g : Ghosts P) where
     pub leads : Leads g old now (IsIn (name_of old) done)
 
   pub none_taken : NothingIsOverwritten → (device : Device P) (now : Option (List ℕ)) → g.came_from device.core device.core → TakenSoFar device device 0 now now
-  none_taken law device now still = record { follows = still; named = refl; done = []; consumed = nothing now; count = refl; leads = λ c shown truly. (c, shown, none_in law (name_of device) c) }
+  none_taken law device now still = record { follows = still; named = refl; done = []; consumed = nothing now; count = refl; leads = λ c shown tell. (c, shown, none_in law (name_of device) c) }
 
-  module _ (fit : PartsFit) (one : PartsAreOne) (parts : PartsAreTrue g) (further : CameFurther g) (old mid new : Device P) (at : ℕ) (a b c : Option (List ℕ)) (so_far : TakenSoFar old mid at a b) (follows : g.came_from mid.core new.core) where
+  module _ (fit : PartsFit) (one : PartsAreOne) (parts : PartsTell g) (further : CameFurther g) (old mid new : Device P) (at : ℕ) (a b c : Option (List ℕ)) (so_far : TakenSoFar old mid at a b) (follows : g.came_from mid.core new.core) where
     pub taken_more : (piece : List ℕ) → Consumes b c piece → name_of new ≡ name_of mid → Leads g mid new (IsWritten (name_of mid) at piece) → TakenSoFar old new (at + length piece) a c
     taken_more piece more named written = record {
       follows = further old.core mid.core new.core so_far.follows follows;
@@ -127,8 +127,8 @@ module _ {P : Type 0} (g : Ghosts P) where
   taken_part old now at None b so_far = tt
   taken_part old now at (Some all) b so_far =
       let left = left_of all so_far.done b so_far.consumed in
-      λ c shown truly.
-      let d = so_far.leads c shown truly in
+      λ c shown tell.
+      let d = so_far.leads c shown tell in
       (d.0, d.1, cut_in (name_of old) all so_far.done left.0 c d.0 d.0 left.1 d.2 refl)
 
   -- the input is at its end
@@ -137,10 +137,10 @@ module _ {P : Type 0} (g : Ghosts P) where
   all_taken old now at (Some all) b so_far ended = subst (λ l. Leads g old now (IsIn (name_of old) l)) (sym (at_end all so_far.done b so_far.consumed ended)) so_far.leads
 
   pub cut_commits_none : (mid new : Device P) (name : List ℕ) (at : ℕ) (piece : List ℕ) → Leads g mid new (IsCutOff name at piece) → Leads g mid new (λ d e. e.safe ≡ d.safe)
-  cut_commits_none mid new name at piece cut = λ c shown truly. let d = cut c shown truly in (d.0, d.1, d.2.safe)
+  cut_commits_none mid new name at piece cut = λ c shown tell. let d = cut c shown tell in (d.0, d.1, d.2.safe)
 
   pub same_commits_none : (mid new : Device P) → Leads g mid new (λ c d. d ≡ c) → Leads g mid new (λ d e. e.safe ≡ d.safe)
-  same_commits_none mid new same = λ c shown truly. let d = same c shown truly in (d.0, d.1, ap (λ (x : Contents). x.safe) d.2)
+  same_commits_none mid new same = λ c shown tell. let d = same c shown tell in (d.0, d.1, ap (λ (x : Contents). x.safe) d.2)
 
   -- why no piece was read
   pub stops_part : {R : Type 0} (old now : Device P) (a : Option (List ℕ)) (s : Stop R) → IsNoInput s → IfKnown a (λ all. Leads g old now (IsFrontIn (name_of old) all)) → IsPouredInPart g old now a s
@@ -149,11 +149,11 @@ module _ {P : Type 0} (g : Ghosts P) where
   stops_part old now a s is part = absurd is
 
   -- ---- the last commit
-  pub poured_in : PartsAreTrue g → (old mid new : Device P) (a : Option (List ℕ)) → g.came_from old.core mid.core → g.came_from mid.core new.core → IsTakenIn g old mid a → Leads g mid new IsFlushed → IsPouredIn g old new a
+  pub poured_in : PartsTell g → (old mid new : Device P) (a : Option (List ℕ)) → g.came_from old.core mid.core → g.came_from mid.core new.core → IsTakenIn g old mid a → Leads g mid new IsFlushed → IsPouredIn g old new a
   poured_in parts old mid new None from to is flushed = tt
   poured_in parts old mid new (Some all) from to is flushed = leads_on g parts old mid new (IsIn (name_of old) all) IsFlushed (IsWhollyIn (name_of old) all) from to (flushed_in (name_of old) all) is flushed
 
-  pub poured_part : PartsAreTrue g → (old mid new : Device P) (a : Option (List ℕ)) → g.came_from old.core mid.core → g.came_from mid.core new.core → IsTakenIn g old mid a → Leads g mid new (λ c d. d ≡ c)
+  pub poured_part : PartsTell g → (old mid new : Device P) (a : Option (List ℕ)) → g.came_from old.core mid.core → g.came_from mid.core new.core → IsTakenIn g old mid a → Leads g mid new (λ c d. d ≡ c)
       → IfKnown a (λ all. Leads g old new (IsFrontIn (name_of old) all))
   poured_part parts old mid new None from to is same = tt
   poured_part parts old mid new (Some all) from to is same = leads_on g parts old mid new (IsIn (name_of old) all) (λ c d. d ≡ c) (IsFrontIn (name_of old) all) from to

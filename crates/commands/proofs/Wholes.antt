@@ -20,21 +20,21 @@ use Rattle.commands.specs.declared.stop.Stop.TheVariants as stop
 module _ {P : Type 0} (g : StepGhosts P) where
   -- nothing was read
   pub none_printed : (pool : P) (name : List ℕ) (now : Option (List ℕ)) → IsPrinted g pool pool (AreFirst name) now now
-  none_printed pool name now = record { bytes = []; appends = appends_nothing now; are = λ v rep rest one truly volume there. (volume.bytes, refl) }
+  none_printed pool name now = record { bytes = []; appends = appends_nothing now; are = λ v rep rest one tell volume there. (volume.bytes, refl) }
 
   -- a device over a pool, and what became of it
   module _ (pool : P) (name : List ℕ) (old new : Device P) (core : core_of old ≡ pool) (named : name_of old ≡ name)
       (shows : (v : View) → g.represents pool v → IsAtRest v → v.next 1 ≡ 1 → Shows g old (at_rest v)) where
     -- from a pool at rest
-    led : (becomes : Contents → Contents → Type 0) → Leads g old new becomes → (v : View) → g.represents pool v → IsAtRest v → v.next 1 ≡ 1 → g.answers_truly pool (core_of new) → (d : Contents) × Shows g new d × becomes (at_rest v) d
-    led becomes leads v rep rest one truly = leads (at_rest v) (shows v rep rest one) (subst (λ x. g.answers_truly x (core_of new)) (sym core) truly)
+    led : (becomes : Contents → Contents → Type 0) → Leads g old new becomes → (v : View) → g.represents pool v → IsAtRest v → v.next 1 ≡ 1 → g.answers_tell pool (core_of new) → (d : Contents) × Shows g new d × becomes (at_rest v) d
+    led becomes leads v rep rest one tell = leads (at_rest v) (shows v rep rest one) (subst (λ x. g.answers_tell x (core_of new)) (sym core) tell)
 
     first_of : (n : ℕ) (before after : Option (List ℕ)) → IsPouredOut g old new n before after → IsPrinted g pool (core_of new) (AreFirst name) before after
     first_of n before after poured = record {
       bytes = poured.bytes;
       appends = poured.appends;
-      are = λ v rep rest one truly volume there.
-          let all = led (AreFront (name_of old) n poured.bytes) poured.reads v rep rest one truly in
+      are = λ v rep rest one tell volume there.
+          let all = led (AreFront (name_of old) n poured.bytes) poured.reads v rep rest one tell in
           let front : poured.bytes ≡ take n volume.bytes = all.2.1 volume (ap (λ l. volume_at l (v.pools v.committed)) named ∙ there) in
           (drop n volume.bytes, sym (take-append-drop n volume.bytes) ∙ ap (λ l. l ++ drop n volume.bytes) (sym front));
     }
@@ -43,10 +43,10 @@ module _ {P : Type 0} (g : StepGhosts P) where
     whole_of size before after sized poured = record {
       bytes = poured.bytes;
       appends = poured.appends;
-      are = λ v rep rest one truly.
+      are = λ v rep rest one tell.
           let shown = shows v rep rest one in
           let found = subst (HasOfSize name size) shown.now (sized shown.view (subst (λ x. g.represents x shown.view) core shown.represents)) in
-          let all = led (AreFront (name_of old) size poured.bytes) poured.reads v rep rest one truly in
+          let all = led (AreFront (name_of old) size poured.bytes) poured.reads v rep rest one tell in
           let front : poured.bytes ≡ take size found.0.bytes = all.2.1 found.0 (ap (λ l. volume_at l (v.pools v.committed)) named ∙ found.1) in
           (found.0, found.1, front ∙ (ap (λ n. take n found.0.bytes) found.2 ∙ take-length found.0.bytes));
     }
@@ -60,14 +60,14 @@ module _ {P : Type 0} (g : StepGhosts P) where
 
     module _ (has : (c : Contents) → Shows g new c → Has g (core_of new) c) where
       all_in : (all : List ℕ) → Leads g old new (IsWhollyIn (name_of old) all) → FromRest g pool (core_of new) (HasAll g (core_of new) name all)
-      all_in all leads = λ v rep rest one truly.
-          let d = led (IsWhollyIn (name_of old) all) leads v rep rest one truly in
+      all_in all leads = λ v rep rest one tell.
+          let d = led (IsWhollyIn (name_of old) all) leads v rep rest one tell in
           let whole = subst (λ l. IsWhollyIn l all (at_rest v) d.0) named d.2 in
           record { contents = d.0; has = has d.0 d.1; now = whole.now; safe = whole.safe }
 
       front_in : (all : List ℕ) → Leads g old new (IsFrontIn (name_of old) all) → FromRest g pool (core_of new) (HasFront g (core_of new) name all)
-      front_in all leads = λ v rep rest one truly.
-          let d = led (IsFrontIn (name_of old) all) leads v rep rest one truly in
+      front_in all leads = λ v rep rest one tell.
+          let d = led (IsFrontIn (name_of old) all) leads v rep rest one tell in
           let part = subst (λ l. IsFrontIn l all (at_rest v) d.0) named d.2 in
           record { contents = d.0; has = has d.0 d.1; front = part.front; back = part.back; parts = part.parts; safe = part.safe refl }
 

@@ -61,7 +61,7 @@ module _ {S P F R : Type 0} (pools : Ghosts S P F R) where
       pub last : P
       pub front : F
       pub opened : IsOpened old files pool last front new
-      pub goes : Goes steps.represents steps.answers_truly steps.links pool (Read name offset len) (Bytes bytes) last
+      pub goes : Goes steps.represents steps.answers_tell steps.links pool (Read name offset len) (Bytes bytes) last
 
     -- the read was refused
     pub record IsReadRefused (old : S) (files : List (List ℕ)) (name : List ℕ) (offset len : ℕ) (cause : Refusal) (new : S) : Type 0 where
@@ -70,7 +70,7 @@ module _ {S P F R : Type 0} (pools : Ghosts S P F R) where
       pub front : F
       pub opened : IsOpened old files pool last front new
       pub reply : Reply
-      pub goes : Goes steps.represents steps.answers_truly steps.links pool (Read name offset len) reply last
+      pub goes : Goes steps.represents steps.answers_tell steps.links pool (Read name offset len) reply last
       pub why : (reply ≡ Refused cause) ⊎ (cause ≡ NoMemory)
 
     -- why a read is not done: the pool was not opened, or the read was refused

@@ -24,9 +24,9 @@ abbrev pub AreFirst : List ℕ → List ℕ → PlainPool → Type 0
 AreFirst name bytes pool = (volume : PlainVolume) → volume_at name pool ≡ Some volume → (rest : List ℕ) × (volume.bytes ≡ bytes ++ rest)
 
 module _ {P : Type 0} (steps : StepGhosts P) where
-  -- from each view of a pool at rest, where the disks answered truly, this holds of its last committed pool
+  -- from each view of a pool at rest, where what the disks answered tells what was written, this holds of its last committed pool
   abbrev pub FromRest : P → P → (PlainPool → Type 0) → Type 0
-  FromRest pool last holds = (v : View) → steps.represents pool v → IsAtRest v → v.next 1 ≡ 1 → steps.answers_truly pool last → holds (v.pools v.committed)
+  FromRest pool last holds = (v : View) → steps.represents pool v → IsAtRest v → v.next 1 ≡ 1 → steps.answers_tell pool last → holds (v.pools v.committed)
 
   -- the pool has, now and after a stop, what it had with these bytes in the volume
   pub record HasAll (last : P) (name all : List ℕ) (pool : PlainPool) : Type 0 where

@@ -5,7 +5,7 @@ ghost use Rattle.block_pointer.specs.Block.{FitsBlock};
 ghost use Rattle.block_store.specs.Blocks.{Contents, Extends};
 ghost use Rattle.block_store.specs.Causes.{IsCaused};
 ghost use Rattle.block_store.specs.Losses.{IsForLoss};
-ghost use Rattle.block_store.specs.Steps.{OnlyReadsBlocks, AnswersAreTrue};
+ghost use Rattle.block_store.specs.Steps.{OnlyReadsBlocks, AnswersTell};
 ghost use Rattle.block_store.specs.Store.{Holds};
 ghost use Rattle.dataset_changes.specs.States.{AreOfOneSet, HaveSameLists, IsNumber, birth_of, list_at, record_at, set_of};
 ghost use Rattle.dataset_changes.specs.declared.states.ListState.TheVariants as lists;
@@ -92,7 +92,7 @@ pub fn group_before<D: Disk + Drop>(
         (objects : ℕ → Option Object) (own : List Block) (blocks : ℕ → List Block) (pool : Pool)
         (readings : ℕ → Reading) → Holds store.old stored
         → AreObjects stored (birth_of changes.old) (set_of changes.old) objects own blocks
-        → AnswersAreTrue store.old store.new
+        → AnswersTell store.old store.new []
         → SpellsChains known group objects changes.old pool readings
         → SpellsChains known group objects changes.new pool readings
         × ((pool.datasets (dataset.now).previous).group ≡ found)) }
@@ -103,7 +103,7 @@ pub fn group_before<D: Disk + Drop>(
         (objects : ℕ → Option Object) (own : List Block) (blocks : ℕ → List Block) (pool : Pool)
         (readings : ℕ → Reading) → Holds store.old stored
         → AreObjects stored (birth_of changes.old) (set_of changes.old) objects own blocks
-        → AnswersAreTrue store.old store.new
+        → AnswersTell store.old store.new []
         → SpellsChains known group objects changes.old pool readings
         → (number : ℕ) → (pool.datasets number).before ≡ (dataset.now).previous
         → IsForLoss refusal) }
@@ -135,7 +135,7 @@ pub fn overwrite<D: Disk + Drop>(
         (readings : ℕ → Reading) (r : DatasetRecord) (after entered : List Block)
         (reading : Reading) → Holds store.old stored
         → AreObjects stored (birth_of changes.old) (set_of changes.old) objects own blocks
-        → AnswersAreTrue store.old store.new → Extends known later
+        → AnswersTell store.old store.new [] → Extends known later
         → SpellsChains known group objects changes.old pool readings
         → IsHead pool.datasets (head.now).number → IsWritable pool (head.now).number
         → AreNew pool entered
@@ -160,13 +160,13 @@ pub fn overwrite<D: Disk + Drop>(
         ⊎ IsChainRefused store.old store.new changes.old changes.new (head.now).number kinds.Volume
         refusal) }
 
-    // Over disks that answer truly, and where what left was the head's, only memory is wanting, or
+    // Over disks whose answers tell, and where what left was the head's, only memory is wanting, or
     // disks.
     ensures known { IfErr result (λ refusal. (stored known : Contents) (group : ℕ)
         (objects : ℕ → Option Object) (own : List Block) (blocks : ℕ → List Block) (pool : Pool)
         (readings : ℕ → Reading) → Holds store.old stored
         → AreObjects stored (birth_of changes.old) (set_of changes.old) objects own blocks
-        → AnswersAreTrue store.old store.new
+        → AnswersTell store.old store.new []
         → SpellsChains known group objects changes.old pool readings
         → IsHead pool.datasets (head.now).number
         → ((block : Block) → Contains (head.now).left.items block

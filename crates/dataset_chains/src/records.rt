@@ -4,7 +4,7 @@ ghost use Rattle.block_pointer.specs.declared.block.Block.{Block};
 ghost use Rattle.block_store.specs.Blocks.{Contents};
 ghost use Rattle.block_store.specs.Causes.{IsCaused};
 ghost use Rattle.block_store.specs.Losses.{IsForLoss};
-ghost use Rattle.block_store.specs.Steps.{OnlyReadsBlocks, AnswersAreTrue};
+ghost use Rattle.block_store.specs.Steps.{OnlyReadsBlocks, AnswersTell};
 ghost use Rattle.block_store.specs.Store.{Holds};
 ghost use Rattle.dataset_changes.specs.Over.{AreOver};
 ghost use Rattle.dataset_changes.specs.States.{AreOfOneSet, HaveSameLists, IsNumber, birth_of, record_at, set_of};
@@ -41,7 +41,7 @@ pub(crate) fn record_of_kind<D: Disk + Drop>(
         (objects : ℕ → Option Object) (own : List Block) (blocks : ℕ → List Block) (pool : Pool)
         (readings : ℕ → Reading) → Holds store.old stored
         → AreObjects stored (birth_of changes.old) (set_of changes.old) objects own blocks
-        → AnswersAreTrue store.old store.new
+        → AnswersTell store.old store.new []
         → SpellsChains known group objects changes.old pool readings
         → SpellsChains known group objects changes.new pool readings
         × IsRecordAlone objects changes.new number found) }
@@ -52,7 +52,7 @@ pub(crate) fn record_of_kind<D: Disk + Drop>(
         (objects : ℕ → Option Object) (own : List Block) (blocks : ℕ → List Block) (pool : Pool)
         (readings : ℕ → Reading) → Holds store.old stored
         → AreObjects stored (birth_of changes.old) (set_of changes.old) objects own blocks
-        → AnswersAreTrue store.old store.new
+        → AnswersTell store.old store.new []
         → SpellsChains known group objects changes.old pool readings
         → (pool.datasets number).kind ≡ kind_of kind → IsForLoss refusal) }
 {
@@ -83,7 +83,7 @@ pub(crate) fn pass_next<D: Disk + Drop>(
     ensures value { OnOk result ((stored : Contents) (objects : ℕ → Option Object)
         (own : List Block) (blocks : ℕ → List Block) → Holds store.old stored
         → AreObjects stored (birth_of changes.old) (set_of changes.old) objects own blocks
-        → AnswersAreTrue store.old store.new → AreOver objects changes.old
+        → AnswersTell store.old store.new [] → AreOver objects changes.old
         → AreOver objects changes.new
         × IsNextPassed objects changes.old changes.new before from to) }
     ensures caused { IfErr result (IsCaused store.old store.new []) }
@@ -93,7 +93,7 @@ pub(crate) fn pass_next<D: Disk + Drop>(
         (objects : ℕ → Option Object) (own : List Block) (blocks : ℕ → List Block) (pool : Pool)
         (readings : ℕ → Reading) → Holds store.old stored
         → AreObjects stored (birth_of changes.old) (set_of changes.old) objects own blocks
-        → AnswersAreTrue store.old store.new
+        → AnswersTell store.old store.new []
         → SpellsChains known group objects changes.old pool readings
         → (number : ℕ) → (pool.datasets number).before ≡ before → IsForLoss refusal) }
 {

@@ -4,7 +4,7 @@ ghost use Rattle.block_pointer.specs.declared.block.Block.{Block};
 ghost use Rattle.block_store.specs.Blocks.{Contents};
 ghost use Rattle.block_store.specs.Causes.{IsCaused};
 ghost use Rattle.block_store.specs.Losses.{IsForLoss};
-ghost use Rattle.block_store.specs.Steps.{OnlyReadsBlocks, AnswersAreTrue};
+ghost use Rattle.block_store.specs.Steps.{OnlyReadsBlocks, AnswersTell};
 ghost use Rattle.block_store.specs.Store.{Holds};
 ghost use Rattle.dataset_changes.specs.States.{AreOfOneSet, IsNumber, birth_of, set_of};
 ghost use Rattle.dead_list.specs.Datasets.{Pool, updated};
@@ -48,7 +48,7 @@ pub fn snapshot<D: Disk + Drop>(
         (own : List Block) (blocks : ℕ → List Block) (pool : Pool) (readings : ℕ → Reading)
         → Holds store.old stored
         → AreObjects stored (birth_of changes.old) (set_of changes.old) objects own blocks
-        → AnswersAreTrue store.old store.new
+        → AnswersTell store.old store.new []
         → SpellsChains known group objects changes.old pool readings
         → IsHead pool.datasets head → IsUnused pool.datasets numbers.dataset
         → AreNewNumbers objects changes.old numbers.dataset numbers.dead_list
@@ -63,7 +63,7 @@ pub fn snapshot<D: Disk + Drop>(
         (objects : ℕ → Option Object) (own : List Block) (blocks : ℕ → List Block) (pool : Pool)
         (readings : ℕ → Reading) → Holds store.old stored
         → AreObjects stored (birth_of changes.old) (set_of changes.old) objects own blocks
-        → AnswersAreTrue store.old store.new
+        → AnswersTell store.old store.new []
         → SpellsChains known group objects changes.old pool readings
         → IsHead pool.datasets head → IsForLoss refusal) }
 {
@@ -112,7 +112,7 @@ pub fn clone<D: Disk + Drop>(
         (own : List Block) (blocks : ℕ → List Block) (pool : Pool) (readings : ℕ → Reading)
         → Holds store.old stored
         → AreObjects stored (birth_of changes.old) (set_of changes.old) objects own blocks
-        → AnswersAreTrue store.old store.new
+        → AnswersTell store.old store.new []
         → SpellsChains known group objects changes.old pool readings
         → IsSnapshot pool.datasets snapshot → IsUnused pool.datasets numbers.dataset
         → AreNewNumbers objects changes.old numbers.dataset numbers.dead_list
@@ -130,7 +130,7 @@ pub fn clone<D: Disk + Drop>(
         (objects : ℕ → Option Object) (own : List Block) (blocks : ℕ → List Block) (pool : Pool)
         (readings : ℕ → Reading) → Holds store.old stored
         → AreObjects stored (birth_of changes.old) (set_of changes.old) objects own blocks
-        → AnswersAreTrue store.old store.new
+        → AnswersTell store.old store.new []
         → SpellsChains known group objects changes.old pool readings
         → IsSnapshot pool.datasets snapshot
         → IsForLoss refusal ⊎ HasMostClones changes.new snapshot refusal) }

@@ -65,7 +65,7 @@ IsListNow object (Some (lists.Whole one)) list = IsPermutation one list
 IsListNow object (Some (lists.Made one)) list = IsPermutation one list
 IsListNow object (Some lists.Gone) list = ⊥
 
--- the object has this record now, as the group leaves it so far, or this dead list
+-- the object has this record now, as the group leaves it so far
 abbrev pub HasRecordNow : (ℕ → Option Object) → DatasetChanges → ℕ → DatasetRecord → Type 0
 HasRecordNow objects changes number r = IsRecordNow (objects number) (record_at changes number) r
 

@@ -12,7 +12,7 @@ use Rattle.dataset_changes.specs.declared.states.RecordState.{RecordState}
 use Rattle.dataset_changes.specs.declared.states.RecordState.TheVariants as records
 use Rattle.meta_objset.specs.declared.record.DatasetRecord.{DatasetRecord}
 
--- the set, and the group that its blocks were born in or before
+-- the set of objects as it is committed
 abbrev pub set_of : DatasetChanges → ObjectSet
 set_of changes = changes.set
 
@@ -20,7 +20,7 @@ set_of changes = changes.set
 abbrev pub birth_of : DatasetChanges → ℕ
 birth_of changes = changes.birth
 
--- what became of the record at a number, and of the dead list; nothing where neither was read nor changed
+-- what became of the record at a number; None where it was neither read nor changed
 abbrev pub record_at : DatasetChanges → ℕ → Option RecordState
 record_at changes number = get nat_cmp changes.records number
 
@@ -36,7 +36,7 @@ AreUntouched changes = (number : ℕ) → (record_at changes number ≡ None) ×
 abbrev pub AreOfOneSet : DatasetChanges → DatasetChanges → Type 0
 AreOfOneSet old new = (set_of new ≡ set_of old) × (birth_of new ≡ birth_of old)
 
--- the same became of each record, and of each list
+-- the same became of each record
 abbrev pub HaveSameRecords : DatasetChanges → DatasetChanges → Type 0
 HaveSameRecords old new = (number : ℕ) → record_at new number ≡ record_at old number
 

@@ -5,7 +5,7 @@ ghost use Rattle.block_pointer.specs.Block.{FitsBlock};
 ghost use Rattle.block_store.specs.Blocks.{Contents};
 ghost use Rattle.block_store.specs.Causes.{IsCaused};
 ghost use Rattle.block_store.specs.Losses.{IsForLoss};
-ghost use Rattle.block_store.specs.Steps.{OnlyReadsBlocks, AnswersAreTrue};
+ghost use Rattle.block_store.specs.Steps.{OnlyReadsBlocks, AnswersTell};
 ghost use Rattle.block_store.specs.Store.{Holds};
 ghost use Rattle.dead_list_objects.specs.Lists.{dead_list_kind, HasDeadList, IsEndUnread, IsListRefused};
 ghost use Rattle.dead_list_objects.specs.declared.refusal.Refusal.{Refusal as ListRefusal};
@@ -49,7 +49,7 @@ impl DatasetChanges {
         ensures value { IfOk result (λ found. (stored : Contents) (objects : ℕ → Option Object)
             (own : List Block) (blocks : ℕ → List Block) → Holds store.old stored
             → AreObjects stored (birth_of self.old) (set_of self.old) objects own blocks
-            → AnswersAreTrue store.old store.new → AreOver objects self.old
+            → AnswersTell store.old store.new [] → AreOver objects self.old
             → AreOver objects self.new × HasListNow objects self.old number found
             × ((list : List Block) → HasListNow objects self.old number list
             → IsPermutation found list)) }
@@ -58,7 +58,7 @@ impl DatasetChanges {
         ensures known { IfErr result (λ refusal. (stored : Contents) (objects : ℕ → Option Object)
             (own : List Block) (blocks : ℕ → List Block) → Holds store.old stored
             → AreObjects stored (birth_of self.old) (set_of self.old) objects own blocks
-            → AnswersAreTrue store.old store.new → IsNumber number → (list : List Block)
+            → AnswersTell store.old store.new [] → IsNumber number → (list : List Block)
             → HasListNow objects self.old number list → IsForLoss refusal) }
     {
         if !is_number(number) {
@@ -107,7 +107,7 @@ impl DatasetChanges {
         ensures value { OnOk result ((stored : Contents) (objects : ℕ → Option Object)
             (own : List Block) (blocks : ℕ → List Block) → Holds store.old stored
             → AreObjects stored (birth_of self.old) (set_of self.old) objects own blocks
-            → AnswersAreTrue store.old store.new → AreOver objects self.old
+            → AnswersTell store.old store.new [] → AreOver objects self.old
             → (list : List Block) → HasListNow objects self.old number list
             → AreOver objects self.new × HasListNow objects self.new number (list ++ added.now)) }
         ensures caused { IfErr result (IsCaused store.old store.new []) }
@@ -115,7 +115,7 @@ impl DatasetChanges {
         ensures known { IfErr result (λ refusal. (stored : Contents) (objects : ℕ → Option Object)
             (own : List Block) (blocks : ℕ → List Block) → Holds store.old stored
             → AreObjects stored (birth_of self.old) (set_of self.old) objects own blocks
-            → AnswersAreTrue store.old store.new → IsNumber number → (list : List Block)
+            → AnswersTell store.old store.new [] → IsNumber number → (list : List Block)
             → HasListNow objects self.old number list → IsForLoss refusal) }
     {
         if added.is_empty() {
@@ -191,7 +191,7 @@ impl DatasetChanges {
         ensures value { IfOk result (λ found. (stored : Contents) (objects : ℕ → Option Object)
             (own : List Block) (blocks : ℕ → List Block) → Holds store.old stored
             → AreObjects stored (birth_of self.now) (set_of self.now) objects own blocks
-            → AnswersAreTrue store.old store.new → IsListOver (objects number) state
+            → AnswersTell store.old store.new [] → IsListOver (objects number) state
             → IsListNow (objects number) state found
             × ((list : List Block) → IsListNow (objects number) state list
             → IsPermutation found list)) }
@@ -203,7 +203,7 @@ impl DatasetChanges {
         ensures known { IfErr result (λ refusal. (stored : Contents) (objects : ℕ → Option Object)
             (own : List Block) (blocks : ℕ → List Block) → Holds store.old stored
             → AreObjects stored (birth_of self.now) (set_of self.now) objects own blocks
-            → AnswersAreTrue store.old store.new → (list : List Block)
+            → AnswersTell store.old store.new [] → (list : List Block)
             → IsListNow (objects number) state list → IsForLoss refusal) }
     {
         match state {
@@ -230,11 +230,11 @@ impl DatasetChanges {
         ensures value { IfOk result (λ found. (stored : Contents) (objects : ℕ → Option Object)
             (own : List Block) (blocks : ℕ → List Block) → Holds store.old stored
             → AreObjects stored (birth_of self.now) (set_of self.now) objects own blocks
-            → AnswersAreTrue store.old store.new → HasDeadList (objects number) found) }
+            → AnswersTell store.old store.new [] → HasDeadList (objects number) found) }
         ensures one { IfOk result (λ found. (stored : Contents) (objects : ℕ → Option Object)
             (own : List Block) (blocks : ℕ → List Block) → Holds store.old stored
             → AreObjects stored (birth_of self.now) (set_of self.now) objects own blocks
-            → AnswersAreTrue store.old store.new → (list : List Block)
+            → AnswersTell store.old store.new [] → (list : List Block)
             → HasDeadList (objects number) list → IsPermutation found list) }
         ensures caused { IfErr result (IsCaused store.old store.new []) }
         ensures refused { IfErr result (λ refusal. (why : ListRefusal) × (refusal ≡ of_list why)
@@ -243,7 +243,7 @@ impl DatasetChanges {
         ensures known { IfErr result (λ refusal. (stored : Contents) (objects : ℕ → Option Object)
             (own : List Block) (blocks : ℕ → List Block) → Holds store.old stored
             → AreObjects stored (birth_of self.now) (set_of self.now) objects own blocks
-            → AnswersAreTrue store.old store.new → (list : List Block)
+            → AnswersTell store.old store.new [] → (list : List Block)
             → HasDeadList (objects number) list → IsForLoss refusal) }
     {
         match dead_list_objects::read_dead_list(&self.set, store, alloc, number, self.birth, &[]) {
@@ -267,7 +267,7 @@ impl DatasetChanges {
         ensures value { IfOk result (λ known. (stored : Contents) (objects : ℕ → Option Object)
             (own : List Block) (blocks : ℕ → List Block) → Holds store.old stored
             → AreObjects stored (birth_of self.now) (set_of self.now) objects own blocks
-            → AnswersAreTrue store.old store.new → IsListOver (objects number) state
+            → AnswersTell store.old store.new [] → IsListOver (objects number) state
             → (list : List Block) → IsListNow (objects number) state list
             → IsListOver (objects number) (Some known)
             × IsListNow (objects number) (Some known) list) }
@@ -278,7 +278,7 @@ impl DatasetChanges {
         ensures known { IfErr result (λ refusal. (stored : Contents) (objects : ℕ → Option Object)
             (own : List Block) (blocks : ℕ → List Block) → Holds store.old stored
             → AreObjects stored (birth_of self.now) (set_of self.now) objects own blocks
-            → AnswersAreTrue store.old store.new → (list : List Block)
+            → AnswersTell store.old store.new [] → (list : List Block)
             → IsListNow (objects number) state list → IsForLoss refusal) }
     {
         match state {
@@ -302,7 +302,7 @@ impl DatasetChanges {
         ensures value { IfOk result (λ end. (stored : Contents) (objects : ℕ → Option Object)
             (own : List Block) (blocks : ℕ → List Block) → Holds store.old stored
             → AreObjects stored (birth_of self.now) (set_of self.now) objects own blocks
-            → AnswersAreTrue store.old store.new → (rows : List ℕ)
+            → AnswersTell store.old store.new [] → (rows : List ℕ)
             → HasTable dead_list_kind (objects number) rows
             → IsEndOf dead_list_kind (objects number) rows end) }
         ensures caused { IfErr result (IsCaused store.old store.new []) }
@@ -312,7 +312,7 @@ impl DatasetChanges {
         ensures known { IfErr result (λ refusal. (stored : Contents) (objects : ℕ → Option Object)
             (own : List Block) (blocks : ℕ → List Block) → Holds store.old stored
             → AreObjects stored (birth_of self.now) (set_of self.now) objects own blocks
-            → AnswersAreTrue store.old store.new → (list : List Block)
+            → AnswersTell store.old store.new [] → (list : List Block)
             → HasDeadList (objects number) list → IsForLoss refusal) }
     {
         let birth = self.birth;

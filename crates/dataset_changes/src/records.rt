@@ -4,7 +4,7 @@ ghost use Rattle.block_pointer.specs.declared.block.Block.{Block};
 ghost use Rattle.block_store.specs.Blocks.{Contents};
 ghost use Rattle.block_store.specs.Causes.{IsCaused};
 ghost use Rattle.block_store.specs.Losses.{IsForLoss};
-ghost use Rattle.block_store.specs.Steps.{OnlyReadsBlocks, AnswersAreTrue};
+ghost use Rattle.block_store.specs.Steps.{OnlyReadsBlocks, AnswersTell};
 ghost use Rattle.block_store.specs.Store.{Holds};
 ghost use Rattle.meta_objset.specs.Found.{IsRecordFound, IsRecordRefused};
 ghost use Rattle.meta_objset.specs.Datasets.{HasRecord};
@@ -63,11 +63,11 @@ impl DatasetChanges {
         ensures found { IfOk result (λ found. record_at self.old number ≡ None
             → IsRecordFound store.old.spaces (set_of self.old) (birth_of self.old) number found) }
 
-        // Over disks that answer truly it is the one that there is now.
+        // Over disks whose answers tell it is the one that there is now.
         ensures value { IfOk result (λ found. (stored : Contents) (objects : ℕ → Option Object)
             (own : List Block) (blocks : ℕ → List Block) → Holds store.old stored
             → AreObjects stored (birth_of self.old) (set_of self.old) objects own blocks
-            → AnswersAreTrue store.old store.new → AreOver objects self.old
+            → AnswersTell store.old store.new [] → AreOver objects self.old
             → AreOver objects self.new × HasRecordNow objects self.old number found
             × ((r : DatasetRecord) → HasRecordNow objects self.old number r → r ≡ found)) }
 
@@ -75,12 +75,12 @@ impl DatasetChanges {
         ensures caused { IfErr result (IsCaused store.old store.new []) }
         ensures refused { IfErr result (IsRecordUnread store.old store.new self.old number) }
 
-        // And one that is there is read, over disks that answer truly, unless too many disks miss of a
+        // And one that is there is read, over disks whose answers tell, unless too many disks miss of a
         // block.
         ensures known { IfErr result (λ refusal. (stored : Contents) (objects : ℕ → Option Object)
             (own : List Block) (blocks : ℕ → List Block) → Holds store.old stored
             → AreObjects stored (birth_of self.old) (set_of self.old) objects own blocks
-            → AnswersAreTrue store.old store.new → IsNumber number → (r : DatasetRecord)
+            → AnswersTell store.old store.new [] → IsNumber number → (r : DatasetRecord)
             → HasRecordNow objects self.old number r → IsForLoss refusal) }
     {
         if !is_number(number) {
@@ -189,11 +189,11 @@ impl DatasetChanges {
         ensures value { IfOk result (λ found. (stored : Contents) (objects : ℕ → Option Object)
             (own : List Block) (blocks : ℕ → List Block) → Holds store.old stored
             → AreObjects stored (birth_of self.old) (set_of self.old) objects own blocks
-            → AnswersAreTrue store.old store.new → HasRecord (objects number) found) }
+            → AnswersTell store.old store.new [] → HasRecord (objects number) found) }
         ensures one { IfOk result (λ found. (stored : Contents) (objects : ℕ → Option Object)
             (own : List Block) (blocks : ℕ → List Block) → Holds store.old stored
             → AreObjects stored (birth_of self.old) (set_of self.old) objects own blocks
-            → AnswersAreTrue store.old store.new → (other : DatasetRecord)
+            → AnswersTell store.old store.new [] → (other : DatasetRecord)
             → HasRecord (objects number) other → found ≡ other) }
         ensures caused { IfErr result (IsCaused store.old store.new []) }
         ensures refused { IfErr result (λ refusal. (refusal ≡ Refusal.NoMemory)
@@ -202,7 +202,7 @@ impl DatasetChanges {
         ensures known { IfErr result (λ refusal. (stored : Contents) (objects : ℕ → Option Object)
             (own : List Block) (blocks : ℕ → List Block) → Holds store.old stored
             → AreObjects stored (birth_of self.old) (set_of self.old) objects own blocks
-            → AnswersAreTrue store.old store.new → (r : DatasetRecord)
+            → AnswersTell store.old store.new [] → (r : DatasetRecord)
             → HasRecord (objects number) r → IsForLoss refusal) }
     {
         let found = meta_objset::read_record(&self.set, store, alloc, number, self.birth, &[])?;

@@ -2,7 +2,7 @@
 use Rattle.std.proofs.Common.{◌≡◌, ◌≢◌, ℕ, List, [], Option, Some, inr, sym, ap, ◌∙◌, subst}
 use Rattle.block_pointer.specs.declared.block.Block.{Block}
 use Rattle.block_store.specs.Blocks.{Contents}
-use Rattle.block_store.specs.Steps.{AnswersAreTrue, OnlyReadsBlocks}
+use Rattle.block_store.specs.Steps.{AnswersTell, OnlyReadsBlocks}
 use Rattle.block_store.specs.Store.{Holds, Store}
 use Rattle.block_store.specs.declared.refusal.Refusal.{Refusal}
 use Rattle.dataset_chains.proofs.ReadRecords.{read_of, read_on}
@@ -15,7 +15,7 @@ use Rattle.dead_list.specs.Datasets.{Free, Head, Kind, Pool}
 use Rattle.dead_list.specs.Datasets.{Snapshot as ASnapshot}
 use Rattle.dead_list.specs.Operations.{DestroyHead, DestroySnapshot, Makes, MayDo}
 use Rattle.dnode.specs.declared.object_set.ObjectSet.{ObjectSet}
-use Rattle.dnode_tree.proofs.FurtherReads.{true_after, true_before}
+use Rattle.dnode_tree.proofs.FurtherReads.{told_after, told_before}
 use Rattle.meta_objset.specs.declared.record.DatasetKind.{DatasetKind}
 use Rattle.meta_objset.specs.declared.record.DatasetRecord.{DatasetRecord}
 use Rattle.objset.specs.Objects.{AreObjects, Object}
@@ -50,26 +50,26 @@ pub record IsBehind (mid new : Store) (read : DatasetChanges) (stored : Contents
     (readings : ℕ → Reading) (number : ℕ) (kind : DatasetKind) : Type 0 where
   pub held : Holds mid stored
   pub are : AreObjects stored (birth_of read) (set_of read) objects own blocks
-  pub honest : AnswersAreTrue mid new
+  pub tell : AnswersTell mid new []
   pub spells : SpellsChains stored group objects read pool readings
   pub kind_as : (pool.datasets number).kind ≡ kind_of kind
 
 module _ (old mid new : Store) (changes read : DatasetChanges) (number group : ℕ) (r : DatasetRecord) (first : OnlyReadsBlocks old mid []) (one_set : AreOfOneSet changes read) where
   module _ (rest : OnlyReadsBlocks mid new []) (lists : HaveSameLists changes read) (kept : HasRecordPut changes number (Some (once_read (record_at changes number) r)) read)
       (value : (stored : Contents) (objects : ℕ → Option Object) (own : List Block) (blocks : ℕ → List Block) → Holds old stored
-      → AreObjects stored (birth_of changes) (set_of changes) objects own blocks → AnswersAreTrue old mid → AreOver objects changes
+      → AreObjects stored (birth_of changes) (set_of changes) objects own blocks → AnswersTell old mid [] → AreOver objects changes
       → AreOver objects read × HasRecordNow objects changes number r × ((s : DatasetRecord) → HasRecordNow objects changes number s → s ≡ r)) where
     pub behind : (stored : Contents) (objects : ℕ → Option Object) (own : List Block) (blocks : ℕ → List Block) (pool : Pool) (readings : ℕ → Reading) → Holds old stored
-        → AreObjects stored (birth_of changes) (set_of changes) objects own blocks → AnswersAreTrue old new → SpellsChains stored group objects changes pool readings
+        → AreObjects stored (birth_of changes) (set_of changes) objects own blocks → AnswersTell old new [] → SpellsChains stored group objects changes pool readings
         → (kind : DatasetKind) → r.kind ≡ kind → IsBehind mid new read stored group objects own blocks pool readings number kind
-    behind stored objects own blocks pool readings held are honest spells kind is =
-        let there = value stored objects own blocks held are (true_before old mid new [] first rest honest) spells.over in
+    behind stored objects own blocks pool readings held are tell spells kind is =
+        let there = value stored objects own blocks held are (told_before old mid new [] first rest tell) spells.over in
         let of = read_of stored group objects pool readings changes read number r kept lists there spells (λ free. (spells.none number free).none r there.1) in
         record {
           held = first.keeps stored held;
           are = subst (λ (set : ObjectSet). AreObjects stored (birth_of read) set objects own blocks) (sym one_set.0)
               (subst (λ (birth : ℕ). AreObjects stored birth (set_of changes) objects own blocks) (sym one_set.1) are);
-          honest = true_after old mid new [] first rest honest;
+          tell = told_after old mid new [] first rest tell;
           spells = read_on stored group objects pool readings changes read number r kept lists there spells;
           kind_as = of.0.is.kind ∙ ap (λ (x : DatasetRecord). kind_of x.kind) of.1 ∙ ap kind_of is;
         }

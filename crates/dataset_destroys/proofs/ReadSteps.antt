@@ -16,7 +16,7 @@ use Rattle.dataset_chains.specs.ListState.{ListState}
 use Rattle.dataset_chains.specs.RecordState.{RecordState}
 use Rattle.dataset_chains.specs.RecordState.TheVariants as records
 use Rattle.dnode.specs.declared.object_set.ObjectSet.{ObjectSet}
-use Rattle.dnode_tree.proofs.FurtherReads.{true_before, true_after}
+use Rattle.dnode_tree.proofs.FurtherReads.{told_before, told_after}
 use Rattle.meta_objset.specs.declared.record.DatasetRecord.{DatasetRecord}
 use Rattle.objset.specs.Objects.{AreObjects, Object}
 use Rattle.dataset_destroys.specs.Steps.{AreSameNow, IsFound, IsTheRecord, TellsObjects}
@@ -32,7 +32,7 @@ one_set_same changes = (refl, refl)
 pub tells_first : (old mid new : Store) (changes : DatasetChanges) (stored : Contents) (objects : ℕ → Option Object) → OnlyReadsBlocks old mid [] → OnlyReadsBlocks mid new []
     → TellsObjects old new changes stored objects → TellsObjects old mid changes stored objects
 tells_first old mid new changes stored objects first rest told =
-    record { own = told.own; blocks = told.blocks; held = told.held; are = told.are; honest = true_before old mid new [] first rest told.honest }
+    record { own = told.own; blocks = told.blocks; held = told.held; are = told.are; tell = told_before old mid new [] first rest told.tell }
 
 pub tells_rest : (old mid new : Store) (changes later : DatasetChanges) (stored : Contents) (objects : ℕ → Option Object) → AreOfOneSet changes later → OnlyReadsBlocks old mid [] → OnlyReadsBlocks mid new []
     → TellsObjects old new changes stored objects → TellsObjects mid new later stored objects
@@ -42,7 +42,7 @@ tells_rest old mid new changes later stored objects same first rest told = recor
   held = first.keeps stored told.held;
   are = subst (λ (set : ObjectSet). AreObjects stored (birth_of later) set objects told.own told.blocks) (sym same.0)
       (subst (λ birth. AreObjects stored birth (set_of changes) objects told.own told.blocks) (sym same.1) told.are);
-  honest = true_after old mid new [] first rest told.honest;
+  tell = told_after old mid new [] first rest told.tell;
 }
 
 -- where no store was read
@@ -54,7 +54,7 @@ tells_later old new changes later stored objects same told = record {
   held = told.held;
   are = subst (λ (set : ObjectSet). AreObjects stored (birth_of later) set objects told.own told.blocks) (sym same.0)
       (subst (λ birth. AreObjects stored birth (set_of changes) objects told.own told.blocks) (sym same.1) told.are);
-  honest = told.honest;
+  tell = told.tell;
 }
 
 -- ---- refusals

@@ -2,7 +2,7 @@
 use Rattle.std.specs.Prelude.{ℕ, ◌≡◌, ◌≢◌, ◌↔◌, ◌==◌, ◌&&◌, ◌-◌, ◌++◌, cond, List, [], Option, Some, None, IsPermutation}
 use Rattle.block_pointer.specs.declared.block.Block.{Block}
 use Rattle.block_store.specs.Blocks.{Contents}
-use Rattle.block_store.specs.Steps.{AnswersAreTrue}
+use Rattle.block_store.specs.Steps.{AnswersTell}
 use Rattle.block_store.specs.Store.{Store, Holds}
 use Rattle.dataset_chains.specs.Over.{AreOver, HasListNow, HasRecordNow}
 use Rattle.dataset_chains.specs.Refused.{HasKnown}
@@ -13,13 +13,13 @@ use Rattle.meta_objset.specs.Record.{FitsRecord}
 use Rattle.meta_objset.specs.declared.record.DatasetRecord.{DatasetRecord}
 use Rattle.objset.specs.Objects.{Object, AreObjects}
 
--- the store has the objects of the set, and its disks answered truly since
+-- the store has the objects of the set, and what its disks answered since tells it
 pub record TellsObjects (old new : Store) (changes : DatasetChanges) (stored : Contents) (objects : ℕ → Option Object) : Type 0 where
   pub own : List Block
   pub blocks : ℕ → List Block
   pub held : Holds old stored
   pub are : AreObjects stored (birth_of changes) (set_of changes) objects own blocks
-  pub honest : AnswersAreTrue old new
+  pub tell : AnswersTell old new []
 
 -- ---- reads
 

@@ -4,7 +4,7 @@ ghost use Rattle.block_pointer.specs.declared.block.Block.{Block};
 ghost use Rattle.block_store.specs.Blocks.{Contents};
 ghost use Rattle.block_store.specs.Causes.{IsCaused};
 ghost use Rattle.block_store.specs.Losses.{IsForLoss};
-ghost use Rattle.block_store.specs.Steps.{OnlyReadsBlocks, AnswersAreTrue};
+ghost use Rattle.block_store.specs.Steps.{OnlyReadsBlocks, AnswersTell};
 ghost use Rattle.block_store.specs.Store.{Holds};
 ghost use Rattle.dataset_chains.specs.Chains.{Reading, SpellsChains};
 ghost use Rattle.dataset_chains.specs.States.{AreOfOneSet, birth_of, set_of};
@@ -43,7 +43,7 @@ pub fn destroy<D: Disk + Drop>(
         (objects : ℕ → Option Object) (own : List Block) (blocks : ℕ → List Block) (pool : Pool)
         (readings : ℕ → Reading) → Holds store.old stored
         → AreObjects stored (birth_of changes.old) (set_of changes.old) objects own blocks
-        → AnswersAreTrue store.old store.new
+        → AnswersTell store.old store.new []
         → SpellsChains stored group objects changes.old pool readings
         → MayDestroy pool number
         → (gone : List Block) × (freed.new.items ≡ freed.old.items ++ gone)
@@ -56,7 +56,7 @@ pub fn destroy<D: Disk + Drop>(
         (own : List Block) (blocks : ℕ → List Block) (pool : Pool) (readings : ℕ → Reading)
         → Holds store.old stored
         → AreObjects stored (birth_of changes.old) (set_of changes.old) objects own blocks
-        → AnswersAreTrue store.old store.new
+        → AnswersTell store.old store.new []
         → SpellsChains stored group objects changes.old pool readings
         → MayDestroy pool number → TouchesOwnLists objects changes.old changes.new) }
     ensures caused { IfErr result (IsCaused store.old store.new []) }
@@ -66,7 +66,7 @@ pub fn destroy<D: Disk + Drop>(
         (objects : ℕ → Option Object) (own : List Block) (blocks : ℕ → List Block) (pool : Pool)
         (readings : ℕ → Reading) → Holds store.old stored
         → AreObjects stored (birth_of changes.old) (set_of changes.old) objects own blocks
-        → AnswersAreTrue store.old store.new
+        → AnswersTell store.old store.new []
         → SpellsChains stored group objects changes.old pool readings
         → MayDestroy pool number → AreEnoughLeft pool number left.old → IsForLoss refusal) }
 {

@@ -4,7 +4,7 @@ ghost use Rattle.block_pointer.specs.declared.block.Block.{Block};
 ghost use Rattle.block_store.specs.Blocks.{Contents};
 ghost use Rattle.block_store.specs.Causes.{IsCaused};
 ghost use Rattle.block_store.specs.Losses.{IsForLoss};
-ghost use Rattle.block_store.specs.Steps.{OnlyReadsBlocks, AnswersAreTrue};
+ghost use Rattle.block_store.specs.Steps.{OnlyReadsBlocks, AnswersTell};
 ghost use Rattle.block_store.specs.Store.{Holds};
 ghost use Rattle.dataset_chains.specs.Chains.{Reading, SpellsChains};
 ghost use Rattle.dataset_chains.specs.States.{AreOfOneSet, IsNumber, birth_of, set_of};
@@ -44,7 +44,7 @@ pub fn destroy_snapshot<D: Disk + Drop>(
         (objects : ℕ → Option Object) (own : List Block) (blocks : ℕ → List Block) (pool : Pool)
         (readings : ℕ → Reading) → Holds store.old stored
         → AreObjects stored (birth_of changes.old) (set_of changes.old) objects own blocks
-        → AnswersAreTrue store.old store.new
+        → AnswersTell store.old store.new []
         → SpellsChains known group objects changes.old pool readings
         → MayDo pool (DestroySnapshot snapshot)
         → (gone : List Block) × (freed.new.items ≡ freed.old.items ++ gone)
@@ -57,7 +57,7 @@ pub fn destroy_snapshot<D: Disk + Drop>(
         (objects : ℕ → Option Object) (own : List Block) (blocks : ℕ → List Block) (pool : Pool)
         (readings : ℕ → Reading) → Holds store.old stored
         → AreObjects stored (birth_of changes.old) (set_of changes.old) objects own blocks
-        → AnswersAreTrue store.old store.new
+        → AnswersTell store.old store.new []
         → SpellsChains known group objects changes.old pool readings
         → MayDo pool (DestroySnapshot snapshot)
         → TouchesOwnLists objects changes.old changes.new) }
@@ -68,7 +68,7 @@ pub fn destroy_snapshot<D: Disk + Drop>(
         (objects : ℕ → Option Object) (own : List Block) (blocks : ℕ → List Block) (pool : Pool)
         (readings : ℕ → Reading) → Holds store.old stored
         → AreObjects stored (birth_of changes.old) (set_of changes.old) objects own blocks
-        → AnswersAreTrue store.old store.new
+        → AnswersTell store.old store.new []
         → SpellsChains known group objects changes.old pool readings
         → MayDo pool (DestroySnapshot snapshot) → IsForLoss refusal) }
 {

@@ -3,7 +3,7 @@ ghost use Rattle.std.specs.Prelude.{◌≡◌, ◌+◌, ◌<◌, ◌≤◌, ◌�
 ghost use Rattle.block_store.specs.Blocks.{Contents};
 ghost use Rattle.block_store.specs.Causes.{IsCaused};
 ghost use Rattle.block_store.specs.Losses.{IsForLoss};
-ghost use Rattle.block_store.specs.Steps.{OnlyReadsBlocks, AnswersAreTrue};
+ghost use Rattle.block_store.specs.Steps.{OnlyReadsBlocks, AnswersTell};
 ghost use Rattle.block_store.specs.Store.{Holds};
 ghost use Rattle.dnode.specs.ObjectSet.{FitsObjectSet};
 ghost use Rattle.dnode.specs.declared.object_set.ObjectSet.{ObjectSet};
@@ -39,20 +39,20 @@ pub(crate) fn younger_blocks<D: Disk + Drop>(
     ensures value { IfOk result (λ found. (stored : Contents) (bound size block_size : ℕ)
         (array : List ℕ) → Holds store.old stored
         → (is : IsVolume stored bound block.now size block_size array) → bound ≤ birth
-        → AnswersAreTrue store.old store.new → found.items
+        → AnswersTell store.old store.new [] → found.items
         ≡ younger since (blocks_of_volume block.now is.set is.has.own is.has.blocks)) }
     ensures caused { IfErr result (IsCaused store.old store.new []) }
     ensures refused { IfErr result
         (IsTreeRefused since store.old store.new birth block.now left.old left.new) }
 
-    // And a volume that has each block once is walked, over disks that answer truly, where as many are
+    // And a volume that has each block once is walked, over disks whose answers tell, where as many are
     // left as it has, unless too many disks miss of a block.
     ensures known { IfErr result (λ refusal. (stored : Contents) (bound size block_size : ℕ)
         (array : List ℕ) → Holds store.old stored
         → (is : IsVolume stored bound block.now size block_size array) → bound ≤ birth
         → AreDistinct (blocks_of_volume block.now is.set is.has.own is.has.blocks)
         → length (blocks_of_volume block.now is.set is.has.own is.has.blocks) ≤ left.old
-        → AnswersAreTrue store.old store.new → IsForLoss refusal) }
+        → AnswersTell store.old store.new [] → IsForLoss refusal) }
 {
     if block.birth <= since {
         return Ok(Vec::new(alloc));
@@ -76,7 +76,7 @@ fn counted_set<D: Disk + Drop>(
     ensures count { IfOk result (λ set. left.old ≡ left.new + 1) }
     ensures value { IfOk result (λ set. (stored : Contents) (other : ObjectSet)
         → Holds store.old stored → IsSetBlock stored birth block.now other
-        → AnswersAreTrue store.old store.new → set ≡ other) }
+        → AnswersTell store.old store.new [] → set ≡ other) }
     ensures found { IfOk result (IsSetFound store.old.spaces birth block.now) }
     ensures kind { IfOk result (λ set. set.kind ≡ kinds.Volume) }
     ensures caused { IfErr result (IsCaused store.old store.new []) }
@@ -84,7 +84,7 @@ fn counted_set<D: Disk + Drop>(
         (IsTreeMissed store.old store.new birth block.now left.old) }
     ensures known { IfErr result (λ refusal. (stored : Contents) (other : ObjectSet)
         → Holds store.old stored → IsSetBlock stored birth block.now other
-        → other.kind ≡ kinds.Volume → 0 < left.old → AnswersAreTrue store.old store.new
+        → other.kind ≡ kinds.Volume → 0 < left.old → AnswersTell store.old store.new []
         → IsForLoss refusal) }
 {
     if *left == 0 {

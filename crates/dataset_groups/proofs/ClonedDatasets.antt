@@ -1,8 +1,8 @@
 -- The datasets of a group with a clone more.
-use Rattle.std.proofs.Common.{◌≡◌, ◌+◌, ◌<◌, ◌≤◌, ℕ, Bool, true, false, List, Option, Some, None, Contains, cond, refl, sym, ap, subst, ◌∙◌}
+use Rattle.std.proofs.Common.{[], ◌≡◌, ◌+◌, ◌<◌, ◌≤◌, ℕ, Bool, true, false, List, Option, Some, None, Contains, cond, refl, sym, ap, subst, ◌∙◌}
 use Rattle.block_pointer.specs.declared.block.Block.{Block}
 use Rattle.block_store.specs.Blocks.{Contents}
-use Rattle.block_store.specs.Steps.{AnswersAreTrue}
+use Rattle.block_store.specs.Steps.{AnswersTell}
 use Rattle.block_store.specs.Store.{Holds, Store}
 use Rattle.dataset_destroys.specs.Chains.{Reading}
 use Rattle.dataset_destroys.specs.States.{birth_of, set_of}
@@ -84,16 +84,16 @@ pub clone_made : ReachHasEachOnce → (before after : Store) (old new : GroupDat
     (own : List Block) (blocks : ℕ → List Block) (pool : Pool) (readings : ℕ → Reading) (plain : PlainPool) → 4 < old.next → old.next + 2 ≤ numbers_end
     → old.next + 2 ≤ old.bounds.end → IsDirectory old.directory
     → IsNamed padded name → is_name_for Snapshot snapshot ≡ true → is_name name ≡ true → LacksName old.directory padded → Contains old.directory row → IsNamed row.name snapshot
-    → IsCloned before after group row.object old padded new → Holds before stored → AreObjects stored (birth_of old.changes) (set_of old.changes) objects own blocks → AnswersAreTrue before after
+    → IsCloned before after group row.object old padded new → Holds before stored → AreObjects stored (birth_of old.changes) (set_of old.changes) objects own blocks → AnswersTell before after []
     → SpellsGroup known group objects old pool readings plain → AreActed group objects known known old new pool (changed group plain (Clone snapshot name))
-clone_made law before after old new group padded snapshot name row stored known objects own blocks pool readings plain behind within left order padded_is good good_name lacks held named cloned holds are honest spells =
+clone_made law before after old new group padded snapshot name row stored known objects own blocks pool readings plain behind within left order padded_is good good_name lacks held named cloned holds are tell spells =
     let n : ℕ = old.next in
     let origin : ℕ = row.object in
     let there = leads pool readings old.directory plain row snapshot order held named good spells.names in
     let is : IsSnapshot pool.datasets origin = row_is_snapshot pool readings old.directory plain row snapshot order held named good spells.names in
     let unused : IsUnused pool.datasets n = next_unused old group known objects pool readings plain spells left behind in
     let one_more = one_with pool n (clone_of pool origin) unused refl in
-    let chains = cloned.adds stored known objects own blocks pool readings holds are honest spells.chains is unused (new_numbers old group known objects pool readings plain spells left behind within) in
+    let chains = cloned.adds stored known objects own blocks pool readings holds are tell spells.chains is unused (new_numbers old group known objects pool readings plain spells left behind within) in
     let more : PlainVolume = plain_clone_of group name there.v in
     let row_more : IsRowMore pool readings old.directory plain n new.directory more = record {
       unused = unused;

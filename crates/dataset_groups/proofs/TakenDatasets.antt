@@ -1,8 +1,8 @@
 -- The datasets of a group with a snapshot more.
-use Rattle.std.proofs.Common.{◌≡◌, ◌+◌, ◌<◌, ◌≤◌, ℕ, Bool, true, false, List, Option, Some, None, Contains, cond, refl, sym, ap, subst, ◌∙◌}
+use Rattle.std.proofs.Common.{[], ◌≡◌, ◌+◌, ◌<◌, ◌≤◌, ℕ, Bool, true, false, List, Option, Some, None, Contains, cond, refl, sym, ap, subst, ◌∙◌}
 use Rattle.block_pointer.specs.declared.block.Block.{Block}
 use Rattle.block_store.specs.Blocks.{Contents}
-use Rattle.block_store.specs.Steps.{AnswersAreTrue}
+use Rattle.block_store.specs.Steps.{AnswersTell}
 use Rattle.block_store.specs.Store.{Holds, Store}
 use Rattle.dataset_destroys.specs.Chains.{Reading}
 use Rattle.dataset_destroys.specs.States.{birth_of, set_of}
@@ -86,16 +86,16 @@ pub snapshot_made : ReachHasEachOnce → (before after : Store) (old new : Group
     (own : List Block) (blocks : ℕ → List Block) (pool : Pool) (readings : ℕ → Reading) (plain : PlainPool) → 4 < old.next → old.next + 2 ≤ numbers_end
     → old.next + 2 ≤ old.bounds.end → IsDirectory old.directory
     → IsNamed padded (snapshot_name volume part) → is_name volume ≡ true → LacksName old.directory padded → Contains old.directory row → IsNamed row.name volume
-    → IsTaken before after group row.object old padded new → Holds before stored → AreObjects stored (birth_of old.changes) (set_of old.changes) objects own blocks → AnswersAreTrue before after
+    → IsTaken before after group row.object old padded new → Holds before stored → AreObjects stored (birth_of old.changes) (set_of old.changes) objects own blocks → AnswersTell before after []
     → SpellsGroup known group objects old pool readings plain → AreActed group objects known known old new pool (changed group plain (Snapshot volume part))
-snapshot_made law before after old new group padded volume part row stored known objects own blocks pool readings plain behind within left order padded_is good lacks held named taken holds are honest spells =
+snapshot_made law before after old new group padded volume part row stored known objects own blocks pool readings plain behind within left order padded_is good lacks held named taken holds are tell spells =
     let n : ℕ = old.next in
     let head : ℕ = row.object in
     let there = leads pool readings old.directory plain row volume order held named good spells.names in
     let is : IsHead pool.datasets head = row_is_head pool readings old.directory plain row volume order held named good spells.names in
     let unused : IsUnused pool.datasets n = next_unused old group known objects pool readings plain spells left behind in
     let one_more = one_taken pool head n is unused in
-    let chains = taken.adds stored known objects own blocks pool readings holds are honest spells.chains is unused (new_numbers old group known objects pool readings plain spells left behind within) in
+    let chains = taken.adds stored known objects own blocks pool readings holds are tell spells.chains is unused (new_numbers old group known objects pool readings plain spells left behind within) in
     let name : List ℕ = snapshot_name volume part in
     let more : PlainVolume = snapshot_of group name there.v in
     let row_more : IsRowMore pool readings old.directory plain n new.directory more = record {

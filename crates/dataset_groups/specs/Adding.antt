@@ -1,8 +1,8 @@
 -- A dataset that is added to those of a group.
-use Rattle.std.specs.Prelude.{ℕ, ◌≡◌, ◌<◌, ◌+◌, List, Option}
+use Rattle.std.specs.Prelude.{[], ℕ, ◌≡◌, ◌<◌, ◌+◌, List, Option}
 use Rattle.block_pointer.specs.declared.block.Block.{Block}
 use Rattle.block_store.specs.Blocks.{Contents}
-use Rattle.block_store.specs.Steps.{AnswersAreTrue}
+use Rattle.block_store.specs.Steps.{AnswersTell}
 use Rattle.block_store.specs.Store.{Holds, Store}
 use Rattle.dataset_destroys.specs.Chains.{AreNewNumbers, LeadsTo, Reading, SpellsChains}
 use Rattle.dataset_destroys.specs.ChainMaking.{IsNewRecord, volume_with}
@@ -38,7 +38,7 @@ abbrev pub AddsSnapshot : Store → Store → ℕ → ℕ → DatasetChanges →
 AddsSnapshot before after group head old new number =
     (stored known : Contents) (objects : ℕ → Option Object) (own : List Block) (blocks : ℕ → List Block) (pool : Pool)
     (readings : ℕ → Reading) → Holds before stored → AreObjects stored (birth_of old) (set_of old) objects own blocks
-    → AnswersAreTrue before after → SpellsChains known group objects old pool readings → IsHead pool.datasets head
+    → AnswersTell before after [] → SpellsChains known group objects old pool readings → IsHead pool.datasets head
     → IsUnused pool.datasets number → AreNewNumbers objects old number (number + 1)
     → SpellsChains known group objects new (with_snapshot pool head number) (updated readings number (readings head))
 
@@ -55,7 +55,7 @@ abbrev pub AddsClone : Store → Store → ℕ → ℕ → DatasetChanges → Da
 AddsClone before after group origin old new number =
     (stored known : Contents) (objects : ℕ → Option Object) (own : List Block) (blocks : ℕ → List Block) (pool : Pool)
     (readings : ℕ → Reading) → Holds before stored → AreObjects stored (birth_of old) (set_of old) objects own blocks
-    → AnswersAreTrue before after → SpellsChains known group objects old pool readings → IsSnapshot pool.datasets origin
+    → AnswersTell before after [] → SpellsChains known group objects old pool readings → IsSnapshot pool.datasets origin
     → IsUnused pool.datasets number → AreNewNumbers objects old number (number + 1)
     → SpellsChains known group objects new (with_dataset pool number (clone_of pool origin)) (updated readings number (readings origin))
 

@@ -4,7 +4,7 @@ ghost use Rattle.block_pointer.specs.declared.block.Block.{Block};
 ghost use Rattle.block_store.specs.Blocks.{Contents, Extends};
 ghost use Rattle.block_store.specs.Causes.{IsCaused};
 ghost use Rattle.block_store.specs.Plans.{Plans};
-ghost use Rattle.block_store.specs.Steps.{OnlyReadsAndPlans, AnswersAreTrue};
+ghost use Rattle.block_store.specs.Steps.{OnlyReadsAndPlans, AnswersTell};
 ghost use Rattle.dataset_destroys.specs.Chains.{Reading};
 ghost use Rattle.dataset_destroys.specs.States.{AreOfOneSet, birth_of, set_of};
 ghost use Rattle.dead_list.specs.Datasets.{Pool};
@@ -57,7 +57,7 @@ impl GroupDatasets {
             (own : List Block) (blocks : ℕ → List Block) (pool : Pool) (readings : ℕ → Reading)
             (plain : PlainPool) → Plans store.old stored planned
             → AreObjects stored (birth_of self.old.changes) (set_of self.old.changes) objects own blocks
-            → AnswersAreTrue store.old store.new
+            → AnswersTell store.old store.new []
             → SpellsGroup planned group objects self.old pool readings plain
             → (later : Contents) × Plans store.new stored later × Extends planned later
             × AreActed group objects planned later self.old self.new pool
@@ -70,13 +70,13 @@ impl GroupDatasets {
         ensures bad { IfErr result (λ refusal. refusal ≡ Refusal.BadConfig
             → ¬ AreGoodChanges actions.now) }
 
-        // Over disks that answer truly, and where all may be done, only room is wanting, or disks.
+        // Over disks whose answers tell, and where all may be done, only room is wanting, or disks.
         ensures known { IfErr result (λ refusal. (stored planned : Contents)
             (objects : ℕ → Option Object) (own : List Block) (blocks : ℕ → List Block)
             (pool : Pool) (readings : ℕ → Reading) (plain : PlainPool) → AreGoodChanges actions.now
             → Plans store.old stored planned
             → AreObjects stored (birth_of self.old.changes) (set_of self.old.changes) objects own blocks
-            → AnswersAreTrue store.old store.new
+            → AnswersTell store.old store.new []
             → SpellsGroup planned group objects self.old pool readings plain
             → IsForRoom refusal ⊎ (refusal ≡ Refusal.DiskFault)) }
 
@@ -113,7 +113,7 @@ impl GroupDatasets {
         ensures idle { OnOk result (self.new.next ≡ self.old.next → self.new ≡ self.old) }
         ensures one_set { AreOfOneSet self.old.changes self.new.changes }
         ensures value { OnOk result ((stored planned : Contents) → Plans store.old stored planned
-            → AnswersAreTrue store.old store.new
+            → AnswersTell store.old store.new []
             → (later : Contents) × Plans store.new stored later × Extends planned later
             × ((objects : ℕ → Option Object) (own : List Block) (blocks : ℕ → List Block)
             (pool : Pool) (readings : ℕ → Reading) (plain : PlainPool)
@@ -131,7 +131,7 @@ impl GroupDatasets {
             (pool : Pool) (readings : ℕ → Reading) (plain : PlainPool)
             → is_good_making change.now ≡ true → Plans store.old stored planned
             → AreObjects stored (birth_of self.old.changes) (set_of self.old.changes) objects own blocks
-            → AnswersAreTrue store.old store.new
+            → AnswersTell store.old store.new []
             → SpellsGroup planned group objects self.old pool readings plain
             → IsForRoom refusal ⊎ (refusal ≡ Refusal.DiskFault)) }
         ensures places { OnOk result

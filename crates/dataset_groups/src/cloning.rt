@@ -4,7 +4,7 @@ ghost use Rattle.block_pointer.specs.declared.block.Block.{Block};
 ghost use Rattle.block_store.specs.Blocks.{Contents};
 ghost use Rattle.block_store.specs.Causes.{IsCaused};
 ghost use Rattle.block_store.specs.Losses.{IsForLoss};
-ghost use Rattle.block_store.specs.Steps.{OnlyReadsBlocks, AnswersAreTrue};
+ghost use Rattle.block_store.specs.Steps.{OnlyReadsBlocks, AnswersTell};
 ghost use Rattle.block_store.specs.Store.{Holds};
 ghost use Rattle.dataset_destroys.specs.Chains.{Reading, SpellsChains};
 ghost use Rattle.dataset_destroys.specs.ChainRefused.{HasMostClones, IsChainRefused};
@@ -65,7 +65,7 @@ impl GroupDatasets {
             (own : List Block) (blocks : ℕ → List Block) (pool : Pool) (readings : ℕ → Reading)
             (plain : PlainPool) → Holds store.old stored
             → AreObjects stored (birth_of self.old.changes) (set_of self.old.changes) objects own blocks
-            → AnswersAreTrue store.old store.new
+            → AnswersTell store.old store.new []
             → SpellsGroup known group objects self.old pool readings plain
             → AreActed group objects known known self.old self.new pool
             (changed group plain (Clone snapshot.now name.now))) }
@@ -79,7 +79,7 @@ impl GroupDatasets {
             (pool : Pool) (readings : ℕ → Reading) (plain : PlainPool)
             → is_good_making (Clone snapshot.now name.now) ≡ true → Holds store.old stored
             → AreObjects stored (birth_of self.old.changes) (set_of self.old.changes) objects own blocks
-            → AnswersAreTrue store.old store.new
+            → AnswersTell store.old store.new []
             → SpellsGroup known group objects self.old pool readings plain
             → IsForRoom refusal ⊎ (refusal ≡ Refusal.DiskFault)) }
         ensures places { OnOk result (MakesOne store.old store.new group self.old self.new
@@ -134,7 +134,7 @@ impl GroupDatasets {
             (objects : ℕ → Option Object) (own : List Block) (blocks : ℕ → List Block)
             (pool : Pool) (readings : ℕ → Reading) → Holds store.old stored
             → AreObjects stored (birth_of self.old.changes) (set_of self.old.changes) objects own blocks
-            → AnswersAreTrue store.old store.new
+            → AnswersTell store.old store.new []
             → SpellsChains known group objects self.old.changes pool readings
             → IsSnapshot pool.datasets origin
             → IsForLoss refusal ⊎ (refusal ≡ Refusal.NoSpace)) }

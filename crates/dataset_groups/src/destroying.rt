@@ -4,7 +4,7 @@ ghost use Rattle.block_pointer.specs.declared.block.Block.{Block};
 ghost use Rattle.block_store.specs.Blocks.{Contents};
 ghost use Rattle.block_store.specs.Causes.{IsCaused};
 ghost use Rattle.block_store.specs.Losses.{IsForLoss};
-ghost use Rattle.block_store.specs.Steps.{OnlyReadsBlocks, AnswersAreTrue};
+ghost use Rattle.block_store.specs.Steps.{OnlyReadsBlocks, AnswersTell};
 ghost use Rattle.block_store.specs.Store.{Holds};
 ghost use Rattle.dataset_destroys.specs.Chains.{Reading};
 ghost use Rattle.dataset_destroys.specs.States.{AreOfOneSet, birth_of, set_of};
@@ -50,7 +50,7 @@ impl GroupDatasets {
             (own : List Block) (blocks : ℕ → List Block) (pool : Pool) (readings : ℕ → Reading)
             (plain : PlainPool) → Holds store.old stored
             → AreObjects stored (birth_of self.old.changes) (set_of self.old.changes) objects own blocks
-            → AnswersAreTrue store.old store.new
+            → AnswersTell store.old store.new []
             → SpellsGroup stored group objects self.old pool readings plain
             → MayBeDestroyed names.now plain
             → (gone : List Block) × (freed.new.items ≡ freed.old.items ++ gone)
@@ -64,12 +64,12 @@ impl GroupDatasets {
         // Of a refusal for lack of disks or room, the block.
         ensures caused { IfErr result (IsCaused store.old store.new []) }
 
-        // And over disks that answer truly only memory is wanting, or disks.
+        // And over disks whose answers tell only memory is wanting, or disks.
         ensures known { IfErr result (λ refusal. (stored : Contents) (objects : ℕ → Option Object)
             (own : List Block) (blocks : ℕ → List Block) (pool : Pool) (readings : ℕ → Reading)
             (plain : PlainPool) → Holds store.old stored
             → AreObjects stored (birth_of self.old.changes) (set_of self.old.changes) objects own blocks
-            → AnswersAreTrue store.old store.new
+            → AnswersTell store.old store.new []
             → SpellsGroup stored group objects self.old pool readings plain
             → MayBeDestroyed names.now plain → HasAtMost pool most → IsForLoss refusal) }
 
@@ -103,7 +103,7 @@ impl GroupDatasets {
             (own : List Block) (blocks : ℕ → List Block) (pool : Pool) (readings : ℕ → Reading)
             (plain : PlainPool) → Holds store.old stored
             → AreObjects stored (birth_of self.old.changes) (set_of self.old.changes) objects own blocks
-            → AnswersAreTrue store.old store.new
+            → AnswersTell store.old store.new []
             → SpellsGroup stored group objects self.old pool readings plain
             → MayBeDestroyed (name.now ∷ []) plain
             → (gone : List Block) × (freed.new.items ≡ freed.old.items ++ gone)
@@ -118,7 +118,7 @@ impl GroupDatasets {
             (own : List Block) (blocks : ℕ → List Block) (pool : Pool) (readings : ℕ → Reading)
             (plain : PlainPool) → Holds store.old stored
             → AreObjects stored (birth_of self.old.changes) (set_of self.old.changes) objects own blocks
-            → AnswersAreTrue store.old store.new
+            → AnswersTell store.old store.new []
             → SpellsGroup stored group objects self.old pool readings plain
             → MayBeDestroyed (name.now ∷ []) plain → HasAtMost pool most → IsForLoss refusal) }
         ensures which { OnOk result (DestroysOne self.old self.new name.now) }

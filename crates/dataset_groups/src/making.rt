@@ -3,7 +3,7 @@ ghost use Rattle.std.specs.Prelude.{◌≡◌, ◌⊎◌, ◌+◌, ◌<◌, ◌�
 ghost use Rattle.block_store.specs.Blocks.{Contents, Extends};
 ghost use Rattle.block_store.specs.Causes.{IsCaused};
 ghost use Rattle.block_store.specs.Plans.{Plans};
-ghost use Rattle.block_store.specs.Steps.{OnlyReadsAndPlans, AnswersAreTrue};
+ghost use Rattle.block_store.specs.Steps.{OnlyReadsAndPlans, AnswersTell};
 ghost use Rattle.dataset_destroys.specs.Chains.{Reading};
 ghost use Rattle.dataset_destroys.specs.States.{AreOfOneSet};
 ghost use Rattle.dead_list.specs.Datasets.{Pool};
@@ -56,7 +56,7 @@ impl GroupDatasets {
         ensures idle { OnOk result (self.new.next ≡ self.old.next → self.new ≡ self.old) }
         ensures one_set { AreOfOneSet self.old.changes self.new.changes }
         ensures value { OnOk result ((stored planned : Contents) → Plans store.old stored planned
-            → AnswersAreTrue store.old store.new
+            → AnswersTell store.old store.new []
             → (later : Contents) × Plans store.new stored later × Extends planned later
             × ((objects : ℕ → Option Object) (pool : Pool) (readings : ℕ → Reading)
             (plain : PlainPool) → SpellsGroup planned group objects self.old pool readings plain
@@ -69,7 +69,7 @@ impl GroupDatasets {
         ensures known { IfErr result (λ refusal.
             is_good_making (Create name.now size block_size) ≡ true
             → (stored planned : Contents) → Plans store.old stored planned
-            → AnswersAreTrue store.old store.new
+            → AnswersTell store.old store.new []
             → IsForRoom refusal ⊎ (refusal ≡ Refusal.DiskFault)) }
         ensures places { OnOk result (MakesOne store.old store.new group self.old self.new
             (Create name.now size block_size)) }

@@ -4,7 +4,7 @@ ghost use Rattle.block_pointer.specs.Block.{FitsBlock};
 ghost use Rattle.block_store.specs.Blocks.{Contents, Extends};
 ghost use Rattle.block_store.specs.Causes.{IsCaused};
 ghost use Rattle.block_store.specs.Plans.{Plans};
-ghost use Rattle.block_store.specs.Steps.{OnlyReadsAndPlans, AnswersAreTrue};
+ghost use Rattle.block_store.specs.Steps.{OnlyReadsAndPlans, AnswersTell};
 ghost use Rattle.dnode_tree.specs.Writes.{IsForRoom};
 ghost use Rattle.meta_objset.specs.Names.{IsName};
 ghost use Rattle.meta_objset.specs.Record.{FitsRecord};
@@ -94,7 +94,7 @@ impl NewVolume {
         ensures steps { OnlyReadsAndPlans store.old store.new [] }
         ensures fits { IfOk result FitsBlock }
         ensures value { IfOk result (λ object_set. (stored planned : Contents)
-            → Plans store.old stored planned → AnswersAreTrue store.old store.new
+            → Plans store.old stored planned → AnswersTell store.old store.new []
             → (later : Contents) × Plans store.new stored later × Extends planned later
             × (is : IsVolume later group object_set self.now.size self.now.block_size
             (replicate self.now.size 0))
@@ -106,7 +106,7 @@ impl NewVolume {
         ensures no_room { IfErr result (λ refusal. refusal ≡ Refusal.NoSpace
             → LacksRoom store.old store.new) }
         ensures known { IfErr result (λ refusal. (stored planned : Contents)
-            → Plans store.old stored planned → AnswersAreTrue store.old store.new
+            → Plans store.old stored planned → AnswersTell store.old store.new []
             → IsForRoom refusal ⊎ (refusal ≡ Refusal.DiskFault)) }
         ensures places { OnOk result
             (HasNewPlaces store.old store.new group self.now.block_size) }

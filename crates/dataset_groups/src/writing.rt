@@ -4,7 +4,7 @@ ghost use Rattle.block_pointer.specs.declared.block.Block.{Block};
 ghost use Rattle.block_store.specs.Blocks.{Contents, Extends};
 ghost use Rattle.block_store.specs.Causes.{IsCaused};
 ghost use Rattle.block_store.specs.Plans.{Plans};
-ghost use Rattle.block_store.specs.Steps.{OnlyReadsAndPlans, AnswersAreTrue};
+ghost use Rattle.block_store.specs.Steps.{OnlyReadsAndPlans, AnswersTell};
 ghost use Rattle.dataset_destroys.specs.Chains.{Reading, SpellsChains};
 ghost use Rattle.dataset_destroys.specs.ChainTouched.{KeepsDeadLists};
 ghost use Rattle.dataset_destroys.specs.States.{AreOfOneSet, birth_of, set_of};
@@ -71,7 +71,7 @@ impl GroupDatasets {
             (pool : Pool) (readings : ℕ → Reading) (plain : PlainPool) (writes : List Write)
             → Plans store.old stored planned
             → AreObjects stored (birth_of self.old.changes) (set_of self.old.changes) objects own blocks
-            → AnswersAreTrue store.old store.new → bound ≤ group
+            → AnswersTell store.old store.new [] → bound ≤ group
             → SpellsGroup planned group objects self.old pool readings plain
             → AreWritten stored bound pool readings self.old.directory writes written.items
             → (later : Contents) × Plans store.new stored later × Extends planned later
@@ -84,13 +84,13 @@ impl GroupDatasets {
         // Of a refusal for lack of disks or room, the block.
         ensures caused { IfErr result (IsCaused store.old store.new []) }
 
-        // Over disks that answer truly only room is wanting, or disks.
+        // Over disks whose answers tell only room is wanting, or disks.
         ensures known { IfErr result (λ refusal. (stored planned : Contents) (bound : ℕ)
             (objects : ℕ → Option Object) (own : List Block) (blocks : ℕ → List Block)
             (pool : Pool) (readings : ℕ → Reading) (plain : PlainPool) (writes : List Write)
             → Plans store.old stored planned
             → AreObjects stored (birth_of self.old.changes) (set_of self.old.changes) objects own blocks
-            → AnswersAreTrue store.old store.new → bound ≤ group
+            → AnswersTell store.old store.new [] → bound ≤ group
             → SpellsGroup planned group objects self.old pool readings plain
             → AreWritten stored bound pool readings self.old.directory writes written.items
             → IsForRoom refusal ⊎ (refusal ≡ Refusal.DiskFault)) }
@@ -134,7 +134,7 @@ impl GroupDatasets {
             (pool : Pool) (readings : ℕ → Reading) (array : List ℕ)
             → Plans store.old stored planned
             → AreObjects stored (birth_of self.old.changes) (set_of self.old.changes) objects own blocks
-            → AnswersAreTrue store.old store.new → bound ≤ group
+            → AnswersTell store.old store.new [] → bound ≤ group
             → SpellsChains planned group objects self.old.changes pool readings
             → IsWrittenTo stored bound pool readings head array
             → (later : Contents) × Plans store.new stored later × Extends planned later
@@ -147,7 +147,7 @@ impl GroupDatasets {
             (pool : Pool) (readings : ℕ → Reading) (array : List ℕ)
             → Plans store.old stored planned
             → AreObjects stored (birth_of self.old.changes) (set_of self.old.changes) objects own blocks
-            → AnswersAreTrue store.old store.new → bound ≤ group
+            → AnswersTell store.old store.new [] → bound ≤ group
             → SpellsChains planned group objects self.old.changes pool readings
             → IsWrittenTo stored bound pool readings head array
             → IsForRoom refusal ⊎ (refusal ≡ Refusal.DiskFault)) }

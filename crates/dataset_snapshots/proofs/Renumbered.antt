@@ -1,9 +1,9 @@
 -- Datasets of which new ones take other numbers.
-use Rattle.std.proofs.Common.{◌≡◌, ◌<◌, ◌≤◌, ℕ, List, Option, Some, None, inl, inr, sym, ap, subst, ◌∙◌, arith}
+use Rattle.std.proofs.Common.{[], ◌≡◌, ◌<◌, ◌≤◌, ℕ, List, Option, Some, None, inl, inr, sym, ap, subst, ◌∙◌, arith}
 use Rattle.block_pointer.specs.declared.block.Block.{Block}
 use Rattle.block_store.specs.Blocks.{Contents}
 use Rattle.block_store.specs.Spaces.{VdevSpace}
-use Rattle.block_store.specs.Steps.{AnswersAreTrue}
+use Rattle.block_store.specs.Steps.{AnswersTell}
 use Rattle.block_store.specs.Store.{Holds, Store}
 use Rattle.dataset_groups.specs.Chains.{Reading, SpellsChains}
 use Rattle.dataset_groups.specs.ChainTouched.{IsAtMostRead, TouchesOnly}
@@ -106,9 +106,9 @@ found_so spaces birth root rows destroyed writes begun new directory changes num
 module _ (first mid : Store) (birth : ℕ) (root : Block) (rows : List DirectoryRow) (destroyed : List (List ℕ)) (writes : List Write) (begun : Begun) (new : GroupDatasets)
     (begins : AreBegun begun.set rows begun.datasets) (behind : AreNumbersBehind begun.set begun.datasets) (directory : new.directory ≡ begun.datasets.directory)
     (changes : new.changes ≡ begun.datasets.changes) (numbers : HasNumbers begun.set new) (unused : AreUnused first mid begun.set root.birth new.next new.bounds.end) where
-  pub from_so : (stored : Contents) (pool : PlainPool) (is : SpellsPool stored birth root pool) → Holds first stored → AnswersAreTrue first mid
+  pub from_so : (stored : Contents) (pool : PlainPool) (is : SpellsPool stored birth root pool) → Holds first stored → AnswersTell first mid []
       → IsBegunFrom stored birth root pool is destroyed writes begun → IsBegunFrom stored birth root pool is destroyed writes (numbered begun new)
-  from_so stored pool is held honest from =
+  from_so stored pool is held tell from =
       let are = subst (λ (s : ObjectSet). AreObjects stored root.birth s is.objects is.own is.blocks) (sym from.set) is.are in
       record {
         set = from.set;
@@ -117,7 +117,7 @@ module _ (first mid : Store) (birth : ℕ) (root : Block) (rows : List Directory
         begins = λ group le.
             spells_so begun.set rows begun.datasets new begins directory changes numbers stored group is.objects (record is.datasets { group = group }) is.readings pool
             (behind.behind ∙ sym numbers.behind) (let next = behind.next in let first = behind.behind in omega (arith, next, first))
-            (unused stored is.objects is.own is.blocks held are honest) (from.begins group le);
+            (unused stored is.objects is.own is.blocks held are tell) (from.begins group le);
         written = from.written;
       }
 

@@ -2,7 +2,7 @@
 ghost use Rattle.std.specs.Prelude.{◌≢◌, ◌≤◌, length, IfOk, IfErr};
 ghost use Rattle.block_store.specs.Blocks.{Contents};
 ghost use Rattle.block_store.specs.declared.refusal.Refusal.TheVariants.{NoSpace};
-ghost use Rattle.block_store.specs.Steps.{OnlyReadsBlocks, AnswersAreTrue};
+ghost use Rattle.block_store.specs.Steps.{OnlyReadsBlocks, AnswersTell};
 ghost use Rattle.block_store.specs.Store.{Holds};
 ghost use Rattle.dnode_tree.specs.Rewriting.{AreDistinct};
 ghost use Rattle.pool_maps.specs.Loads.{AreSetsOf};
@@ -59,10 +59,10 @@ pub fn contents_under<D: Disk + Drop>(
     ensures reads { OnlyReadsBlocks store.old store.new missing.now }
     ensures fewer { left.new ≤ left.old }
 
-    // Over disks that answer truly they are the pool's.
+    // Over disks whose answers tell they are the pool's.
     ensures value { IfOk result (λ contents. (stored : Contents) (pool : PlainPool)
         → Holds store.old stored → SpellsPool stored birth root.now pool
-        → AnswersAreTrue store.old store.new
+        → AnswersTell store.old store.new missing.now
         → AreContentsOf stored store.old.spaces birth root.now pool contents) }
 
     // Whatever the root is: what was read, each block once, and maps that a store of these vdevs may
@@ -76,13 +76,13 @@ pub fn contents_under<D: Disk + Drop>(
     ensures cause { IfErr result (λ refusal. refusal ≢ Refusal.Unread NoSpace) }
 
     // And the contents of a whole pool that has its space maps, and each of these blocks once, are
-    // read, over disks that answer truly, where as many may be read as these are, unless too many
+    // read, over disks whose answers tell, where as many may be read as these are, unless too many
     // disks miss of a block.
     ensures known { IfErr result (λ refusal. (stored : Contents) (pool : PlainPool)
         → Holds store.old stored → (is : SpellsPool stored birth root.now pool)
         → HasItsMaps store.old.spaces is
         → AreDistinct (meta_blocks_of is) → length (meta_blocks_of is) ≤ left.old
-        → AnswersAreTrue store.old store.new → IsForLossOf refusal) }
+        → AnswersTell store.old store.new missing.now → IsForLossOf refusal) }
 {
     let directory = directory_under(root, store, alloc, birth, missing)?;
     let mut taken = Vec::new(alloc);

@@ -3,7 +3,7 @@ ghost use Rattle.std.specs.Prelude.{◌≡◌, ◌≢◌, ◌⊎◌, ℕ, List, 
 ghost use Rattle.block_pointer.specs.declared.block.Block.{Block};
 ghost use Rattle.block_store.specs.Blocks.{Contents};
 ghost use Rattle.block_store.specs.Losses.{IsForLoss};
-ghost use Rattle.block_store.specs.Steps.{OnlyReadsBlocks, AnswersAreTrue};
+ghost use Rattle.block_store.specs.Steps.{OnlyReadsBlocks, AnswersTell};
 ghost use Rattle.block_store.specs.Store.{Holds};
 ghost use Rattle.dnode.specs.declared.object_set.ObjectSet.{ObjectSet};
 ghost use Rattle.dnode.specs.declared.object_set.ObjectSetKind.TheVariants as sets;
@@ -62,7 +62,7 @@ pub fn find<D: Disk + Drop>(
     // It has the record and the bytes of the volume that the pool has there.
     ensures value { IfOk result (λ found. (stored : Contents) (pool : PlainPool)
         → Holds store.old stored → SpellsPool stored birth root.now pool
-        → AnswersAreTrue store.old store.new
+        → AnswersTell store.old store.new missing.now
         → HasDataset stored (root.now).birth (volume_at name.now pool) found) }
 
     // Whatever the root is: what was read, and on a refusal its cause.
@@ -70,10 +70,10 @@ pub fn find<D: Disk + Drop>(
     ensures refused { IfErr result (λ refusal. (refusal ≡ Refusal.NoMemory)
         ⊎ IsRefused store.old store.new missing.now birth root.now name.now refusal) }
 
-    // And it is found, over disks that answer truly, unless too many disks miss of a block.
+    // And it is found, over disks whose answers tell, unless too many disks miss of a block.
     ensures known { IfErr result (λ refusal. (stored : Contents) (pool : PlainPool)
         → Holds store.old stored → SpellsPool stored birth root.now pool
-        → AnswersAreTrue store.old store.new → IsForLoss refusal) }
+        → AnswersTell store.old store.new missing.now → IsForLoss refusal) }
 {
     let set = read_meta(root, store, alloc, birth, missing)?;
     let number = object_of(&set, store, alloc, root.birth, name, missing)?;
@@ -100,7 +100,7 @@ pub fn directory_under<D: Disk + Drop>(
     // It is that of the pool: the very rows that the root spells it by.
     ensures value { IfOk result (λ directory. (stored : Contents) (pool : PlainPool)
         → Holds store.old stored → (is : SpellsPool stored birth root.now pool)
-        → AnswersAreTrue store.old store.new → directory ≡ is.rows) }
+        → AnswersTell store.old store.new missing.now → directory ≡ is.rows) }
 
     // Whatever the root is: what was read, and on a refusal its cause.
     ensures found { IfOk result (λ directory. (set : ObjectSet)
@@ -109,10 +109,10 @@ pub fn directory_under<D: Disk + Drop>(
         ⊎ (IsMetaRefused store.old store.new missing.now birth root.now refusal
         ⊎ IsDirectoryRefused store.old store.new missing.now birth root.now refusal)) }
 
-    // And it is read, over disks that answer truly, unless too many disks miss of a block.
+    // And it is read, over disks whose answers tell, unless too many disks miss of a block.
     ensures known { IfErr result (λ refusal. (stored : Contents) (pool : PlainPool)
         → Holds store.old stored → SpellsPool stored birth root.now pool
-        → AnswersAreTrue store.old store.new → IsForLoss refusal) }
+        → AnswersTell store.old store.new missing.now → IsForLoss refusal) }
 {
     let set = read_meta(root, store, alloc, birth, missing)?;
     read_directory(&set, store, alloc, root.birth, missing)
@@ -136,7 +136,7 @@ pub fn find_in<D: Disk + Drop>(
     // Where the directory is the root's, it has the record and the bytes of the volume that the pool has there.
     ensures value { IfOk result (λ found. (stored : Contents) (pool : PlainPool)
         → Holds store.old stored → (is : SpellsPool stored birth root.now pool)
-        → directory.now ≡ is.rows → AnswersAreTrue store.old store.new
+        → directory.now ≡ is.rows → AnswersTell store.old store.new missing.now
         → HasDataset stored (root.now).birth (volume_at name.now pool) found) }
 
     // Whatever the root and the directory are: what was read, and on a refusal its cause.
@@ -146,10 +146,11 @@ pub fn find_in<D: Disk + Drop>(
         ⊎ IsRefusedIn store.old store.new missing.now birth root.now directory.now name.now
         refusal) }
 
-    // And it is found, over disks that answer truly, unless too many disks miss of a block.
+    // And it is found, over disks whose answers tell, unless too many disks miss of a block.
     ensures known { IfErr result (λ refusal. (stored : Contents) (pool : PlainPool)
         → Holds store.old stored → (is : SpellsPool stored birth root.now pool)
-        → directory.now ≡ is.rows → AnswersAreTrue store.old store.new → IsForLoss refusal) }
+        → directory.now ≡ is.rows
+        → AnswersTell store.old store.new missing.now → IsForLoss refusal) }
 {
     let Some(object) = number_in(directory, name) else {
         return Ok(None);
@@ -171,14 +172,14 @@ pub(crate) fn read_meta<D: Disk + Drop>(
     ensures fits { IfOk result FitsObjectSet }
     ensures value { IfOk result (λ found. (stored : Contents) (set : ObjectSet)
         → Holds store.old stored → IsSetBlock stored birth root.now set
-        → AnswersAreTrue store.old store.new → found ≡ set) }
+        → AnswersTell store.old store.new missing.now → found ≡ set) }
     ensures found { IfOk result (IsMetaFound store.old.spaces birth root.now) }
     ensures refused { IfErr result
         (IsMetaRefused store.old store.new missing.now birth root.now) }
     ensures cause { IfErr result (λ refusal. refusal ≢ Refusal.NoSpace) }
     ensures known { IfErr result (λ refusal. (stored : Contents) (set : ObjectSet)
         → Holds store.old stored → IsSetBlock stored birth root.now set → set.kind ≡ sets.Meta
-        → AnswersAreTrue store.old store.new → IsForLoss refusal) }
+        → AnswersTell store.old store.new missing.now → IsForLoss refusal) }
 {
     let set = read_set(store, alloc, root, birth, missing)?;
     match set.kind {
@@ -201,7 +202,7 @@ fn object_of<D: Disk + Drop>(
     ensures value { IfOk result (λ number. (stored : Contents) (objects : ℕ → Option Object)
         (own : List Block) (blocks : ℕ → List Block) (rows : List DirectoryRow)
         → Holds store.old stored → AreObjects stored birth set.now objects own blocks
-        → HasDirectory (objects 1) rows → AnswersAreTrue store.old store.new
+        → HasDirectory (objects 1) rows → AnswersTell store.old store.new missing.now
         → IsNumberIn rows name.now number) }
     ensures found { IfOk result (λ number. (rows : List DirectoryRow)
         × IsDirectoryFound store.old.spaces set.now birth rows × IsNumberIn rows name.now number) }
@@ -211,7 +212,7 @@ fn object_of<D: Disk + Drop>(
     ensures known { IfErr result (λ refusal. (stored : Contents) (objects : ℕ → Option Object)
         (own : List Block) (blocks : ℕ → List Block) (rows : List DirectoryRow)
         → Holds store.old stored → AreObjects stored birth set.now objects own blocks
-        → HasDirectory (objects 1) rows → AnswersAreTrue store.old store.new
+        → HasDirectory (objects 1) rows → AnswersTell store.old store.new missing.now
         → IsForLoss refusal) }
 {
     let directory = read_directory(set, store, alloc, birth, missing)?;
@@ -240,7 +241,7 @@ pub(crate) fn read_dataset<D: Disk + Drop>(
     ensures value { IfOk result (λ dataset. (stored : Contents) (objects : ℕ → Option Object)
         (own : List Block) (blocks : ℕ → List Block) (r : DatasetRecord)
         → Holds store.old stored → AreObjects stored birth set.now objects own blocks
-        → HasRecord (objects object) r → AnswersAreTrue store.old store.new
+        → HasRecord (objects object) r → AnswersTell store.old store.new missing.now
         → dataset.record ≡ r) }
     ensures is { IfOk result IsVolumeOf }
     ensures object { IfOk result (λ dataset. dataset.object ≡ object) }
@@ -252,7 +253,7 @@ pub(crate) fn read_dataset<D: Disk + Drop>(
     ensures known { IfErr result (λ refusal. (stored : Contents) (objects : ℕ → Option Object)
         (own : List Block) (blocks : ℕ → List Block) (r : DatasetRecord)
         → Holds store.old stored → AreObjects stored birth set.now objects own blocks
-        → HasRecord (objects object) r → AnswersAreTrue store.old store.new
+        → HasRecord (objects object) r → AnswersTell store.old store.new missing.now
         → IsForLoss refusal) }
 {
     let record = read_record(set, store, alloc, object, birth, missing)?;

@@ -6,7 +6,7 @@ ghost use Rattle.block_pointer.specs.Copies.{dvas};
 ghost use Rattle.block_store.specs.Blocks.{Contents, Extends};
 ghost use Rattle.block_store.specs.Places.{filled};
 ghost use Rattle.block_store.specs.Plans.{Plans};
-ghost use Rattle.block_store.specs.Steps.{OnlyReadsAndPlans, AnswersAreTrue};
+ghost use Rattle.block_store.specs.Steps.{OnlyReadsAndPlans, AnswersTell};
 ghost use Rattle.objset.specs.Sets.{asked_of_set};
 ghost use Rattle.dnode_tree.specs.Writes.{IsForRoom};
 ghost use Rattle.meta_objset.specs.Reading.{HasStaleSpans};
@@ -84,7 +84,7 @@ pub fn first_group<D: Disk + Drop>(
     // spells the pool by.
     ensures value { IfOk result (λ first. (stored planned : Contents)
         → Plans store.old stored planned → UseNothing store.old.spaces filled
-        → AnswersAreTrue store.old store.new
+        → AnswersTell store.old store.new []
         → (later : Contents) × Plans store.new stored later × Extends planned later
         × (is : SpellsPool later next.now.number first.root
         (applied next.now.number no_volumes (with_made items.now parted.now)))
@@ -94,10 +94,10 @@ pub fn first_group<D: Disk + Drop>(
         × (first.directory ≡ is.rows)
         × HasMapsBehind store.new.spaces [] is) }
 
-    // Over disks that answer truly, and where all may be made, only room is wanting.
+    // Over disks whose answers tell, and where all may be made, only room is wanting.
     ensures known { IfErr result (λ refusal. (stored planned : Contents)
         → Plans store.old stored planned → UseNothing store.old.spaces filled
-        → AnswersAreTrue store.old store.new → AreGoodChanges parted.now.made
+        → AnswersTell store.old store.new [] → AreGoodChanges parted.now.made
         → IsForRoom refusal ⊎ (refusal ≡ Refusal.DiskFault)) }
 
     // What places are taken for, and on a refusal its cause.
@@ -131,7 +131,7 @@ fn first_volumes<D: Disk + Drop>(
         (4 < datasets.next) × (datasets.next ≤ numbers_end)) }
     ensures bounds { IfOk result (λ datasets. datasets.bounds.behind ≤ datasets.next) }
     ensures value { IfOk result (λ datasets. (stored planned : Contents)
-        → Plans store.old stored planned → AnswersAreTrue store.old store.new
+        → Plans store.old stored planned → AnswersTell store.old store.new []
         → (later : Contents) × Plans store.new stored later × Extends planned later
         × (pool : Pool) × (readings : ℕ → Reading)
         × SpellsGroup later group (λ number. None) datasets pool readings
@@ -139,7 +139,7 @@ fn first_volumes<D: Disk + Drop>(
         × IsReachExchanged group planned later [] (reach_by pool datasets.directory) []
         × AddsData planned later) }
     ensures known { IfErr result (λ refusal. (stored planned : Contents)
-        → Plans store.old stored planned → AnswersAreTrue store.old store.new
+        → Plans store.old stored planned → AnswersTell store.old store.new []
         → AreGoodChanges actions.now
         → IsForRoom refusal ⊎ (refusal ≡ Refusal.DiskFault)) }
     ensures places { IfOk result (AreFirstVolumes store.old store.new group actions.now) }

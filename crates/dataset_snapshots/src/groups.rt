@@ -7,7 +7,7 @@ ghost use Rattle.block_store.specs.Blocks.{Contents, Extends};
 ghost use Rattle.block_store.specs.Losses.{IsForLoss};
 ghost use Rattle.block_store.specs.Places.{filled};
 ghost use Rattle.block_store.specs.Plans.{Plans};
-ghost use Rattle.block_store.specs.Steps.{OnlyReadsAndPlans, OnlyReadsBlocks, AnswersAreTrue, HasNoRoomFor};
+ghost use Rattle.block_store.specs.Steps.{OnlyReadsAndPlans, OnlyReadsBlocks, AnswersTell, HasNoRoomFor};
 ghost use Rattle.block_store.specs.Store.{Holds};
 ghost use Rattle.dnode.specs.ObjectSet.{FitsObjectSet};
 ghost use Rattle.dnode.specs.declared.object_set.ObjectSetKind.TheVariants as sets;
@@ -160,7 +160,7 @@ pub fn after_group<D: Disk + Drop>(
         → Plans store.old stored planned
         → (is : SpellsPool stored (next.now.number - 1) root.now pool)
         → directory.now ≡ is.rows → HasMapsBy store.old.spaces filled is
-        → MayBeDestroyed parted.now.destroyed pool → AnswersAreTrue store.old store.new
+        → MayBeDestroyed parted.now.destroyed pool → AnswersTell store.old store.new []
         → (later : Contents) × Plans store.new stored later × Extends planned later
         × (then : SpellsPool later next.now.number after.root
         (applied next.now.number (all_destroyed parted.now.destroyed pool)
@@ -171,12 +171,12 @@ pub fn after_group<D: Disk + Drop>(
         × (after.directory ≡ then.rows)
         × HasMapsBehind store.new.spaces after.replaced.items then) }
 
-    // Over disks that answer truly, and where all may be made, only room is wanting, or disks.
+    // Over disks whose answers tell, and where all may be made, only room is wanting, or disks.
     ensures known { IfErr result (λ refusal. (stored planned : Contents) (pool : PlainPool)
         → Plans store.old stored planned
         → (is : SpellsPool stored (next.now.number - 1) root.now pool)
         → directory.now ≡ is.rows → HasMapsBy store.old.spaces filled is
-        → StandsOnce store.old.spaces is → AnswersAreTrue store.old store.new
+        → StandsOnce store.old.spaces is → AnswersTell store.old store.new []
         → MayBeDestroyed parted.now.destroyed pool → AreGoodChanges parted.now.made
         → IsForRoom refusal ⊎ (refusal ≡ Refusal.DiskFault)) }
 
@@ -243,13 +243,13 @@ fn open_group<D: Disk + Drop>(
     ensures value { IfOk result (λ opened. (stored : Contents) (pool : PlainPool)
         → Holds store.old stored → (is : SpellsPool stored (group - 1) root.now pool)
         → kept.now ≡ is.rows → MayBeDestroyed parted.now.destroyed pool
-        → AnswersAreTrue store.old store.new
+        → AnswersTell store.old store.new []
         → IsOpenedFrom stored group (group - 1) root.now pool is parted.now.destroyed
         items.now.writes opened) }
     ensures known { IfErr result (λ refusal. (stored : Contents) (pool : PlainPool)
         → Holds store.old stored → (is : SpellsPool stored (group - 1) root.now pool)
         → kept.now ≡ is.rows → MayBeDestroyed parted.now.destroyed pool
-        → HasAtMost is.datasets most_blocks → AnswersAreTrue store.old store.new
+        → HasAtMost is.datasets most_blocks → AnswersTell store.old store.new []
         → IsForLoss refusal) }
     ensures found { IfOk result (IsGroupFound store.old.spaces (group - 1) root.now kept.now
         parted.now.destroyed items.now.writes) }
@@ -297,11 +297,11 @@ fn begin_group<D: Disk + Drop>(
     ensures numbers { IfOk result (λ begun. AreNumbersBehind begun.set begun.datasets) }
     ensures value { IfOk result (λ begun. (stored : Contents) (pool : PlainPool)
         → Holds store.old stored → (is : SpellsPool stored birth root.now pool)
-        → kept.now ≡ is.rows → AnswersAreTrue store.old store.new
+        → kept.now ≡ is.rows → AnswersTell store.old store.new []
         → IsBegunFrom stored birth root.now pool is destroyed.now items.now.writes begun) }
     ensures known { IfErr result (λ refusal. (stored : Contents) (pool : PlainPool)
         → Holds store.old stored → (is : SpellsPool stored birth root.now pool)
-        → kept.now ≡ is.rows → AnswersAreTrue store.old store.new → IsForLoss refusal) }
+        → kept.now ≡ is.rows → AnswersTell store.old store.new [] → IsForLoss refusal) }
     ensures found { IfOk result (IsBegunFound store.old.spaces birth root.now kept.now
         destroyed.now items.now.writes) }
     ensures refused { IfErr result (λ refusal. (refusal ≡ Refusal.NoMemory)
@@ -344,7 +344,7 @@ fn mapped_changes<D: Disk + Drop>(
         → (destroyed : List (List ℕ)) → root.birth ≡ born → born < group.now.number
         → IsOpened writes opened
         → IsOpenedFrom stored group.now.number birth root pool is destroyed writes opened
-        → AreMapsOf is.objects store.old.spaces filled → AnswersAreTrue store.old store.new
+        → AreMapsOf is.objects store.old.spaces filled → AnswersTell store.old store.new []
         → (later : Contents) × Plans store.new stored later × Extends planned later
         × (then : SpellsAfter later group.now.number is.objects made.changes.items
         group.now.spans (applied group.now.number (all_destroyed destroyed pool)
@@ -360,7 +360,7 @@ fn mapped_changes<D: Disk + Drop>(
         → IsOpened writes opened
         → IsOpenedFrom stored group.now.number birth root pool is destroyed writes opened
         → AreMapsOf is.objects store.old.spaces filled → StandsOnce store.old.spaces is
-        → AnswersAreTrue store.old store.new → AreGoodChanges actions.now
+        → AnswersTell store.old store.new [] → AreGoodChanges actions.now
         → IsForRoom refusal ⊎ (refusal ≡ Refusal.DiskFault)) }
     ensures places { IfOk result (λ made. HasMappedPlaces store.old store.new born
         group.now.number group.now.spans opened actions.now gone.new.items made.changes.items) }
@@ -409,7 +409,7 @@ fn changes_of<D: Disk + Drop>(
         → Plans store.old stored planned → (is : SpellsPool stored birth root pool)
         → (destroyed : List (List ℕ)) → root.birth < group.now.number → IsOpened writes opened
         → IsOpenedFrom stored group.now.number birth root pool is destroyed writes opened
-        → AnswersAreTrue store.old store.new
+        → AnswersTell store.old store.new []
         → (later : Contents) × Plans store.new stored later × Extends planned later
         × (then : SpellsAfter later group.now.number is.objects made.changes.items
         group.now.spans (applied group.now.number (all_destroyed destroyed pool)
@@ -424,7 +424,7 @@ fn changes_of<D: Disk + Drop>(
         → Plans store.old stored planned → (is : SpellsPool stored birth root pool)
         → (destroyed : List (List ℕ)) → root.birth < group.now.number → IsOpened writes opened
         → IsOpenedFrom stored group.now.number birth root pool is destroyed writes opened
-        → AnswersAreTrue store.old store.new → AreGoodChanges actions.now
+        → AnswersTell store.old store.new [] → AreGoodChanges actions.now
         → IsForRoom refusal ⊎ (refusal ≡ Refusal.DiskFault)) }
     ensures places { IfOk result (λ made.
         HasVolumePlaces store.old store.new group.now.number group.now.spans opened actions.now
@@ -610,7 +610,7 @@ pub(crate) fn plan_root<D: Disk + Drop>(
     ensures value { IfOk result (λ root. (stored planned : Contents) (bound : ℕ)
         (objects : ℕ → Option Object) (own : List Block) (blocks : ℕ → List Block)
         → Plans store.old stored planned → AreObjects stored bound set.now objects own blocks
-        → bound ≤ group → AnswersAreTrue store.old store.new
+        → bound ≤ group → AnswersTell store.old store.new []
         → (later : Contents) × Plans store.new stored later × Extends planned later
         × (then : IsSetOf later group root set.now.kind (changed changes.now objects))
         × (gone : List Block) × (replaced.new.items ≡ replaced.old.items ++ gone)
@@ -622,7 +622,7 @@ pub(crate) fn plan_root<D: Disk + Drop>(
     ensures known { IfErr result (λ refusal. (stored planned : Contents) (bound : ℕ)
         (objects : ℕ → Option Object) (own : List Block) (blocks : ℕ → List Block)
         → Plans store.old stored planned → AreObjects stored bound set.now objects own blocks
-        → bound ≤ before → bound ≤ group → AnswersAreTrue store.old store.new
+        → bound ≤ before → bound ≤ group → AnswersTell store.old store.new []
         → All (λ change. MayChange change.change (objects change.number)) changes.now
         → IsForRoom refusal ⊎ (refusal ≡ Refusal.DiskFault)) }
     ensures behind { OnOk result ((gone : List Block)

@@ -4,7 +4,7 @@ ghost use Rattle.std.specs.List.{AllZip};
 ghost use Rattle.block_pointer.specs.declared.block.Block.{Block};
 ghost use Rattle.block_store.specs.Blocks.{Contents};
 ghost use Rattle.block_store.specs.Losses.{IsForLoss};
-ghost use Rattle.block_store.specs.Steps.{OnlyReadsBlocks, AnswersAreTrue};
+ghost use Rattle.block_store.specs.Steps.{OnlyReadsBlocks, AnswersTell};
 ghost use Rattle.block_store.specs.Store.{Holds};
 ghost use Rattle.dataset_groups.specs.Chains.{Reading};
 ghost use Rattle.dataset_groups.specs.ChainStanding.{HasChains};
@@ -50,14 +50,16 @@ pub(crate) fn names_by<D: Disk + Drop>(
     ensures reads { OnlyReadsBlocks store.old store.new missing.now }
     ensures value { IfOk result (λ names. (stored : Contents) (pool : PlainPool)
         → Holds store.old stored → (is : SpellsPool stored birth root.now pool)
-        → directory.now ≡ is.rows → AnswersAreTrue store.old store.new → Knows names pool) }
+        → directory.now ≡ is.rows
+        → AnswersTell store.old store.new missing.now → Knows names pool) }
     ensures found { IfOk result (AreNamesFound store.old.spaces birth root.now directory.now) }
     ensures refused { IfErr result (AreNamesRefused store.old store.new missing.now birth root.now
         directory.now) }
     ensures cause { IfErr result (λ refusal. refusal ≢ Refusal.NoSpace) }
     ensures known { IfErr result (λ refusal. (stored : Contents) (pool : PlainPool)
         → Holds store.old stored → (is : SpellsPool stored birth root.now pool)
-        → directory.now ≡ is.rows → AnswersAreTrue store.old store.new → IsForLoss refusal) }
+        → directory.now ≡ is.rows
+        → AnswersTell store.old store.new missing.now → IsForLoss refusal) }
 {
     let set = read_meta(root, store, alloc, birth, missing)?;
     names_of(
@@ -92,7 +94,8 @@ fn names_of<D: Disk + Drop>(
         → AllZip (SpellsDataset stored birth objects) rows.now volumes
         → HasChains stored birth objects pool readings
         → NamesPool pool readings rows.now (record { volumes = volumes })
-        → AnswersAreTrue store.old store.new → Knows names (record { volumes = volumes })) }
+        → AnswersTell store.old store.new missing.now
+        → Knows names (record { volumes = volumes })) }
     ensures found { IfOk result (AreVolumesNamed store.old.spaces set.now birth rows.now) }
     ensures chains { OnOk result (AreChainsFound store.old.spaces set.now birth rows.now) }
     ensures refused { IfErr result (λ refusal. (refusal ≡ Refusal.NoMemory)
@@ -106,7 +109,7 @@ fn names_of<D: Disk + Drop>(
         → AllZip (SpellsDataset stored birth objects) rows.now volumes
         → HasChains stored birth objects pool readings
         → NamesPool pool readings rows.now (record { volumes = volumes })
-        → AnswersAreTrue store.old store.new → IsForLoss refusal) }
+        → AnswersTell store.old store.new missing.now → IsForLoss refusal) }
 {
     let mut names = NameIndex::new(alloc);
     let mut records = Vec::new(alloc);

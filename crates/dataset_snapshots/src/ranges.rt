@@ -2,7 +2,7 @@
 ghost use Rattle.std.specs.Prelude.{◌≡◌, ◌⊎◌, ◌↔◌, ◌+◌, ◌^◌, ◌<◌, ◌≤◌, ℕ, List, Some, IsTrue, IfOk, IfErr, length, slice_range};
 ghost use Rattle.block_store.specs.Blocks.{Contents};
 ghost use Rattle.block_store.specs.Losses.{IsForLoss};
-ghost use Rattle.block_store.specs.Steps.{OnlyReadsBlocks, AnswersAreTrue};
+ghost use Rattle.block_store.specs.Steps.{OnlyReadsBlocks, AnswersTell};
 ghost use Rattle.block_store.specs.Store.{Holds};
 ghost use Rattle.pool_model.specs.declared.volume.PlainVolume.{PlainVolume};
 ghost use Rattle.pool_model.specs.Pools.{PlainPool, volume_at};
@@ -52,7 +52,7 @@ impl VolumeRange<'_> {
         ensures len { IfOk result (λ bytes. length bytes.items ≡ self.now.len) }
         ensures value { IfOk result (λ bytes. (stored : Contents) (array : List ℕ)
             → Holds store.old stored → Spells stored birth dataset.now.volume array
-            → AnswersAreTrue store.old store.new
+            → AnswersTell store.old store.new missing.now
             → bytes.items ≡ slice_range array self.now.offset (self.now.offset + self.now.len)) }
         ensures refused { IfErr result (λ refusal. (refusal ≡ Refusal.NoMemory)
             ⊎ (((refusal ≡ Refusal.BadPointer)
@@ -61,7 +61,7 @@ impl VolumeRange<'_> {
             (LiesIn dataset.now.volume self.now.offset (self.now.offset + self.now.len)) refusal)) }
         ensures known { IfErr result (λ refusal. (stored : Contents) (array : List ℕ)
             → Holds store.old stored → Spells stored birth dataset.now.volume array
-            → AnswersAreTrue store.old store.new
+            → AnswersTell store.old store.new missing.now
             → self.now.offset + self.now.len ≤ dataset.now.record.size → IsForLoss refusal) }
     {
         if !self.is_within(dataset.record.size) {
@@ -92,7 +92,7 @@ pub fn read_range<D: Disk + Drop>(
     // They are those of the volume that the pool has there.
     ensures value { IfOk result (λ bytes. (stored : Contents) (pool : PlainPool)
         (volume : PlainVolume) → Holds store.old stored
-        → SpellsPool stored birth root.now pool → AnswersAreTrue store.old store.new
+        → SpellsPool stored birth root.now pool → AnswersTell store.old store.new missing.now
         → volume_at range.now.name.now pool ≡ Some volume
         → bytes.items ≡ slice_range volume.bytes range.now.offset
         (range.now.offset + range.now.len)) }
@@ -102,10 +102,10 @@ pub fn read_range<D: Disk + Drop>(
         ⊎ IsRangeRefused store.old store.new missing.now birth root.now range.now.name.now
         range.now.offset range.now.len refusal) }
 
-    // Over disks that answer truly a range of a volume that is there is read, unless too many disks miss of a block.
+    // Over disks whose answers tell a range of a volume that is there is read, unless too many disks miss of a block.
     ensures known { IfErr result (λ refusal. (stored : Contents) (pool : PlainPool)
         (volume : PlainVolume) → Holds store.old stored
-        → SpellsPool stored birth root.now pool → AnswersAreTrue store.old store.new
+        → SpellsPool stored birth root.now pool → AnswersTell store.old store.new missing.now
         → volume_at range.now.name.now pool ≡ Some volume
         → range.now.offset + range.now.len ≤ length volume.bytes → IsForLoss refusal) }
 {
@@ -135,7 +135,7 @@ pub fn read_range_in<D: Disk + Drop>(
     ensures value { IfOk result (λ bytes. (stored : Contents) (pool : PlainPool)
         (volume : PlainVolume) → Holds store.old stored
         → (is : SpellsPool stored birth root.now pool) → directory.now ≡ is.rows
-        → AnswersAreTrue store.old store.new
+        → AnswersTell store.old store.new missing.now
         → volume_at range.now.name.now pool ≡ Some volume
         → bytes.items ≡ slice_range volume.bytes range.now.offset
         (range.now.offset + range.now.len)) }
@@ -145,11 +145,11 @@ pub fn read_range_in<D: Disk + Drop>(
         ⊎ IsRangeRefusedIn store.old store.new missing.now birth root.now directory.now
         range.now.name.now range.now.offset range.now.len refusal) }
 
-    // Over disks that answer truly a range of a volume that is there is read, unless too many disks miss of a block.
+    // Over disks whose answers tell a range of a volume that is there is read, unless too many disks miss of a block.
     ensures known { IfErr result (λ refusal. (stored : Contents) (pool : PlainPool)
         (volume : PlainVolume) → Holds store.old stored
         → (is : SpellsPool stored birth root.now pool) → directory.now ≡ is.rows
-        → AnswersAreTrue store.old store.new
+        → AnswersTell store.old store.new missing.now
         → volume_at range.now.name.now pool ≡ Some volume
         → range.now.offset + range.now.len ≤ length volume.bytes → IsForLoss refusal) }
 {

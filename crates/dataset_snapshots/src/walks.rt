@@ -3,7 +3,7 @@ ghost use Rattle.std.specs.Prelude.{◌≡◌, ◌≢◌, ◌⊎◌, ◌+◌, �
 ghost use Rattle.block_pointer.specs.declared.block.Block.{Block};
 ghost use Rattle.block_store.specs.Blocks.{Contents};
 ghost use Rattle.block_store.specs.Losses.{IsForLoss};
-ghost use Rattle.block_store.specs.Steps.{OnlyReadsBlocks, AnswersAreTrue};
+ghost use Rattle.block_store.specs.Steps.{OnlyReadsBlocks, AnswersTell};
 ghost use Rattle.block_store.specs.Store.{Holds};
 ghost use Rattle.dataset_groups.specs.Chains.{Reading};
 ghost use Rattle.dataset_groups.specs.ChainStanding.{HasChains};
@@ -56,7 +56,7 @@ pub fn reach<D: Disk + Drop>(
     ensures fewer { left.new ≤ left.old }
     ensures reach { IfOk result (λ found. (stored : Contents) (pool : PlainPool)
         → Holds store.old stored → (is : SpellsPool stored birth root.now pool)
-        → AnswersAreTrue store.old store.new → found.items ≡ reach_of is) }
+        → AnswersTell store.old store.new missing.now → found.items ≡ reach_of is) }
 
     // Whatever the root is: each block was found once, by so many reads, and on a refusal its cause.
     ensures once { IfOk result (λ found. AreDistinct found.items) }
@@ -66,12 +66,12 @@ pub fn reach<D: Disk + Drop>(
         left.old left.new) }
     ensures cause { IfErr result (λ refusal. refusal ≢ Refusal.NoSpace) }
 
-    // And a whole pool that has each block once is walked, over disks that answer truly, where as
+    // And a whole pool that has each block once is walked, over disks whose answers tell, where as
     // many may be read as it has blocks, unless too many disks miss of a block.
     ensures known { IfErr result (λ refusal. (stored : Contents) (pool : PlainPool)
         → Holds store.old stored → (is : SpellsPool stored birth root.now pool)
         → AreDistinct (reach_of is) → length (reach_of is) ≤ left.old
-        → AnswersAreTrue store.old store.new → IsForLoss refusal) }
+        → AnswersTell store.old store.new missing.now → IsForLoss refusal) }
 {
     let set = count_meta(root, store, alloc, birth, left, missing)?;
     let own = objset::walk_within(&set, store, alloc, root.birth, left, missing)?;
@@ -106,7 +106,7 @@ pub(crate) fn walk_meta<D: Disk + Drop>(
     ensures fits { IfOk result (λ meta. FitsObjectSet meta.set) }
     ensures value { IfOk result (λ meta. (stored : Contents) (pool : PlainPool)
         → Holds store.old stored → (is : SpellsPool stored birth root.now pool)
-        → AnswersAreTrue store.old store.new
+        → AnswersTell store.old store.new missing.now
         → (meta.set ≡ is.set) × (meta.blocks.items ≡ meta_blocks_of is)) }
 
     // Whatever the root is: each block was found once, by so many reads, and on a refusal its cause.
@@ -117,12 +117,12 @@ pub(crate) fn walk_meta<D: Disk + Drop>(
         root.now left.old left.new) }
     ensures cause { IfErr result (λ refusal. refusal ≢ Refusal.NoSpace) }
 
-    // And the set of a whole pool that has each of these blocks once is walked, over disks that
-    // answer truly, where as many may be read as they are, unless too many disks miss of a block.
+    // And the set of a whole pool that has each of these blocks once is walked, over disks
+    // whose answers tell, where as many may be read as they are, unless too many disks miss of a block.
     ensures known { IfErr result (λ refusal. (stored : Contents) (pool : PlainPool)
         → Holds store.old stored → (is : SpellsPool stored birth root.now pool)
         → AreDistinct (meta_blocks_of is) → length (meta_blocks_of is) ≤ left.old
-        → AnswersAreTrue store.old store.new → IsForLoss refusal) }
+        → AnswersTell store.old store.new missing.now → IsForLoss refusal) }
 {
     let set = count_meta(root, store, alloc, birth, left, missing)?;
     let own = objset::walk_within(&set, store, alloc, root.birth, left, missing)?;
@@ -146,14 +146,14 @@ fn count_meta<D: Disk + Drop>(
     ensures count { IfOk result (λ set. left.old ≡ left.new + 1) }
     ensures value { IfOk result (λ found. (stored : Contents) (set : ObjectSet)
         → Holds store.old stored → IsSetBlock stored birth root.now set
-        → AnswersAreTrue store.old store.new → found ≡ set) }
+        → AnswersTell store.old store.new missing.now → found ≡ set) }
     ensures found { IfOk result (IsMetaFound store.old.spaces birth root.now) }
     ensures refused { IfErr result
         (IsMetaMissed store.old store.new missing.now birth root.now left.old) }
     ensures cause { IfErr result (λ refusal. refusal ≢ Refusal.NoSpace) }
     ensures known { IfErr result (λ refusal. (stored : Contents) (set : ObjectSet)
         → Holds store.old stored → IsSetBlock stored birth root.now set → set.kind ≡ sets.Meta
-        → 0 < left.old → AnswersAreTrue store.old store.new → IsForLoss refusal) }
+        → 0 < left.old → AnswersTell store.old store.new missing.now → IsForLoss refusal) }
 {
     if *left == 0 {
         return Err(Refusal::BadPointer);
@@ -180,7 +180,7 @@ fn walk_volumes<D: Disk + Drop>(
         → AreObjects stored birth set.now objects own blocks → HasDirectory (objects 1) rows
         → HasChains stored birth objects pool readings
         → All (λ row. (pool.datasets row.object).kind ≢ Free) rows
-        → AnswersAreTrue store.old store.new → found.items ≡ reach_by pool rows) }
+        → AnswersTell store.old store.new missing.now → found.items ≡ reach_by pool rows) }
     ensures count { IfOk result (λ found.
         AreVolumesWalked store.old.spaces set.now birth left.old left.new found.items) }
     ensures refused { IfErr result (AreVolumesUnwalked store.old store.new missing.now set.now birth
@@ -193,7 +193,7 @@ fn walk_volumes<D: Disk + Drop>(
         → HasChains stored birth objects pool readings
         → All (λ row. (pool.datasets row.object).kind ≢ Free) rows
         → length (reach_by pool rows) ≤ left.old
-        → AnswersAreTrue store.old store.new → IsForLoss refusal) }
+        → AnswersTell store.old store.new missing.now → IsForLoss refusal) }
 {
     let directory = read_directory(set, store, alloc, birth, missing)?;
     walk_rows(set, directory.rows(), store, alloc, birth, left, missing)
@@ -217,7 +217,7 @@ fn walk_rows<D: Disk + Drop>(
         → Holds store.old stored → AreObjects stored birth set.now objects own blocks
         → HasChains stored birth objects pool readings
         → All (λ row. (pool.datasets row.object).kind ≢ Free) rows.now
-        → AnswersAreTrue store.old store.new → found.items ≡ reach_by pool rows.now) }
+        → AnswersTell store.old store.new missing.now → found.items ≡ reach_by pool rows.now) }
     ensures count { IfOk result (λ found.
         AreRowsWalked store.old.spaces set.now birth rows.now left.old left.new found.items) }
     ensures refused { IfErr result (λ refusal. (refusal ≡ Refusal.NoMemory)
@@ -230,7 +230,7 @@ fn walk_rows<D: Disk + Drop>(
         → HasChains stored birth objects pool readings
         → All (λ row. (pool.datasets row.object).kind ≢ Free) rows.now
         → length (reach_by pool rows.now) ≤ left.old
-        → AnswersAreTrue store.old store.new → IsForLoss refusal) }
+        → AnswersTell store.old store.new missing.now → IsForLoss refusal) }
 {
     let mut found = Vec::new(alloc);
     for row in rows {
@@ -257,7 +257,7 @@ fn walk_dataset<D: Disk + Drop>(
         (own : List Block) (blocks : ℕ → List Block) (pool : Pool) (readings : ℕ → Reading)
         → Holds store.old stored → AreObjects stored birth set.now objects own blocks
         → HasChains stored birth objects pool readings → (pool.datasets object).kind ≢ Free
-        → AnswersAreTrue store.old store.new → found.items ≡ own_of pool.datasets object) }
+        → AnswersTell store.old store.new missing.now → found.items ≡ own_of pool.datasets object) }
     ensures count { IfOk result (λ found.
         IsDatasetWalked store.old.spaces set.now birth object left.old left.new found.items) }
     ensures refused { IfErr result (IsDatasetUnwalked store.old store.new missing.now set.now birth
@@ -268,7 +268,7 @@ fn walk_dataset<D: Disk + Drop>(
         → Holds store.old stored → AreObjects stored birth set.now objects own blocks
         → HasChains stored birth objects pool readings → (pool.datasets object).kind ≢ Free
         → length (own_of pool.datasets object) ≤ left.old
-        → AnswersAreTrue store.old store.new → IsForLoss refusal) }
+        → AnswersTell store.old store.new missing.now → IsForLoss refusal) }
 {
     let dataset = read_dataset(set, store, alloc, birth, object, missing)?;
     let since = group_before(set, store, alloc, birth, &dataset.record, missing)?;
@@ -294,7 +294,7 @@ fn group_before<D: Disk + Drop>(
         → AreObjects stored birth set.now objects own blocks
         → HasChains stored birth objects pool readings
         → (pool.datasets object).before ≡ (record.now).previous
-        → AnswersAreTrue store.old store.new → since ≡ group_before pool.datasets object) }
+        → AnswersTell store.old store.new missing.now → since ≡ group_before pool.datasets object) }
     ensures found { IfOk result (IsGroupBefore store.old.spaces set.now birth record.now) }
     ensures refused { IfErr result (λ refusal. (refusal ≡ Refusal.NoMemory)
         ⊎ (((record.now).previous ≢ 0) × IsRecordRefused store.old store.new missing.now set.now
@@ -306,7 +306,7 @@ fn group_before<D: Disk + Drop>(
         → AreObjects stored birth set.now objects own blocks
         → HasChains stored birth objects pool readings
         → (pool.datasets object).before ≡ (record.now).previous
-        → AnswersAreTrue store.old store.new → IsForLoss refusal) }
+        → AnswersTell store.old store.new missing.now → IsForLoss refusal) }
 {
     if record.previous == 0 {
         return Ok(0);

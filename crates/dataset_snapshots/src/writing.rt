@@ -5,7 +5,7 @@ ghost use Rattle.std.specs.List.Sorted.{IsStrictlyIncreasing};
 ghost use Rattle.block_pointer.specs.declared.block.Block.{Block};
 ghost use Rattle.block_store.specs.Blocks.{Contents};
 ghost use Rattle.block_store.specs.Losses.{IsForLoss};
-ghost use Rattle.block_store.specs.Steps.{OnlyReadsBlocks, AnswersAreTrue};
+ghost use Rattle.block_store.specs.Steps.{OnlyReadsBlocks, AnswersTell};
 ghost use Rattle.block_store.specs.Store.{Holds};
 ghost use Rattle.dataset_groups.specs.Over.{AreOver};
 ghost use Rattle.dataset_groups.specs.States.{AreUntouched, birth_of, record_at, set_of};
@@ -90,7 +90,7 @@ pub(crate) fn read_written<D: Disk + Drop>(
     ensures value { IfOk result (λ read. (stored : Contents) (there : ℕ → Option Object)
         (own : List Block) (blocks : ℕ → List Block) → Holds store.old stored
         → AreObjects stored birth (set_of datasets.old.changes) there own blocks
-        → AnswersAreTrue store.old store.new
+        → AnswersTell store.old store.new []
         → All (IsReadFrom stored birth there items.now.writes datasets.old.directory) read.items
         × KeepsGroup there datasets.old datasets.new) }
     ensures known { IfErr result (λ refusal. (stored : Contents) (there : ℕ → Option Object)
@@ -98,7 +98,7 @@ pub(crate) fn read_written<D: Disk + Drop>(
         → Holds store.old stored
         → AreObjects stored birth (set_of datasets.old.changes) there own blocks
         → AllZip (SpellsDataset stored birth there) datasets.old.directory volumes
-        → AnswersAreTrue store.old store.new → IsForLoss refusal) }
+        → AnswersTell store.old store.new [] → IsForLoss refusal) }
 
     // Whatever the set is: what was read, and on a refusal its cause.
     ensures found { IfOk result (λ read. All (IsWrittenOf store.old.spaces
@@ -145,7 +145,7 @@ fn read_one<D: Disk + Drop>(
     ensures value { IfOk result (λ head. (stored : Contents) (there : ℕ → Option Object)
         (own : List Block) (blocks : ℕ → List Block) → Holds store.old stored
         → AreObjects stored birth (set_of datasets.old.changes) there own blocks
-        → AnswersAreTrue store.old store.new → AreOver there datasets.old.changes
+        → AnswersTell store.old store.new [] → AreOver there datasets.old.changes
         → IsReadFrom stored birth there items.now.writes datasets.old.directory head
         × KeepsGroup there datasets.old datasets.new × AreOver there datasets.new.changes) }
     ensures known { IfErr result (λ refusal. (stored : Contents) (there : ℕ → Option Object)
@@ -153,7 +153,7 @@ fn read_one<D: Disk + Drop>(
         → Holds store.old stored
         → AreObjects stored birth (set_of datasets.old.changes) there own blocks
         → AllZip (SpellsDataset stored birth there) datasets.old.directory volumes
-        → AnswersAreTrue store.old store.new → AreOver there datasets.old.changes
+        → AnswersTell store.old store.new [] → AreOver there datasets.old.changes
         → IsForLoss refusal) }
     ensures found { IfOk result (IsWrittenOf store.old.spaces (set_of datasets.old.changes) birth
         items.now.writes datasets.old.directory) }
@@ -191,12 +191,12 @@ fn changed_blocks<D: Disk + Drop>(
     ensures value { IfOk result (λ blocks. (stored : Contents) (plain : PlainVolume)
         → Holds store.old stored → IsNamed row.now.name plain.name
         → is_snapshot plain.kind ≡ false → Spells stored birth volume.now plain.bytes
-        → AnswersAreTrue store.old store.new
+        → AnswersTell store.old store.new []
         → IsArrayWith plain.bytes (block_size_of volume.now) blocks.items
         (after_writes plain items.now.writes).bytes) }
     ensures known { IfErr result (λ refusal. (stored : Contents) (array : List ℕ)
         → Holds store.old stored → Spells stored birth volume.now array
-        → AnswersAreTrue store.old store.new → IsForLoss refusal) }
+        → AnswersTell store.old store.new [] → IsForLoss refusal) }
     ensures found { IfOk result (λ blocks.
         AreBlocksFound store.old.spaces volume.now birth items.now.writes row.now blocks.items) }
     ensures refused { IfErr result (λ refusal. (refusal ≡ Refusal.NoMemory)

@@ -2,7 +2,7 @@
 ghost use Rattle.std.specs.Prelude.{◌≡◌, ◌⊎◌, ℕ, List, Option, IfOk, IfErr, IsPermutation};
 ghost use Rattle.block_pointer.specs.declared.block.Block.{Block};
 ghost use Rattle.block_store.specs.Blocks.{Contents};
-ghost use Rattle.block_store.specs.Steps.{OnlyReadsBlocks, AnswersAreTrue};
+ghost use Rattle.block_store.specs.Steps.{OnlyReadsBlocks, AnswersTell};
 ghost use Rattle.block_store.specs.Store.{Holds};
 ghost use Rattle.dead_list.specs.Rows.{SpellsList, SpellsNoList};
 ghost use Rattle.dnode.specs.ObjectSet.{FitsObjectSet};
@@ -36,12 +36,14 @@ pub fn read_dead_list<D: Disk + Drop>(
     ensures reads { OnlyReadsBlocks store.old store.new missing.now }
     ensures value { IfOk result (λ list. (stored : Contents) (objects : ℕ → Option Object)
         (own : List Block) (blocks : ℕ → List Block) → Holds store.old stored
-        → AreObjects stored birth set.now objects own blocks → AnswersAreTrue store.old store.new
+        → AreObjects stored birth set.now objects own blocks
+        → AnswersTell store.old store.new missing.now
         → HasDeadList (objects number) list) }
     // It is the only list, but for the order of its blocks.
     ensures one { IfOk result (λ list. (stored : Contents) (objects : ℕ → Option Object)
         (own : List Block) (blocks : ℕ → List Block) → Holds store.old stored
-        → AreObjects stored birth set.now objects own blocks → AnswersAreTrue store.old store.new
+        → AreObjects stored birth set.now objects own blocks
+        → AnswersTell store.old store.new missing.now
         → (other : List Block) → HasDeadList (objects number) other → IsPermutation other list) }
 
     // Whatever the set is: what was read, and on a refusal its cause.
@@ -50,10 +52,11 @@ pub fn read_dead_list<D: Disk + Drop>(
         (IsListRefused store.old store.new missing.now set.now birth number) }
     ensures caused { IfErr result (IsCausedOf store.old store.new missing.now) }
 
-    // And it is read, over disks that answer truly, unless too many disks miss of a block.
+    // And it is read, over disks whose answers tell, unless too many disks miss of a block.
     ensures known { IfErr result (λ refusal. (stored : Contents) (objects : ℕ → Option Object)
         (own : List Block) (blocks : ℕ → List Block) → Holds store.old stored
-        → AreObjects stored birth set.now objects own blocks → AnswersAreTrue store.old store.new
+        → AreObjects stored birth set.now objects own blocks
+        → AnswersTell store.old store.new missing.now
         → IsForLossOf refusal ⊎ ¬ HasSomeDeadList (objects number)) }
 {
     let rows = object_table::read(set, store, alloc, DEAD_LIST_KIND, number, birth, missing)?;
@@ -91,7 +94,8 @@ pub fn read_dead_list_end<D: Disk + Drop>(
     ensures reads { OnlyReadsBlocks store.old store.new missing.now }
     ensures value { IfOk result (λ end. (stored : Contents) (objects : ℕ → Option Object)
         (own : List Block) (blocks : ℕ → List Block) → Holds store.old stored
-        → AreObjects stored birth set.now objects own blocks → AnswersAreTrue store.old store.new
+        → AreObjects stored birth set.now objects own blocks
+        → AnswersTell store.old store.new missing.now
         → (rows : List ℕ) → HasTable dead_list_kind (objects number) rows
         → IsEndOf dead_list_kind (objects number) rows end) }
 
@@ -101,10 +105,11 @@ pub fn read_dead_list_end<D: Disk + Drop>(
         (IsEndUnread store.old store.new missing.now set.now birth number) }
     ensures caused { IfErr result (IsCausedOf store.old store.new missing.now) }
 
-    // And it is read, over disks that answer truly, unless too many disks miss of a block.
+    // And it is read, over disks whose answers tell, unless too many disks miss of a block.
     ensures known { IfErr result (λ refusal. (stored : Contents) (objects : ℕ → Option Object)
         (own : List Block) (blocks : ℕ → List Block) → Holds store.old stored
-        → AreObjects stored birth set.now objects own blocks → AnswersAreTrue store.old store.new
+        → AreObjects stored birth set.now objects own blocks
+        → AnswersTell store.old store.new missing.now
         → IsForLossOf refusal ⊎ ((rows : List ℕ) → ¬ HasTable dead_list_kind (objects number) rows)) }
 {
     let end = object_table::read_end(set, store, alloc, DEAD_LIST_KIND, number, birth, missing)?;

@@ -9,11 +9,11 @@ use Rattle.block_pointer.specs.declared.property.Property.{Property}
 use Rattle.block_store.specs.Blocks.{Contents}
 use Rattle.block_store.specs.Store.{Store, Holds}
 use Rattle.dnode.specs.declared.node.ObjectNode.{ObjectNode}
-use Rattle.block_store.specs.Steps.{OnlyReadsBlocks, AnswersAreTrue}
+use Rattle.block_store.specs.Steps.{OnlyReadsBlocks, AnswersTell}
 use Rattle.dnode_tree.specs.Subtree.{IsSubtree, AreParts, joined}
 use Rattle.dnode_tree.specs.Tree.{property_of}
 use Rattle.block_store.proofs.Steps.{reads_none, reads_on}
-use Rattle.dnode_tree.proofs.FurtherReads.{true_before, true_after}
+use Rattle.dnode_tree.proofs.FurtherReads.{told_before, told_after}
 use Rattle.dnode_tree.proofs.Parts.{indirect_part}
 
 pub joined-take_more : (parts : List (List Block)) (i : ℕ) → i < length parts → joined (take i parts) ++ get_or parts i [] ≡ joined (take (i + 1) parts)
@@ -49,27 +49,27 @@ part_at stored property next first birth pointers array parts k child other are 
 pub record IsCollecting (mid now : Store) (missing : List ℕ) (node : ObjectNode) (next birth : ℕ) (pointers : List BlockPtr) (n : ℕ) (earlier found : List Block) : Type 0 where
   pub reads : OnlyReadsBlocks mid now missing
   pub so_far : (stored : Contents) (first : ℕ) (array : ℕ → Option (List ℕ)) (parts : List (List Block)) → Holds mid stored
-      → AreParts stored (property_of node) next first birth pointers array parts → AnswersAreTrue mid now → found ≡ earlier ++ joined (take n parts)
+      → AreParts stored (property_of node) next first birth pointers array parts → AnswersTell mid now missing → found ≡ earlier ++ joined (take n parts)
 
 pub collecting_begins : (mid : Store) (missing : List ℕ) (node : ObjectNode) (next birth : ℕ) (pointers : List BlockPtr) (earlier : List Block)
     → IsCollecting mid mid missing node next birth pointers 0 earlier earlier
 collecting_begins mid missing node next birth pointers earlier =
-    record { reads = reads_none mid missing; so_far = λ stored first array parts held are honest. sym (append-nil earlier) }
+    record { reads = reads_none mid missing; so_far = λ stored first array parts held are tell. sym (append-nil earlier) }
 
 pub collecting_goes_on : (mid now after : Store) (missing : List ℕ) (node : ObjectNode) (next birth : ℕ) (pointers : List BlockPtr) (child other : BlockPtr) (n : ℕ) (earlier found more : List Block)
     → IsCollecting mid now missing node next birth pointers n earlier found → n < length pointers → child ≡ get_or pointers n other
     → OnlyReadsBlocks now after missing
     → ((stored : Contents) (first : ℕ) (array : ℕ → Option (List ℕ)) (blocks : List Block) → Holds now stored
-    → IsSubtree stored (property_of node) next first birth child array blocks → AnswersAreTrue now after → more ≡ found ++ blocks)
+    → IsSubtree stored (property_of node) next first birth child array blocks → AnswersTell now after missing → more ≡ found ++ blocks)
     → IsCollecting mid after missing node next birth pointers (n + 1) earlier more
 collecting_goes_on mid now after missing node next birth pointers child other n earlier found more done low is reads step = record {
   reads = reads_on mid now after missing done.reads reads;
-  so_far = λ stored first array parts held are honest.
+  so_far = λ stored first array parts held are tell.
       let room : n < length parts = omega (arith, low, are.pointer_count, are.count) in
       step stored (first + n * 128 ^ next) array (get_or parts n []) (done.reads.keeps stored held)
       (part_at stored (property_of node) next first birth pointers array parts n child other are low is)
-      (true_after mid now after missing done.reads reads honest)
-      ∙ ap (λ blocks. blocks ++ get_or parts n []) (done.so_far stored first array parts held are (true_before mid now after missing done.reads reads honest))
+      (told_after mid now after missing done.reads reads tell)
+      ∙ ap (λ blocks. blocks ++ get_or parts n []) (done.so_far stored first array parts held are (told_before mid now after missing done.reads reads tell))
       ∙ append_assoc earlier (joined (take n parts)) (get_or parts n [])
       ∙ ap (λ blocks. earlier ++ blocks) (joined-take_more parts n room);
 }
@@ -77,11 +77,11 @@ collecting_goes_on mid now after missing node next birth pointers child other n 
 pub collected_all : (mid now : Store) (missing : List ℕ) (node : ObjectNode) (next birth : ℕ) (pointers : List BlockPtr) (n : ℕ) (before earlier found blocks : List Block) (block : Block)
     → IsCollecting mid now missing node next birth pointers n earlier found → length pointers ≤ n → earlier ≡ before ++ block ∷ []
     → (stored : Contents) (first : ℕ) (array : ℕ → Option (List ℕ)) (parts : List (List Block)) → Holds mid stored
-    → AreParts stored (property_of node) next first birth pointers array parts → AnswersAreTrue mid now → blocks ≡ block ∷ joined parts
+    → AreParts stored (property_of node) next first birth pointers array parts → AnswersTell mid now missing → blocks ≡ block ∷ joined parts
     → found ≡ before ++ blocks
-collected_all mid now missing node next birth pointers n before earlier found blocks block done all earlier_is stored first array parts held are honest blocks_are =
+collected_all mid now missing node next birth pointers n before earlier found blocks block done all earlier_is stored first array parts held are tell blocks_are =
     let past : length parts ≤ n = omega (arith, all, are.pointer_count, are.count) in
-    done.so_far stored first array parts held are honest
+    done.so_far stored first array parts held are tell
     ∙ ap (λ taken. earlier ++ joined taken) (take_all n parts past)
     ∙ ap (λ blocks. blocks ++ joined parts) earlier_is
     ∙ append_assoc before (block ∷ []) (joined parts)

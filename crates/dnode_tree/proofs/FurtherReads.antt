@@ -1,12 +1,12 @@
 -- What holds of reads one after the other holds of each.
 use Rattle.std.proofs.Common.{ℕ, List}
-use Rattle.block_store.specs.Steps.{OnlyReadsBlocks, AnswersAreTrue}
+use Rattle.block_store.specs.Steps.{OnlyReadsBlocks, AnswersTell}
 use Rattle.block_store.specs.Store.{Store}
-use Rattle.block_store.proofs.Steps.{true_before as true_first, true_after as true_rest}
+use Rattle.block_store.proofs.Telling.{read_before, read_after}
 
 module _ (old mid new : Store) (missing : List ℕ) (first : OnlyReadsBlocks old mid missing) (rest : OnlyReadsBlocks mid new missing) where
-  pub true_before : AnswersAreTrue old new → AnswersAreTrue old mid
-  true_before honest = true_first old mid new rest.reads honest
+  pub told_before : AnswersTell old new missing → AnswersTell old mid missing
+  told_before tell = read_before old mid new missing first rest tell
 
-  pub true_after : AnswersAreTrue old new → AnswersAreTrue mid new
-  true_after honest = true_rest old mid new first.reads honest
+  pub told_after : AnswersTell old new missing → AnswersTell mid new missing
+  told_after tell = read_after old mid new missing first rest tell

@@ -18,7 +18,7 @@ use Rattle.block_store.specs.declared.refusal.Refusal.{Refusal}
 use Rattle.block_store.specs.Spaces.{VdevSpace}
 use Rattle.block_store.specs.Blocks.{Contents}
 use Rattle.block_store.specs.Reading.{IsReadAs}
-use Rattle.block_store.specs.Steps.{OnlyReadsBlocks, AnswersAreTrue}
+use Rattle.block_store.specs.Steps.{OnlyReadsBlocks, AnswersTell}
 use Rattle.block_store.specs.Store.{Store, Holds}
 use Rattle.block_store.proofs.Steps.{reads_none, reads_on}
 use Rattle.dnode.specs.declared.node.ObjectNode.{ObjectNode}
@@ -30,7 +30,7 @@ use Rattle.dnode_tree.specs.Subtree.{asked_of, AreParts, IsSubtree}
 use Rattle.dnode_tree.specs.Tree.{property_of, IsPart}
 use Rattle.dnode_tree.specs.Ways.{AreReadAs, reached, ComesTo, bytes_of, IsFoundBelow, IsRefusedBelow}
 use Rattle.dnode_tree.proofs.Collecting.{part_at, parts_below}
-use Rattle.dnode_tree.proofs.FurtherReads.{true_before, true_after}
+use Rattle.dnode_tree.proofs.FurtherReads.{told_before, told_after}
 use Rattle.dnode_tree.proofs.Parts.{hole_part, data_part, indirect_part}
 use Rattle.dnode_tree.proofs.Spans.{span_positive, span_up}
 use Rattle.dnode_tree.proofs.WayLemmas.{hole_found, block_found, leads_down, refused_down}
@@ -136,10 +136,10 @@ module _ (property : ℕ → Property) (level next birth : ℕ) (pointer : Block
 
 -- ---- a data block, and a hole
 
-pub data_added : (old new : Store) (node : ObjectNode) (part : Subtree) (first : ℕ) (ids : List ℕ) (asked : Asked) (block : Block) (before after : FoundBlocks)
+pub data_added : (old new : Store) (missing : List ℕ) (node : ObjectNode) (part : Subtree) (first : ℕ) (ids : List ℕ) (asked : Asked) (block : Block) (before after : FoundBlocks)
     → part.level ≡ 0 → part.pointer ≡ At block → asked ≡ asked_of (property_of node part.level) part.birth → ids ≡ first ∷ []
-    → IsDataAdded old new asked block before after → HaveAdded old new node part first ids before after
-data_added old new node part first ids asked block before after e is asked_is ids_are there =
+    → IsDataAdded old new missing asked block before after → HaveAdded old new missing node part first ids before after
+data_added old new missing node part first ids asked block before after e is asked_is ids_are there =
     let read : IsReadAs old.spaces (asked_of (property_of node part.level) part.birth) block there.bytes.items =
     subst (λ a. IsReadAs old.spaces a block there.bytes.items) asked_is there.read in
     record {
@@ -147,33 +147,33 @@ data_added old new node part first ids asked block before after e is asked_is id
       added = there.added;
       found = subst (λ xs. AreFoundIn old.spaces node part first xs (Some there.bytes ∷ [])) (sym ids_are)
           ((block_found old.spaces (property_of node) part.level part.birth part.pointer (first - first) block (record { bytes = there.bytes; birth = block.birth }) e is read refl).below, tt);
-      value = λ stored array blocks held part_is honest.
+      value = λ stored array blocks held part_is tell.
           let (bytes, stands, known, blocks_are) = data_part stored (property_of node) part.level 0 first part.birth part.pointer block array blocks e is part_is in
-          subst (λ xs. AreAsIn array xs (Some there.bytes ∷ [])) (sym ids_are) (ap (λ bs. Some bs) (there.value stored bytes held stands.known honest) ∙ sym known, tt);
+          subst (λ xs. AreAsIn array xs (Some there.bytes ∷ [])) (sym ids_are) (ap (λ bs. Some bs) (there.value stored bytes held stands.known tell) ∙ sym known, tt);
     }
 
 -- no bytes for each of the ids
-pub nothing_added : (old : Store) (node : ObjectNode) (part : Subtree) (first : ℕ) (ids : List ℕ) (before after : FoundBlocks)
+pub nothing_added : (old : Store) (missing : List ℕ) (node : ObjectNode) (part : Subtree) (first : ℕ) (ids : List ℕ) (before after : FoundBlocks)
     → part.pointer ≡ Hole → AreIdsBetween first (first + 128 ^ part.level) ids → after ≡ before ++ replicate (length ids) None
-    → HaveAdded old old node part first ids before after
-nothing_added old node part first ids before after is between added = record {
+    → HaveAdded old old missing node part first ids before after
+nothing_added old missing node part first ids before after is between added = record {
   more = replicate (length ids) None;
   added = added;
   found = zip_none (λ id. (first ≤ id) × (id < first + 128 ^ part.level))
       (λ id (block : Option (Vec ℕ Global)). IsFoundBelow old.spaces (property_of node) (reached_part part) (id - first) (bytes_of block)) None ids
       (λ id range. (hole_found old.spaces (property_of node) part.level part.birth part.pointer (id - first) is).below) between;
-  value = λ stored array blocks held part_is honest.
+  value = λ stored array blocks held part_is tell.
       let empty = hole_part stored (property_of node) part.level first part.birth part.pointer array blocks is part_is in
       zip_none (λ id. (first ≤ id) × (id < first + 128 ^ part.level)) (λ id (block : Option (Vec ℕ Global)). bytes_of block ≡ array id) None ids
       (λ id range. sym (empty.0 id range.0 range.1)) between;
 }
 
-pub none_added : (old : Store) (node : ObjectNode) (part : Subtree) (first : ℕ) (ids : List ℕ) (before : FoundBlocks) → ids ≡ [] → HaveAdded old old node part first ids before before
-none_added old node part first ids before none = record {
+pub none_added : (old : Store) (missing : List ℕ) (node : ObjectNode) (part : Subtree) (first : ℕ) (ids : List ℕ) (before : FoundBlocks) → ids ≡ [] → HaveAdded old old missing node part first ids before before
+none_added old missing node part first ids before none = record {
   more = [];
   added = sym (append-nil before);
   found = subst (λ xs. AreFoundIn old.spaces node part first xs []) (sym none) tt;
-  value = λ stored array blocks held part_is honest. subst (λ xs. AreAsIn array xs []) (sym none) tt;
+  value = λ stored array blocks held part_is tell. subst (λ xs. AreAsIn array xs []) (sym none) tt;
 }
 
 -- ---- the loop over the parts below a root
@@ -191,7 +191,7 @@ pub record IsGetting (old mid now : Store) (missing : List ℕ) (node : ObjectNo
   pub added : after ≡ before ++ more
   pub found : AreFoundIn old.spaces node part first taken more
   pub value : (stored : Contents) (array : ℕ → Option (List ℕ)) (parts : List (List Block)) → Holds mid stored
-      → AreParts stored (property_of node) next first birth pointers array parts → AnswersAreTrue mid now → AreAsIn array taken more
+      → AreParts stored (property_of node) next first birth pointers array parts → AnswersTell mid now missing → AreAsIn array taken more
 
 pub getting_begins : (old mid : Store) (missing : List ℕ) (node : ObjectNode) (part : Subtree) (first next birth : ℕ) (pointers : List BlockPtr) (ids : List ℕ) (before : FoundBlocks)
     → OnlyReadsBlocks old mid missing → part.level ≡ suc next → IsStrictlyIncreasing ids → AreIdsBetween first (first + 128 ^ part.level) ids
@@ -206,7 +206,7 @@ getting_begins old mid missing node part first next birth pointers ids before be
   more = [];
   added = sym (append-nil before);
   found = tt;
-  value = λ stored array parts held are honest. tt;
+  value = λ stored array parts held are tell. tt;
 }
 
 -- the root of a part by the pointer to it
@@ -262,7 +262,7 @@ module _ (old mid now later : Store) (missing : List ℕ) (node : ObjectNode) (p
       subst (λ s. IsSubtree stored (property_of node) next s block.birth child array (get_or parts k [])) (sym start_is)
       (part_at stored (property_of node) next first block.birth pointers array parts k child child are (omega (arith, low, are.pointer_count)) child_is)
 
-  pub getting_goes_on : (more_after : FoundBlocks) → HaveAdded now later node (child_at next child block.birth) start run after more_after
+  pub getting_goes_on : (more_after : FoundBlocks) → HaveAdded now later missing node (child_at next child block.birth) start run after more_after
       → IsGetting old mid later missing node part first next block.birth pointers ids others (k + 1) before more_after
   getting_goes_on more_after step =
       let P : ℕ → Option (Vec ℕ Global) → Type 0 = λ id found. IsFoundBelow old.spaces (property_of node) (reached_part part) (id - first) (bytes_of found) in
@@ -284,11 +284,11 @@ module _ (old mid now later : Store) (missing : List ℕ) (node : ObjectNode) (p
         more = so_far.more ++ step.more;
         added = step.added ∙ ap (λ front. front ++ step.more) so_far.added ∙ append_assoc before so_far.more step.more;
         found = zip_append P so_far.taken run so_far.more step.more so_far.found found_now;
-        value = λ stored array parts held are honest.
+        value = λ stored array parts held are tell.
             zip_append (λ id (found : Option (Vec ℕ Global)). bytes_of found ≡ array id) so_far.taken run so_far.more step.more
-            (so_far.value stored array parts held are (true_before mid now later missing so_far.reads reads honest))
+            (so_far.value stored array parts held are (told_before mid now later missing so_far.reads reads tell))
             (step.value stored array (get_or parts k []) (so_far.reads.keeps stored held) (child_part stored array parts are)
-            (true_after mid now later missing so_far.reads reads honest));
+            (told_after mid now later missing so_far.reads reads tell));
       }
 
   pub getting_fails : (refusal : Refusal) → IsOneRefusedIn now later missing node (child_at next child block.birth) start run refusal → IsOneRefusedIn old later missing node part first ids refusal
@@ -312,18 +312,18 @@ module _ (old mid now : Store) (missing : List ℕ) (node : ObjectNode) (part : 
     (k : ℕ) (before after : FoundBlocks) (so_far : IsGetting old mid now missing node part first next block.birth pointers ids rest k before after)
     (e : part.level ≡ suc next) (is : part.pointer ≡ At block)
     (spelled : (stored : Contents) (bytes : List ℕ) (others : List BlockPtr) → Holds old stored → stored block ≡ Some bytes → SpellsIndirect bytes others
-    → AnswersAreTrue old mid → pointers ≡ others) where
+    → AnswersTell old mid missing → pointers ≡ others) where
   -- the parts below the root of a part of the tree
-  pub parts_of_root : (stored : Contents) (array : ℕ → Option (List ℕ)) (blocks : List Block) → Holds old stored → IsPart stored node first part array blocks → AnswersAreTrue old mid
+  pub parts_of_root : (stored : Contents) (array : ℕ → Option (List ℕ)) (blocks : List Block) → Holds old stored → IsPart stored node first part array blocks → AnswersTell old mid missing
       → (parts : List (List Block)) × AreParts stored (property_of node) next first block.birth pointers array parts
-  parts_of_root stored array blocks held part_is honest =
+  parts_of_root stored array blocks held part_is tell =
       let there = indirect_part stored (property_of node) part.level next first part.birth part.pointer block array blocks e is part_is in (
         there.parts,
         parts_below stored (property_of node) part.level next first part.birth part.pointer block array blocks pointers e is part_is
-            (spelled stored there.bytes there.pointers held there.known there.spelled honest),
+            (spelled stored there.bytes there.pointers held there.known there.spelled tell),
       )
 
-  pub getting_ends : k ≡ 128 → HaveAdded old now node part first ids before after
+  pub getting_ends : k ≡ 128 → HaveAdded old now missing node part first ids before after
   getting_ends k_is =
       let size : k * 128 ^ next ≡ 128 * 128 ^ next = ap (λ j. j * 128 ^ next) k_is in
       let none : rest ≡ [] = none_between rest (first + k * 128 ^ next) (first + 128 * 128 ^ next) so_far.between (omega (arith, size)) in
@@ -332,8 +332,8 @@ module _ (old mid now : Store) (missing : List ℕ) (node : ObjectNode) (part : 
         more = so_far.more;
         added = so_far.added;
         found = subst (λ xs. AreFoundIn old.spaces node part first xs so_far.more) all so_far.found;
-        value = λ stored array blocks held part_is honest.
-            let (parts, are) = parts_of_root stored array blocks held part_is (true_before old mid now missing so_far.begun so_far.reads honest) in
+        value = λ stored array blocks held part_is tell.
+            let (parts, are) = parts_of_root stored array blocks held part_is (told_before old mid now missing so_far.begun so_far.reads tell) in
             subst (λ xs. AreAsIn array xs so_far.more) all
-            (so_far.value stored array parts (so_far.begun.keeps stored held) are (true_after old mid now missing so_far.begun so_far.reads honest));
+            (so_far.value stored array parts (so_far.begun.keeps stored held) are (told_after old mid now missing so_far.begun so_far.reads tell));
       }

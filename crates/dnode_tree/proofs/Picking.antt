@@ -10,7 +10,7 @@ use Rattle.block_pointer.specs.declared.pointer.BlockPtr.TheVariants.{Hole, Bloc
 use Rattle.block_pointer.specs.declared.property.Property.{Property}
 use Rattle.block_store.specs.Blocks.{Contents}
 use Rattle.block_store.specs.Store.{Store, Holds}
-use Rattle.block_store.specs.Steps.{OnlyReadsBlocks, AnswersAreTrue}
+use Rattle.block_store.specs.Steps.{OnlyReadsBlocks, AnswersTell}
 use Rattle.block_store.proofs.Steps.{reads_none, reads_on}
 use Rattle.dnode.specs.declared.node.ObjectNode.{ObjectNode}
 use Rattle.block_store.specs.Reading.{Asks}
@@ -20,7 +20,7 @@ use Rattle.dnode_tree.specs.Within.{indirect_count}
 use Rattle.dnode_tree.specs.Younger.{is_picked}
 use Rattle.dnode_tree.proofs.Enough.{root_counted, still_enough}
 use Rattle.dnode_tree.proofs.Collecting.{joined-take_more, part_at}
-use Rattle.dnode_tree.proofs.FurtherReads.{true_before, true_after}
+use Rattle.dnode_tree.proofs.FurtherReads.{told_before, told_after}
 use Rattle.dnode_tree.proofs.Parts.{hole_part}
 use Rattle.dnode_tree.proofs.Standing.{blocks_known}
 
@@ -66,29 +66,29 @@ picked_by_birth (Some group) block older within fails =
 pub record IsPicking (picks : Block → Bool) (mid now : Store) (missing : List ℕ) (node : ObjectNode) (next birth : ℕ) (pointers : List BlockPtr) (n : ℕ) (earlier found : List Block) : Type 0 where
   pub reads : OnlyReadsBlocks mid now missing
   pub so_far : (stored : Contents) (first : ℕ) (array : ℕ → Option (List ℕ)) (parts : List (List Block)) → Holds mid stored
-      → AreParts stored (property_of node) next first birth pointers array parts → AnswersAreTrue mid now → found ≡ earlier ++ joined (take n (picked_parts picks parts))
+      → AreParts stored (property_of node) next first birth pointers array parts → AnswersTell mid now missing → found ≡ earlier ++ joined (take n (picked_parts picks parts))
 
 pub picking_begins : (picks : Block → Bool) (mid : Store) (missing : List ℕ) (node : ObjectNode) (next birth : ℕ) (pointers : List BlockPtr) (earlier : List Block)
     → IsPicking picks mid mid missing node next birth pointers 0 earlier earlier
 picking_begins picks mid missing node next birth pointers earlier =
-    record { reads = reads_none mid missing; so_far = λ stored first array parts held are honest. sym (append-nil earlier) }
+    record { reads = reads_none mid missing; so_far = λ stored first array parts held are tell. sym (append-nil earlier) }
 
 pub picking_goes_on : (picks : Block → Bool) (mid now after : Store) (missing : List ℕ) (node : ObjectNode) (next birth : ℕ) (pointers : List BlockPtr) (child other : BlockPtr) (n : ℕ) (earlier found more : List Block)
     → IsPicking picks mid now missing node next birth pointers n earlier found → n < length pointers → child ≡ get_or pointers n other
     → OnlyReadsBlocks now after missing
     → ((stored : Contents) (first : ℕ) (array : ℕ → Option (List ℕ)) (blocks : List Block) → Holds now stored
-    → IsSubtree stored (property_of node) next first birth child array blocks → AnswersAreTrue now after → more ≡ found ++ filter picks blocks)
+    → IsSubtree stored (property_of node) next first birth child array blocks → AnswersTell now after missing → more ≡ found ++ filter picks blocks)
     → IsPicking picks mid after missing node next birth pointers (n + 1) earlier more
 picking_goes_on picks mid now after missing node next birth pointers child other n earlier found more done low is reads step = record {
   reads = reads_on mid now after missing done.reads reads;
-  so_far = λ stored first array parts held are honest.
+  so_far = λ stored first array parts held are tell.
       let room : n < length parts = omega (arith, low, are.pointer_count, are.count) in
       let whole : List (List Block) = picked_parts picks parts in
       let here : get_or whole n [] ≡ filter picks (get_or parts n []) = get_or-map (filter picks) parts n [] [] room in
       step stored (first + n * 128 ^ next) array (get_or parts n []) (done.reads.keeps stored held)
       (part_at stored (property_of node) next first birth pointers array parts n child other are low is)
-      (true_after mid now after missing done.reads reads honest)
-      ∙ ap (λ blocks. blocks ++ filter picks (get_or parts n [])) (done.so_far stored first array parts held are (true_before mid now after missing done.reads reads honest))
+      (told_after mid now after missing done.reads reads tell)
+      ∙ ap (λ blocks. blocks ++ filter picks (get_or parts n [])) (done.so_far stored first array parts held are (told_before mid now after missing done.reads reads tell))
       ∙ append_assoc earlier (joined (take n whole)) (filter picks (get_or parts n []))
       ∙ ap (λ blocks. earlier ++ (joined (take n whole) ++ blocks)) (sym here)
       ∙ ap (λ blocks. earlier ++ blocks) (joined-take_more whole n (omega (arith, room, length-map parts (filter picks))));
@@ -97,12 +97,12 @@ picking_goes_on picks mid now after missing node next birth pointers child other
 pub picked_all : (picks : Block → Bool) (mid now : Store) (missing : List ℕ) (node : ObjectNode) (next birth : ℕ) (pointers : List BlockPtr) (n : ℕ) (before earlier found blocks : List Block) (block : Block)
     → IsPicking picks mid now missing node next birth pointers n earlier found → length pointers ≤ n → earlier ≡ before ++ block ∷ [] → picks block ≡ true
     → (stored : Contents) (first : ℕ) (array : ℕ → Option (List ℕ)) (parts : List (List Block)) → Holds mid stored
-    → AreParts stored (property_of node) next first birth pointers array parts → AnswersAreTrue mid now → blocks ≡ block ∷ joined parts
+    → AreParts stored (property_of node) next first birth pointers array parts → AnswersTell mid now missing → blocks ≡ block ∷ joined parts
     → found ≡ before ++ filter picks blocks
-picked_all picks mid now missing node next birth pointers n before earlier found blocks block done all earlier_is passes stored first array parts held are honest blocks_are =
+picked_all picks mid now missing node next birth pointers n before earlier found blocks block done all earlier_is passes stored first array parts held are tell blocks_are =
     let whole : List (List Block) = picked_parts picks parts in
     let past : length whole ≤ n = omega (arith, all, are.pointer_count, are.count, length-map parts (filter picks)) in
-    done.so_far stored first array parts held are honest
+    done.so_far stored first array parts held are tell
     ∙ ap (λ taken. earlier ++ joined taken) (take_all n whole past)
     ∙ ap (λ blocks. blocks ++ joined whole) earlier_is
     ∙ append_assoc before (block ∷ []) (joined whole)

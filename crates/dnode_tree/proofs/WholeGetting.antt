@@ -10,7 +10,7 @@ use Rattle.block_pointer.specs.declared.block.Block.{Block}
 use Rattle.block_store.specs.declared.refusal.Refusal.{Refusal}
 use Rattle.block_store.specs.declared.refusal.Refusal.TheVariants.{NoMemory}
 use Rattle.block_store.specs.Blocks.{Contents}
-use Rattle.block_store.specs.Steps.{AnswersAreTrue}
+use Rattle.block_store.specs.Steps.{AnswersTell}
 use Rattle.block_store.specs.Store.{Store, Holds}
 use Rattle.dnode.specs.declared.node.ObjectNode.{ObjectNode}
 use Rattle.dnode.specs.Levels.{levels_of}
@@ -48,8 +48,8 @@ module _ (ids within behind : List ℕ) (n highest : ℕ) (within_is : within �
       nothing [] above under = refl
       nothing (x ∷ xs) above under = absurd (omega (arith, All-head (λ id. highest < id) x xs above, All-head (λ id. id < highest + 1) x xs under))
 
-  module _ (old new : Store) (node : ObjectNode) (birth level : ℕ) (empty between after : FoundBlocks) (level_is : level ≡ levels_of node.highest - 1) (highest_is : highest ≡ node.highest)
-      (nothing : empty ≡ []) (step : HaveAdded old new node (child_at level node.pointer birth) 0 within empty between)
+  module _ (old new : Store) (missing : List ℕ) (node : ObjectNode) (birth level : ℕ) (empty between after : FoundBlocks) (level_is : level ≡ levels_of node.highest - 1) (highest_is : highest ≡ node.highest)
+      (nothing : empty ≡ []) (step : HaveAdded old new missing node (child_at level node.pointer birth) 0 within empty between)
       (rest : after ≡ between ++ replicate (length behind) None) where
     after_is : step.more ++ replicate (length behind) None ≡ after
     after_is = sym (rest ∙ ap (λ front. front ++ replicate (length behind) None) (step.added ∙ ap (λ front. front ++ step.more) nothing))
@@ -72,11 +72,11 @@ module _ (ids within behind : List ℕ) (n highest : ℕ) (within_is : within �
         (subst (λ all. AllZip P (within ++ behind) all) after_is (zip_append P within behind step.more (replicate (length behind) None) front back))
 
     pub many_as_in : All (λ id. highest < id) behind → (stored : Contents) (array : ℕ → Option (List ℕ)) (blocks : List Block) → Holds old stored
-        → IsTree stored birth node array blocks → AnswersAreTrue old new → AreAsIn array ids after
-    many_as_in far stored array blocks held tree honest =
+        → IsTree stored birth node array blocks → AnswersTell old new missing → AreAsIn array ids after
+    many_as_in far stored array blocks held tree tell =
         let P : ℕ → Option (Vec ℕ Global) → Type 0 = λ id block. bytes_of block ≡ array id in
         let front : AllZip P within step.more = step.value stored array blocks held
-        (subst (λ l. IsSubtree stored (property_of node) l 0 birth node.pointer array blocks) (sym level_is) tree.root) honest in
+        (subst (λ l. IsSubtree stored (property_of node) l 0 birth node.pointer array blocks) (sym level_is) tree.root) tell in
         let back : AllZip P behind (replicate (length behind) None) =
         zip_none (λ id. highest < id) P None behind (λ id lt. sym (tree.behind id (omega (arith, lt, highest_is)))) far in
         subst (λ xs. AreAsIn array xs after) (sym whole_split)

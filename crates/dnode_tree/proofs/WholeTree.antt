@@ -14,7 +14,7 @@ use Rattle.block_store.specs.Store.{Store}
 use Rattle.dnode_tree.specs.declared.writes.BlockWrite.{BlockWrite}
 use Rattle.dnode_tree.specs.declared.writes.CopyCounts.{CopyCounts}
 use Rattle.dnode_tree.specs.declared.writes.Rewrite.{Rewrite}
-use Rattle.block_store.specs.Steps.{OnlyReadsAndPlans, AnswersAreTrue}
+use Rattle.block_store.specs.Steps.{OnlyReadsAndPlans, AnswersTell}
 use Rattle.dnode_tree.specs.Births.{AreBirths, HasBirths, height_of, is_above, reaches, births_after}
 use Rattle.dnode_tree.specs.PartsRewritten.{Ages, AgesOfParts, AreBirthsAfter, IsPartRewritten, HasWrites}
 use Rattle.dnode_tree.proofs.Births.{reaches_taken, reaches_dropped}
@@ -30,7 +30,7 @@ use Rattle.dnode_tree.proofs.Kept.{subtree_as}
 use Rattle.dnode_tree.proofs.NewArrays.{behind_all, order_dropped, has_before, has_behind, written_others}
 use Rattle.dnode_tree.proofs.Spans.{span_up}
 use Rattle.block_store.proofs.Steps.{steps_on}
-use Rattle.dnode_tree.proofs.Steps.{true_sooner, true_later}
+use Rattle.dnode_tree.proofs.Steps.{told_sooner, told_later}
 
 -- where births are told, they are those of the object, and after the writes
 abbrev pub AgesOfTree : ℕ → Contents → ObjectNode → List BlockWrite → Option Ages → Type 0
@@ -52,7 +52,7 @@ pub record IsRaising (copies : CopyCounts) (start now : Store) (missing : List �
       → IsSubtree stored (property_of node) (levels_of node.highest - 1) 0 birth node.pointer array blocks
       → ((id : ℕ) → node.highest < id → array id ≡ None)
       → AgesOfTree birth stored node writes ages
-      → AnswersAreTrue start now
+      → AnswersTell start now missing
       → (present : Contents) × Plans now stored present
       × IsPartRewritten ages copies planned present (property_of node) level 0 birth pointer (written writes array) blocks [] noted_now
       × HasWrites (written writes array) array rest (128 ^ level) (128 ^ 5)
@@ -127,7 +127,7 @@ module _ (start now : Store) (missing : List ℕ) (node : ObjectNode) (birth : �
       → IsSubtree stored (property_of node) (levels_of node.highest - 1) 0 birth node.pointer array blocks
       → ((told : Ages) → ages ≡ Some told → AreBirths stored (levels_of node.highest - 1) 0 node.pointer told.old
       × AreBirthsAfter birth run told.old told.new (levels_of node.highest - 1) 0 (0 + 128 ^ (levels_of node.highest - 1)))
-      → AnswersAreTrue start now
+      → AnswersTell start now missing
       → (present : Contents) × Plans now stored present
       × IsPartRewritten ages copies planned present (property_of node) (levels_of node.highest - 1) 0 birth pointer (written run array) blocks noted_first noted_now)
       → IsRaising copies start now missing node level birth pointer writes rest noted_now
@@ -142,8 +142,8 @@ module _ (start now : Store) (missing : List ℕ) (node : ObjectNode) (birth : �
         order = order_dropped writes n order;
         whole = All-drop (λ (write : BlockWrite). length write.bytes.items ≡ node.data_sectors * 512) n writes whole;
         reached = λ low first from. reaches_dropped writes n middle low first sooner (omega (arith, from, bottom));
-        rewriting = λ ages stored planned array blocks plans root nothing aged honest.
-            let done = step ages stored planned array blocks plans root (λ told told_is. ((aged told told_is).0, root_ages ages stored aged told told_is)) honest in (
+        rewriting = λ ages stored planned array blocks plans root nothing aged tell.
+            let done = step ages stored planned array blocks plans root (λ told told_is. ((aged told told_is).0, root_ages ages stored aged told told_is)) tell in (
               done.0,
               done.1,
               subst (λ noted. IsPartRewritten ages copies planned done.0 (property_of node) (levels_of node.highest - 1) 0 birth pointer (written writes array) blocks noted noted_now) none
@@ -206,7 +206,7 @@ module _ {copies : CopyCounts} (start now : Store) (missing : List ℕ) (node : 
         → ((ages : Option Ages) (stored planned present : Contents) (array new_array : ℕ → Option (List ℕ)) (before noted : List Block) → Plans now stored present
         → IsPartRewritten ages copies planned present (property_of node) level 0 birth pointer new_array before noted noted_now
         → ((id : ℕ) → 128 ^ level ≤ id → array id ≡ None) → HasWrites new_array array run (128 ^ level) (128 * 128 ^ level)
-        → AgesOfParts birth level 0 1 run ages → AnswersAreTrue now after_write
+        → AgesOfParts birth level 0 1 run ages → AnswersTell now after_write missing
         → (later : Contents) × Plans after_write stored later
         × IsPartRewritten ages copies planned later (property_of node) (level + 1) 0 birth new_pointer new_array before noted noted_later)
         → IsRaising copies start after_write missing node (level + 1) birth new_pointer writes others noted_later
@@ -224,10 +224,10 @@ module _ {copies : CopyCounts} (start now : Store) (missing : List ℕ) (node : 
           whole = All-drop (λ (write : BlockWrite). length write.bytes.items ≡ node.data_sectors * 512) n rest so_far.whole;
           reached = λ low first from.
               so_far.reached low first (omega (arith, from, up, middle_is, span_positive level)) ∙ reaches_dropped rest n middle low first sooner (omega (arith, from, up));
-          rewriting = λ ages stored planned array blocks plans root nothing aged honest.
-              let there = so_far.rewriting ages stored planned array blocks plans root nothing aged (true_sooner start now after_write missing so_far.steps steps honest) in
+          rewriting = λ ages stored planned array blocks plans root nothing aged tell.
+              let there = so_far.rewriting ages stored planned array blocks plans root nothing aged (told_sooner start now after_write missing so_far.steps steps tell) in
               let done = step ages stored planned there.0 array (written writes array) blocks [] there.1 there.2 (nothing_behind node array level enough so_far.above nothing)
-              (level_has (written writes array) array there.3) (level_ages ages stored aged) (true_later start now after_write missing so_far.steps steps honest) in (
+              (level_has (written writes array) array there.3) (level_ages ages stored aged) (told_later start now after_write missing so_far.steps steps tell) in (
                 done.0,
                 done.1,
                 done.2,
@@ -243,14 +243,14 @@ module _ {copies : CopyCounts} (start now : Store) (missing : List ℕ) (node : 
         → ((ages : Option Ages) (stored planned present : Contents) (array new_array : ℕ → Option (List ℕ)) (before noted : List Block) → Plans now stored present
         → IsPartRewritten ages copies planned present (property_of node) level 0 birth pointer new_array before noted noted_now
         → ((id : ℕ) → 128 ^ level ≤ id → array id ≡ None) → HasWrites new_array array run (128 ^ level) (128 * 128 ^ level)
-        → AgesOfParts birth level 0 1 run ages → AnswersAreTrue now after_write → Refused)
+        → AgesOfParts birth level 0 1 run ages → AnswersTell now after_write missing → Refused)
         → (stored planned : Contents) (bound : ℕ) (array : ℕ → Option (List ℕ)) (blocks : List Block) → Plans start stored planned → IsTree stored bound node array blocks → bound ≤ birth
-        → AnswersAreTrue start after_write → Refused
-    raising_fails Refused step stored planned bound array blocks plans tree le honest =
+        → AnswersTell start after_write missing → Refused
+    raising_fails Refused step stored planned bound array blocks plans tree le tell =
         let none : AgesOfTree birth stored node writes None = untold birth stored node writes in
-        let there = so_far.rewriting None stored planned array blocks plans (root_of stored bound birth node array blocks le tree) tree.behind none (true_sooner start now after_write missing so_far.steps steps honest) in
+        let there = so_far.rewriting None stored planned array blocks plans (root_of stored bound birth node array blocks le tree) tree.behind none (told_sooner start now after_write missing so_far.steps steps tell) in
         step None stored planned there.0 array (written writes array) blocks [] there.1 there.2 (nothing_behind node array level enough so_far.above tree.behind)
-        (level_has (written writes array) array there.3) (level_ages None stored none) (true_later start now after_write missing so_far.steps steps honest)
+        (level_has (written writes array) array there.3) (level_ages None stored none) (told_later start now after_write missing so_far.steps steps tell)
 
 -- the tree with all writes
 module _ {copies : CopyCounts} (start now : Store) (missing : List ℕ) (node : ObjectNode) (level birth : ℕ) (writes rest : List BlockWrite) (done : Rewrite)
@@ -258,11 +258,11 @@ module _ {copies : CopyCounts} (start now : Store) (missing : List ℕ) (node : 
     (same : property_of done.node ≡ property_of node) (level_is : level ≡ levels_of done.node.highest - 1) (grown : node.highest ≤ done.node.highest)
     (within : All (λ write. write.id ≤ done.node.highest) writes) where
   whole_tree : (ages : Option Ages) (stored planned : Contents) (bound : ℕ) (array : ℕ → Option (List ℕ)) (blocks : List Block) → Plans start stored planned → IsTree stored bound node array blocks → bound ≤ birth
-      → AgesOfTree birth stored node writes ages → AnswersAreTrue start now
+      → AgesOfTree birth stored node writes ages → AnswersTell start now missing
       → (present : Contents) × Plans now stored present × IsRewritten copies planned present birth done (written writes array) blocks
       × ((told : Ages) → ages ≡ Some told → HasBirths present done.node told.new)
-  whole_tree ages stored planned bound array blocks plans tree le aged honest =
-      let there = raising.rewriting ages stored planned array blocks plans (root_of stored bound birth node array blocks le tree) tree.behind aged honest in
+  whole_tree ages stored planned bound array blocks plans tree le aged tell =
+      let there = raising.rewriting ages stored planned array blocks plans (root_of stored bound birth node array blocks le tree) tree.behind aged tell in
       let made : IsSubtree there.0 (property_of done.node) level 0 birth done.node.pointer (written writes array) there.2.blocks =
       subst (λ property. IsSubtree there.0 property level 0 birth done.node.pointer (written writes array) there.2.blocks) (sym same) there.2.part in (
         there.0,
@@ -281,20 +281,20 @@ module _ {copies : CopyCounts} (start now : Store) (missing : List ℕ) (node : 
         λ told told_is. subst (λ l. AreBirths there.0 l 0 done.node.pointer told.new) level_is (there.2.renewed told told_is),
       )
 
-  pub tree_rewritten : (stored planned : Contents) (bound : ℕ) (array : ℕ → Option (List ℕ)) (blocks : List Block) → Plans start stored planned → IsTree stored bound node array blocks → bound ≤ birth → AnswersAreTrue start now
+  pub tree_rewritten : (stored planned : Contents) (bound : ℕ) (array : ℕ → Option (List ℕ)) (blocks : List Block) → Plans start stored planned → IsTree stored bound node array blocks → bound ≤ birth → AnswersTell start now missing
       → (present : Contents) × Plans now stored present × IsRewritten copies planned present birth done (written writes array) blocks
-  tree_rewritten stored planned bound array blocks plans tree le honest =
-      let there = whole_tree None stored planned bound array blocks plans tree le (untold birth stored node writes) honest in
+  tree_rewritten stored planned bound array blocks plans tree le tell =
+      let there = whole_tree None stored planned bound array blocks plans tree le (untold birth stored node writes) tell in
       (there.0, there.1, there.2)
 
   pub tree_renewed : (stored planned : Contents) (bound : ℕ) (array : ℕ → Option (List ℕ)) (blocks : List Block) (births : ℕ → ℕ → ℕ) → Plans start stored planned → IsTree stored bound node array blocks
-      → HasBirths stored node births → bound ≤ birth → AnswersAreTrue start now
+      → HasBirths stored node births → bound ≤ birth → AnswersTell start now missing
       → (present : Contents) × Plans now stored present × IsRewritten copies planned present birth done (written writes array) blocks
       × HasBirths present done.node (births_after (height_of node) writes birth births)
-  tree_renewed stored planned bound array blocks births plans tree were le honest =
+  tree_renewed stored planned bound array blocks births plans tree were le tell =
       let told : Ages = record { old = births; new = births_after (height_of node) writes birth births } in
       let aged : AgesOfTree birth stored node writes (Some told) = λ other is.
       (let e : told ≡ other = cc in
       subst (λ (t : Ages). HasBirths stored node t.old × ((l f : ℕ) → t.new l f ≡ births_after (height_of node) writes birth t.old l f)) e (were, λ l f. refl)) in
-      let there = whole_tree (Some told) stored planned bound array blocks plans tree le aged honest in
+      let there = whole_tree (Some told) stored planned bound array blocks plans tree le aged tell in
       (there.0, there.1, there.2, there.3 told refl)

@@ -12,7 +12,7 @@ use Rattle.block_store.specs.Plans.{Plans}
 use Rattle.block_store.specs.Store.{Store}
 use Rattle.dnode_tree.specs.declared.writes.BlockWrite.{BlockWrite}
 use Rattle.dnode_tree.specs.declared.writes.CopyCounts.{CopyCounts}
-use Rattle.block_store.specs.Steps.{OnlyReadsAndPlans, AnswersAreTrue}
+use Rattle.block_store.specs.Steps.{OnlyReadsAndPlans, AnswersTell}
 use Rattle.dnode_tree.specs.Births.{AreBirths, reaches}
 use Rattle.dnode_tree.specs.PartsRewritten.{Ages, AgesOfParts, AreBirthsAfter, IsPartRewritten, AreRewrittenTo, HasWrites}
 use Rattle.dnode_tree.proofs.Births.{after_taken, after_dropped}
@@ -26,7 +26,7 @@ use Rattle.dnode_tree.proofs.Rewriting.{part_skipped, part_rewritten}
 use Rattle.dnode_tree.proofs.Spots.{HavePlacesAt, HavePartsPlaced, parts_skip, parts_go_on}
 use Rattle.dnode_tree.specs.Spots.{spots_in}
 use Rattle.block_store.proofs.Steps.{steps_on}
-use Rattle.dnode_tree.proofs.Steps.{true_sooner, true_later}
+use Rattle.dnode_tree.proofs.Steps.{told_sooner, told_later}
 
 -- the parts before the k-th are written
 pub record IsWritingParts (copies : CopyCounts) (start now : Store) (missing : List ℕ) (node : ObjectNode) (level first bound birth from : ℕ) (origin pointers : List BlockPtr) (writes rest : List BlockWrite) (k : ℕ)
@@ -42,7 +42,7 @@ pub record IsWritingParts (copies : CopyCounts) (start now : Store) (missing : L
       → AreRewrittenTo ages copies stored planned begun (property_of node) level first bound birth origin array new_array before after from noted noted_first
       → HasWrites new_array array writes (first + from * 128 ^ level) (first + 128 * 128 ^ level)
       → AgesOfParts birth level first from writes ages
-      → AnswersAreTrue start now
+      → AnswersTell start now missing
       → (present : Contents) × (done : List (List Block)) × Plans now stored present
       × AreRewrittenTo ages copies stored planned present (property_of node) level first bound birth pointers array new_array before done k noted noted_now
       × HasWrites new_array array rest (first + k * 128 ^ level) (first + 128 * 128 ^ level)
@@ -143,8 +143,8 @@ module _ {copies : CopyCounts} (start now : Store) (missing : List ℕ) (node : 
         count = so_far.count;
         placed = parts_skip node copies start.spaces now.spaces level first from writes rest k so_far.placed low n middle middle_is sooner all_behind (drop n rest) refl
             (sym run_is ∙ nil_from_length run none);
-        rewriting = λ ages stored planned begun array new_array before after noted plans rewritten has aged honest.
-            let there = so_far.rewriting ages stored planned begun array new_array before after noted plans rewritten has aged honest in
+        rewriting = λ ages stored planned begun array new_array before after noted plans rewritten has aged tell.
+            let there = so_far.rewriting ages stored planned begun array new_array before after noted plans rewritten has aged tell in
             let nothing : take n rest ≡ [] = sym run_is ∙ nil_from_length run none in (
               there.0,
               there.1 ++ get_or before k [] ∷ [],
@@ -166,7 +166,7 @@ module _ {copies : CopyCounts} (start now : Store) (missing : List ℕ) (node : 
         → ((ages : Option Ages) (stored planned : Contents) (array : ℕ → Option (List ℕ)) (blocks : List Block) → Plans now stored planned
         → IsSubtree stored (property_of node) level begin bound child array blocks
         → ((told : Ages) → ages ≡ Some told → AreBirths stored level begin child told.old × AreBirthsAfter birth run told.old told.new level begin (begin + 128 ^ level))
-        → AnswersAreTrue now after_write
+        → AnswersTell now after_write missing
         → (later : Contents) × Plans after_write stored later
         × IsPartRewritten ages copies planned later (property_of node) level begin birth (At block) (written run array) blocks noted_now noted_later)
         → IsWritingParts copies start after_write missing node level first bound birth from origin new_pointers writes others (k + 1) noted_first noted_later
@@ -182,11 +182,11 @@ module _ {copies : CopyCounts} (start now : Store) (missing : List ℕ) (node : 
           placed = parts_go_on node copies start.spaces now.spaces level first from writes rest k so_far.placed low n middle middle_is sooner all_behind after_write.spaces (drop n rest) refl
               (subst (λ ws. HavePlacesAt node copies now.spaces (spots_in ws level (first + k * 128 ^ level)) after_write.spaces) run_is
               (subst (λ m. HavePlacesAt node copies now.spaces (spots_in run level m) after_write.spaces) begin_is places));
-          rewriting = λ ages stored planned begun array new_array before after noted plans rewritten has aged honest.
-              let there = so_far.rewriting ages stored planned begun array new_array before after noted plans rewritten has aged (true_sooner start now after_write missing so_far.steps steps honest) in
+          rewriting = λ ages stored planned begun array new_array before after noted plans rewritten has aged tell.
+              let there = so_far.rewriting ages stored planned begun array new_array before after noted plans rewritten has aged (told_sooner start now after_write missing so_far.steps steps tell) in
               let part = part_left stored planned there.0 array new_array before there.1 noted begin child there.3 begin_is child_is in
               let made = step ages stored there.0 array (get_or before k []) there.2 part
-              (run_ages ages stored planned there.0 array new_array before there.1 noted begin child run there.3 there.5 begin_is child_is run_is) (true_later start now after_write missing so_far.steps steps honest) in
+              (run_ages ages stored planned there.0 array new_array before there.1 noted begin child run there.3 there.5 begin_is child_is run_is) (told_later start now after_write missing so_far.steps steps tell) in
               let made_there : IsPartRewritten ages copies there.0 made.0 (property_of node) level (first + k * 128 ^ level) birth (At block) (written run array) (get_or before k []) noted_now noted_later =
               subst (λ m. IsPartRewritten ages copies there.0 made.0 (property_of node) level m birth (At block) (written run array) (get_or before k []) noted_now noted_later) begin_is made.2 in (
                 made.0,
@@ -203,15 +203,15 @@ module _ {copies : CopyCounts} (start now : Store) (missing : List ℕ) (node : 
     -- or it could not be
     pub writing_fails : (Refused : Type 0)
         → ((stored planned : Contents) (array : ℕ → Option (List ℕ)) (blocks : List Block) → Plans now stored planned
-        → IsSubtree stored (property_of node) level begin bound child array blocks → AnswersAreTrue now after_write → Refused)
+        → IsSubtree stored (property_of node) level begin bound child array blocks → AnswersTell now after_write missing → Refused)
         → (ages : Option Ages) (stored planned begun : Contents) (array new_array : ℕ → Option (List ℕ)) (before after : List (List Block)) (noted : List Block) → Plans start stored begun
         → AreRewrittenTo ages copies stored planned begun (property_of node) level first bound birth origin array new_array before after from noted noted_first
         → HasWrites new_array array writes (first + from * 128 ^ level) (first + 128 * 128 ^ level) → AgesOfParts birth level first from writes ages
-        → AnswersAreTrue start after_write → Refused
-    writing_fails Refused step ages stored planned begun array new_array before after noted plans rewritten has aged honest =
-        let there = so_far.rewriting ages stored planned begun array new_array before after noted plans rewritten has aged (true_sooner start now after_write missing so_far.steps steps honest) in
+        → AnswersTell start after_write missing → Refused
+    writing_fails Refused step ages stored planned begun array new_array before after noted plans rewritten has aged tell =
+        let there = so_far.rewriting ages stored planned begun array new_array before after noted plans rewritten has aged (told_sooner start now after_write missing so_far.steps steps tell) in
         step stored there.0 array (get_or before k []) there.2 (part_left stored planned there.0 array new_array before there.1 noted begin child there.3 begin_is child_is)
-        (true_later start now after_write missing so_far.steps steps honest)
+        (told_later start now after_write missing so_far.steps steps tell)
 
 -- what the write of a part asks
 pub run_is_between : (level first k n middle begin : ℕ) (run rest : List BlockWrite) → middle ≡ (first + k * 128 ^ level) + 128 ^ level

@@ -9,7 +9,7 @@ use Rattle.block_store.specs.declared.refusal.Refusal.TheVariants.{NoMemory}
 use Rattle.block_store.specs.Spaces.{VdevSpace}
 use Rattle.block_store.specs.Blocks.{Contents}
 use Rattle.block_store.specs.Reading.{IsReadAs}
-use Rattle.block_store.specs.Steps.{AnswersAreTrue}
+use Rattle.block_store.specs.Steps.{AnswersTell}
 use Rattle.block_store.specs.Store.{Store, Holds}
 use Rattle.dnode.specs.declared.node.ObjectNode.{ObjectNode}
 use Rattle.dnode_tree.specs.declared.subtree.Subtree.{Subtree}
@@ -47,20 +47,20 @@ AreFoundIn spaces node part first ids found =
     AllZip (λ id block. IsFoundBelow spaces (property_of node) (reached_part part) (id - first) (bytes_of block)) ids found
 
 -- for each of these ids what the part has was added, and the part was read for it
-pub record HaveAdded (old new : Store) (node : ObjectNode) (part : Subtree) (first : ℕ) (ids : List ℕ)
+pub record HaveAdded (old new : Store) (missing : List ℕ) (node : ObjectNode) (part : Subtree) (first : ℕ) (ids : List ℕ)
     (before after : FoundBlocks) : Type 0 where
   pub more : FoundBlocks
   pub added : after ≡ before ++ more
   pub found : AreFoundIn old.spaces node part first ids more
   pub value : (stored : Contents) (array : ℕ → Option (List ℕ)) (blocks : List Block) → Holds old stored
-      → IsPart stored node first part array blocks → AnswersAreTrue old new → AreAsIn array ids more
+      → IsPart stored node first part array blocks → AnswersTell old new missing → AreAsIn array ids more
 
 -- a data block was read for the pointer, and its bytes were added
-pub record IsDataAdded (old new : Store) (asked : Asked) (block : Block) (before after : FoundBlocks) : Type 0 where
+pub record IsDataAdded (old new : Store) (missing : List ℕ) (asked : Asked) (block : Block) (before after : FoundBlocks) : Type 0 where
   pub bytes : Vec ℕ Global
   pub added : after ≡ before ++ Some bytes ∷ []
   pub read : IsReadAs old.spaces asked block bytes.items
-  pub value : (stored : Contents) (known : List ℕ) → Holds old stored → stored block ≡ Some known → AnswersAreTrue old new
+  pub value : (stored : Contents) (known : List ℕ) → Holds old stored → stored block ≡ Some known → AnswersTell old new missing
       → bytes.items ≡ known
 
 -- there is not enough memory, or a block on the way to one of these ids was not read

@@ -8,7 +8,7 @@ use Rattle.block_store.specs.declared.refusal.Refusal.{Refusal}
 use Rattle.block_store.specs.declared.refusal.Refusal.TheVariants.{DiskFault}
 use Rattle.block_store.specs.Blocks.{Contents, Extends}
 use Rattle.block_store.specs.Plans.{Plans}
-use Rattle.block_store.specs.Steps.{AnswersAreTrue}
+use Rattle.block_store.specs.Steps.{AnswersTell}
 use Rattle.block_store.specs.Store.{Store}
 use Rattle.dnode.specs.Levels.{levels_of}
 use Rattle.dnode_tree.specs.declared.writes.Rewriting.{Rewriting}
@@ -89,20 +89,20 @@ AgesOfParts birth level first from writes ages =
     (told : Ages) → ages ≡ Some told → (told.new (suc level) first ≡ birth)
     × AreBirthsAfter birth writes told.old told.new level (first + from * 128 ^ level) (first + 128 * 128 ^ level)
 
--- Whatever the store has at the part, where its answers are true: it plans the part with these writes behind the pointer, and what
+-- Whatever the store has at the part, where its answers tell what was written: it plans the part with these writes behind the pointer, and what
 -- gave way was noted.
 abbrev pub WritesPart : Rewriting → Store → Store → Subtree → ℕ → List BlockWrite → List Block → List Block → BlockPtr → Type 0
 WritesPart this old new part first writes noted noted_later pointer =
     (ages : Option Ages) (stored planned : Contents) (array : ℕ → Option (List ℕ)) (blocks : List Block) → Plans old stored planned
-    → IsPart stored this.node.now first part array blocks → AgesOfPart this.birth stored part first writes ages → AnswersAreTrue old new
+    → IsPart stored this.node.now first part array blocks → AgesOfPart this.birth stored part first writes ages → AnswersTell old new this.missing.now
     → (later : Contents) × Plans new stored later
     × IsPartRewritten ages this.copies planned later (property_of this.node.now) part.level first this.birth pointer (written writes array) blocks noted noted_later
 
--- where the store has such a part and its answers are true, the refusal is want of memory, of room or of disks
+-- where the store has such a part and its answers tell what was written, the refusal is want of memory, of room or of disks
 abbrev pub LacksRoomForPart : Rewriting → Store → Store → Subtree → ℕ → Refusal → Type 0
 LacksRoomForPart this old new part first refusal =
     (stored planned : Contents) (array : ℕ → Option (List ℕ)) (blocks : List Block) → Plans old stored planned
-    → IsPart stored this.node.now first part array blocks → AnswersAreTrue old new
+    → IsPart stored this.node.now first part array blocks → AnswersTell old new this.missing.now
     → IsForRoom refusal ⊎ (refusal ≡ DiskFault)
 
 -- Whatever the store has at the parts below a root, where those before one of them read as in the new array: it plans the parts with
@@ -112,17 +112,17 @@ WritesParts this old new parts first from writes noted_now noted_later block =
     (ages : Option Ages) (stored planned now : Contents) (array new_array : ℕ → Option (List ℕ)) (before after : List (List Block)) (noted : List Block) → Plans old stored now
     → AreRewrittenTo ages this.copies stored planned now (property_of this.node.now) parts.level first parts.birth this.birth parts.pointers array new_array before after from noted noted_now
     → HasWrites new_array array writes (first + from * 128 ^ parts.level) (first + 128 * 128 ^ parts.level)
-    → AgesOfParts this.birth parts.level first from writes ages → AnswersAreTrue old new
+    → AgesOfParts this.birth parts.level first from writes ages → AnswersTell old new this.missing.now
     → (later : Contents) × Plans new stored later
     × AreRewritten ages this.copies planned later (property_of this.node.now) parts.level first this.birth block new_array before noted noted_later
 
--- where the store has such parts and its answers are true, the refusal is want of memory, of room or of disks
+-- where the store has such parts and its answers tell what was written, the refusal is want of memory, of room or of disks
 abbrev pub LacksRoomForParts : Rewriting → Store → Store → Parts → ℕ → ℕ → List BlockWrite → List Block → Refusal → Type 0
 LacksRoomForParts this old new parts first from writes noted_now refusal =
     (ages : Option Ages) (stored planned now : Contents) (array new_array : ℕ → Option (List ℕ)) (before after : List (List Block)) (noted : List Block) → Plans old stored now
     → AreRewrittenTo ages this.copies stored planned now (property_of this.node.now) parts.level first parts.birth this.birth parts.pointers array new_array before after from noted noted_now
     → HasWrites new_array array writes (first + from * 128 ^ parts.level) (first + 128 * 128 ^ parts.level)
-    → AgesOfParts this.birth parts.level first from writes ages → AnswersAreTrue old new
+    → AgesOfParts this.birth parts.level first from writes ages → AnswersTell old new this.missing.now
     → IsForRoom refusal ⊎ (refusal ≡ DiskFault)
 
 -- Whatever the store plans as the tree of a root, behind which the old array has nothing: it plans a tree that is one level higher, with
@@ -132,15 +132,15 @@ Raises this old new root level writes noted_now noted_later pointer =
     (ages : Option Ages) (stored planned now : Contents) (array new_array : ℕ → Option (List ℕ)) (before noted : List Block) → Plans old stored now
     → IsPartRewritten ages this.copies planned now (property_of this.node.now) level 0 this.birth root new_array before noted noted_now
     → ((id : ℕ) → 128 ^ level ≤ id → array id ≡ None) → HasWrites new_array array writes (128 ^ level) (128 * 128 ^ level)
-    → AgesOfParts this.birth level 0 1 writes ages → AnswersAreTrue old new
+    → AgesOfParts this.birth level 0 1 writes ages → AnswersTell old new this.missing.now
     → (later : Contents) × Plans new stored later
     × IsPartRewritten ages this.copies planned later (property_of this.node.now) (level + 1) 0 this.birth pointer new_array before noted noted_later
 
--- where the store plans such a tree and its answers are true, the refusal is want of memory, of room or of disks
+-- where the store plans such a tree and its answers tell what was written, the refusal is want of memory, of room or of disks
 abbrev pub LacksRoomToRaise : Rewriting → Store → Store → BlockPtr → ℕ → List BlockWrite → List Block → Refusal → Type 0
 LacksRoomToRaise this old new root level writes noted_now refusal =
     (ages : Option Ages) (stored planned now : Contents) (array new_array : ℕ → Option (List ℕ)) (before noted : List Block) → Plans old stored now
     → IsPartRewritten ages this.copies planned now (property_of this.node.now) level 0 this.birth root new_array before noted noted_now
     → ((id : ℕ) → 128 ^ level ≤ id → array id ≡ None) → HasWrites new_array array writes (128 ^ level) (128 * 128 ^ level)
-    → AgesOfParts this.birth level 0 1 writes ages → AnswersAreTrue old new
+    → AgesOfParts this.birth level 0 1 writes ages → AnswersTell old new this.missing.now
     → IsForRoom refusal ⊎ (refusal ≡ DiskFault)

@@ -40,7 +40,7 @@ spots_raised writes was_there height zero = spots_in writes height 0
 spots_raised writes was_there height (suc n) =
     spots_raised writes was_there height n ++ (if was_there || reaches writes (suc (height + n)) 0 then spots_below writes (height + n) 0 1 127 else [])
 
--- whether there is a block at the pointer; whether there are writes
+-- whether there is a block at the pointer
 abbrev pub is_there : BlockPtr → Bool
 is_there Hole = false
 is_there (At block) = true

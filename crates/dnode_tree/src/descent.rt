@@ -8,7 +8,7 @@ ghost use Rattle.block_store.specs.Blocks.{Contents};
 ghost use Rattle.block_store.specs.Losses.{IsForLoss};
 ghost use Rattle.block_store.specs.Reading.{Asks};
 ghost use Rattle.block_store.specs.Store.{Holds};
-ghost use Rattle.block_store.specs.Steps.{OnlyReadsBlocks, AnswersAreTrue};
+ghost use Rattle.block_store.specs.Steps.{OnlyReadsBlocks, AnswersTell};
 ghost use Rattle.dnode_tree.specs.Births.{AreBirths};
 ghost use Rattle.dnode_tree.specs.Subtree.{asked_of, AreParts, blocks_at, joined};
 ghost use Rattle.dnode_tree.specs.Tree.{property_of, IsPart};
@@ -76,12 +76,12 @@ pub(crate) fn read_indirect<D: Disk + Drop>(
     ensures value { IfOk result (λ found. (stored : Contents) (bytes : List ℕ)
         (pointers : List BlockPtr) → Holds store.old stored
         → stored block.now ≡ Some bytes → SpellsIndirect bytes pointers
-        → AnswersAreTrue store.old store.new → found ≡ pointers) }
+        → AnswersTell store.old store.new missing.now → found ≡ pointers) }
     ensures cause { IfErr result (λ refusal. refusal ≢ Refusal.NoSpace) }
     ensures known { IfErr result (λ refusal. (stored : Contents) (bytes : List ℕ)
         (pointers : List BlockPtr) → Holds store.old stored
         → stored block.now ≡ Some bytes → SpellsIndirect bytes pointers → Asks asked block.now
-        → AnswersAreTrue store.old store.new
+        → AnswersTell store.old store.new missing.now
         → IsForLoss refusal) }
 {
     let bytes = store.read(alloc, block, asked, missing)?;
@@ -118,12 +118,13 @@ pub(crate) fn parts_of<D: Disk + Drop>(
     ensures count { IfOk result (λ parts. length parts.pointers ≡ 128) }
     ensures births { IfOk result (λ parts. (stored : Contents) (first : ℕ) (births : ℕ → ℕ → ℕ)
         → Holds store.old stored → AreBirths stored part.level first part.pointer births
-        → AnswersAreTrue store.old store.new → (k : ℕ) → k < 128
+        → AnswersTell store.old store.new missing.now → (k : ℕ) → k < 128
         → AreBirths stored parts.level (first + k * 128 ^ parts.level)
         (slice_index_or parts.pointers k BlockPtr.Hole) births) }
     ensures parts { IfOk result (λ parts. (stored : Contents) (first : ℕ)
         (array : ℕ → Option (List ℕ)) (blocks : List Block) → Holds store.old stored
-        → IsPart stored node.now first part array blocks → AnswersAreTrue store.old store.new
+        → IsPart stored node.now first part array blocks
+        → AnswersTell store.old store.new missing.now
         → (below : List (List Block)) × AreParts stored
         (property_of node.now) parts.level first parts.birth parts.pointers array below
         × (blocks ≡ blocks_at part.pointer ++ joined below)) }
@@ -134,7 +135,8 @@ pub(crate) fn parts_of<D: Disk + Drop>(
     ensures cause { IfErr result (λ refusal. refusal ≢ Refusal.NoSpace) }
     ensures known { IfErr result (λ refusal. (stored : Contents) (first : ℕ)
         (array : ℕ → Option (List ℕ)) (blocks : List Block) → Holds store.old stored
-        → IsPart stored node.now first part array blocks → AnswersAreTrue store.old store.new
+        → IsPart stored node.now first part array blocks
+        → AnswersTell store.old store.new missing.now
         → IsForLoss refusal) }
 {
     let level = part.level - 1;

@@ -7,7 +7,7 @@ ghost use Rattle.block_store.specs.Blocks.{Contents};
 ghost use Rattle.block_store.specs.Losses.{IsForLoss};
 ghost use Rattle.block_store.specs.Store.{Holds};
 ghost use Rattle.dnode_tree.specs.Freeing.{AreOnlyIn};
-ghost use Rattle.block_store.specs.Steps.{OnlyReadsBlocks, AnswersAreTrue};
+ghost use Rattle.block_store.specs.Steps.{OnlyReadsBlocks, AnswersTell};
 ghost use Rattle.dnode_tree.specs.Tree.{property_of, IsTree};
 ghost use Rattle.dnode_tree.specs.Ways.{root_of, IsWalkRefused};
 
@@ -36,7 +36,7 @@ pub fn free_blocks<D: Disk + Drop>(
     ensures freed { IfOk result (λ freed. (stored : Contents) (bound : ℕ)
         (array later : ℕ → Option (List ℕ)) (blocks others : List Block) → Holds store.old stored
         → IsTree stored bound before.now array blocks → bound ≤ birth
-        → IsTree stored birth after.now later others → AnswersAreTrue store.old store.new
+        → IsTree stored birth after.now later others → AnswersTell store.old store.new missing.now
         → AreOnlyIn blocks others freed.items) }
     ensures cause { IfErr result (λ refusal. refusal ≢ Refusal.NoSpace) }
 
@@ -44,7 +44,7 @@ pub fn free_blocks<D: Disk + Drop>(
     ensures known { IfErr result (λ refusal. (stored : Contents) (bound : ℕ)
         (array later : ℕ → Option (List ℕ)) (blocks others : List Block) → Holds store.old stored
         → IsTree stored bound before.now array blocks → bound ≤ birth
-        → IsTree stored birth after.now later others → AnswersAreTrue store.old store.new
+        → IsTree stored birth after.now later others → AnswersTell store.old store.new missing.now
         → IsForLoss refusal) }
 
     // Whatever the objects are: the walk over one of them was refused.

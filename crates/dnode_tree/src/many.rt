@@ -8,7 +8,7 @@ ghost use Rattle.block_store.specs.Blocks.{Contents};
 ghost use Rattle.block_store.specs.Losses.{IsForLoss};
 ghost use Rattle.block_store.specs.Reading.{Asks, IsReadable, IsLastFault};
 ghost use Rattle.block_store.specs.Store.{Holds, outs};
-ghost use Rattle.block_store.specs.Steps.{OnlyReadsBlocks, AnswersAreTrue};
+ghost use Rattle.block_store.specs.Steps.{OnlyReadsBlocks, AnswersTell};
 ghost use Rattle.dnode_tree.specs.Many.{AreAsIn, AreFound, AreIdsBetween, HaveAdded, IsDataAdded, IsOneRefused, IsOneRefusedIn};
 ghost use Rattle.dnode_tree.specs.Tree.{IsPart, IsTree};
 
@@ -38,7 +38,7 @@ pub fn get_many<D: Disk + Drop>(
         → store.new ≡ store.old }
     ensures value { IfOk result (λ found. (stored : Contents) (array : ℕ → Option (List ℕ))
         (blocks : List Block) → Holds store.old stored
-        → IsTree stored birth node.now array blocks → AnswersAreTrue store.old store.new
+        → IsTree stored birth node.now array blocks → AnswersTell store.old store.new missing.now
         → AreAsIn array ids.now found.items) }
 
     // Whatever the tree is: what was read on the ways, and on a refusal its cause there.
@@ -52,7 +52,7 @@ pub fn get_many<D: Disk + Drop>(
     // And a whole tree is read, over disks that answer truly, unless too many disks miss of a block.
     ensures known { IfErr result (λ refusal. (stored : Contents) (array : ℕ → Option (List ℕ))
         (blocks : List Block) → Holds store.old stored
-        → IsTree stored birth node.now array blocks → AnswersAreTrue store.old store.new
+        → IsTree stored birth node.now array blocks → AnswersTell store.old store.new missing.now
         → IsForLoss refusal) }
 {
     let (within, behind) = ids.split_at(count_before(ids, node.highest + 1));
@@ -93,8 +93,8 @@ impl<'a> TreeReading<'a> {
         requires once { IsStrictlyIncreasing ids.now }
         ensures reads { OnlyReadsBlocks store.old store.new self.entry.missing.now }
         ensures idle { (ids.now ≡ []) ⊎ (part.pointer ≡ BlockPtr.Hole) → store.new ≡ store.old }
-        ensures added { OnOk result (HaveAdded store.old store.new self.entry.node.now part first
-            ids.now found.old.items found.new.items) }
+        ensures added { OnOk result (HaveAdded store.old store.new
+            self.entry.missing.now self.entry.node.now part first ids.now found.old.items found.new.items) }
         ensures refused { IfErr result (IsOneRefusedIn store.old store.new self.entry.missing.now
             self.entry.node.now part first ids.now) }
         ensures caused { IfErr result (IsCaused store.old store.new self.entry.missing.now) }
@@ -102,7 +102,7 @@ impl<'a> TreeReading<'a> {
         ensures known { IfErr result (λ refusal. (stored : Contents)
             (array : ℕ → Option (List ℕ)) (blocks : List Block) → Holds store.old stored
             → IsPart stored self.entry.node.now first part array blocks
-            → AnswersAreTrue store.old store.new → IsForLoss refusal) }
+            → AnswersTell store.old store.new self.entry.missing.now → IsForLoss refusal) }
     {
         let BlockPtr::Block(block) = part.pointer else {
             return add_nothing(found, ids.len());
@@ -141,8 +141,8 @@ impl<'a> TreeReading<'a> {
         found: &mut Vec<Option<Vec<u8>>>,
     ) -> Result<(), Refusal>
         ensures reads { OnlyReadsBlocks store.old store.new self.entry.missing.now }
-        ensures added { OnOk result (IsDataAdded store.old store.new asked block.now
-            found.old.items found.new.items) }
+        ensures added { OnOk result (IsDataAdded store.old store.new
+            self.entry.missing.now asked block.now found.old.items found.new.items) }
         ensures refused { IfErr result (λ refusal. (refusal ≡ Refusal.NoMemory)
             ⊎ (((refusal ≡ Refusal.BadPointer) × ¬ IsReadable store.old.spaces asked block.now)
             ⊎ IsLastFault store.old store.new (outs store.old ++ self.entry.missing.now)
@@ -151,7 +151,7 @@ impl<'a> TreeReading<'a> {
         ensures cause { IfErr result (λ refusal. refusal ≢ Refusal.NoSpace) }
         ensures known { IfErr result (λ refusal. (stored : Contents) (bytes : List ℕ)
             → Holds store.old stored → stored block.now ≡ Some bytes → Asks asked block.now
-            → AnswersAreTrue store.old store.new → IsForLoss refusal) }
+            → AnswersTell store.old store.new self.entry.missing.now → IsForLoss refusal) }
     {
         let bytes = store.read(alloc, block, asked, self.missing)?;
         push(found, Some(bytes))?;

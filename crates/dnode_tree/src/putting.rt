@@ -8,7 +8,7 @@ ghost use Rattle.block_store.specs.Causes.{IsCaused};
 ghost use Rattle.block_store.specs.Blocks.{Contents};
 ghost use Rattle.block_store.specs.Demands.{HavePlaces, LackPlaces};
 ghost use Rattle.block_store.specs.Plans.{Plans};
-ghost use Rattle.block_store.specs.Steps.{OnlyReadsAndPlans, AnswersAreTrue};
+ghost use Rattle.block_store.specs.Steps.{OnlyReadsAndPlans, AnswersTell};
 ghost use Rattle.dnode_tree.specs.Births.{HasBirths, height_of, births_after};
 ghost use Rattle.dnode_tree.specs.PartsRewritten.{root_part, WritesPart, LacksRoomForPart, Raises, LacksRoomToRaise};
 ghost use Rattle.dnode_tree.specs.PartsRefused.{IsPartRefused, IsTreeOverfull};
@@ -56,14 +56,16 @@ pub fn put_many<D: Disk + Drop>(
     ensures rewritten { IfOk result (λ done. (stored planned : Contents) (bound : ℕ)
         (array : ℕ → Option (List ℕ)) (blocks : List Block) → Plans store.old stored planned
         → IsTree stored bound node.now array blocks → bound ≤ birth
-        → AnswersAreTrue store.old store.new → (later : Contents) × Plans store.new stored later
+        → AnswersTell store.old store.new missing.now
+        → (later : Contents) × Plans store.new stored later
         × IsRewritten copies planned later birth done (written writes.now array) blocks) }
 
     // Only what a write reaches is planned, and the roots above the one that was there: all else is born when it was.
     ensures ways { IfOk result (λ done. (stored planned : Contents) (bound : ℕ)
         (array : ℕ → Option (List ℕ)) (blocks : List Block) (births : ℕ → ℕ → ℕ)
         → Plans store.old stored planned → IsTree stored bound node.now array blocks
-        → HasBirths stored node.now births → bound ≤ birth → AnswersAreTrue store.old store.new
+        → HasBirths stored node.now births → bound ≤ birth
+        → AnswersTell store.old store.new missing.now
         → (later : Contents) × Plans store.new stored later
         × IsRewritten copies planned later birth done (written writes.now array) blocks
         × HasBirths later done.node (births_after (height_of node.now) writes.now birth births)) }
@@ -75,7 +77,7 @@ pub fn put_many<D: Disk + Drop>(
     ensures known { IfErr result (λ refusal. (stored planned : Contents) (bound : ℕ)
         (array : ℕ → Option (List ℕ)) (blocks : List Block) → Plans store.old stored planned
         → IsTree stored bound node.now array blocks → bound ≤ birth
-        → AnswersAreTrue store.old store.new
+        → AnswersTell store.old store.new missing.now
         → IsForRoom refusal ⊎ (refusal ≡ Refusal.DiskFault)) }
 
     // For each of these blocks places are taken, once, and for nothing else.

@@ -6,7 +6,7 @@ ghost use Rattle.block_store.specs.Causes.{IsCaused};
 ghost use Rattle.block_store.specs.Blocks.{Contents};
 ghost use Rattle.block_store.specs.Losses.{IsForLoss};
 ghost use Rattle.block_store.specs.Store.{Holds};
-ghost use Rattle.block_store.specs.Steps.{OnlyReadsBlocks, AnswersAreTrue};
+ghost use Rattle.block_store.specs.Steps.{OnlyReadsBlocks, AnswersTell};
 ghost use Rattle.dnode_tree.specs.Births.{AreBirths, HasBirths};
 ghost use Rattle.dnode_tree.specs.Tree.{property_of, IsPart, IsTree};
 ghost use Rattle.dnode_tree.specs.Ways.{reached, bytes_of, bytes_in, IsFound, IsBlockFound, IsRefused, IsBlockFoundBelow, IsRefusedBelow};
@@ -41,7 +41,7 @@ pub fn get<D: Disk + Drop>(
     ensures reads { OnlyReadsBlocks store.old store.new missing.now }
     ensures value { IfOk result (λ found. (stored : Contents) (array : ℕ → Option (List ℕ))
         (blocks : List Block) → Holds store.old stored
-        → IsTree stored birth node.now array blocks → AnswersAreTrue store.old store.new
+        → IsTree stored birth node.now array blocks → AnswersTell store.old store.new missing.now
         → option_map (λ bytes. bytes.items) found ≡ array id) }
 
     // Whatever the tree is: what was read on the way, and on a refusal its cause there.
@@ -54,7 +54,7 @@ pub fn get<D: Disk + Drop>(
     // And a whole tree is read, over disks that answer truly, unless too many disks miss of a block.
     ensures known { IfErr result (λ refusal. (stored : Contents) (array : ℕ → Option (List ℕ))
         (blocks : List Block) → Holds store.old stored
-        → IsTree stored birth node.now array blocks → AnswersAreTrue store.old store.new
+        → IsTree stored birth node.now array blocks → AnswersTell store.old store.new missing.now
         → IsForLoss refusal) }
 {
     match get_block(node, store, alloc, id, birth, missing)? {
@@ -77,11 +77,11 @@ pub fn get_block<D: Disk + Drop>(
     ensures reads { OnlyReadsBlocks store.old store.new missing.now }
     ensures value { IfOk result (λ found. (stored : Contents) (array : ℕ → Option (List ℕ))
         (blocks : List Block) → Holds store.old stored
-        → IsTree stored birth node.now array blocks → AnswersAreTrue store.old store.new
+        → IsTree stored birth node.now array blocks → AnswersTell store.old store.new missing.now
         → bytes_in found ≡ array id) }
     ensures born { IfOk result (λ found. (stored : Contents) (births : ℕ → ℕ → ℕ)
         → Holds store.old stored → HasBirths stored node.now births
-        → AnswersAreTrue store.old store.new
+        → AnswersTell store.old store.new missing.now
         → IfSome found (λ block. block.birth ≡ births 0 id)) }
 
     // Whatever the tree is: what was read on the way, and on a refusal its cause there.
@@ -93,7 +93,7 @@ pub fn get_block<D: Disk + Drop>(
     // And a whole tree is read, over disks that answer truly, unless too many disks miss of a block.
     ensures known { IfErr result (λ refusal. (stored : Contents) (array : ℕ → Option (List ℕ))
         (blocks : List Block) → Holds store.old stored
-        → IsTree stored birth node.now array blocks → AnswersAreTrue store.old store.new
+        → IsTree stored birth node.now array blocks → AnswersTell store.old store.new missing.now
         → IsForLoss refusal) }
 {
     if id > node.highest {
@@ -121,11 +121,12 @@ fn get_below<D: Disk + Drop>(
     ensures reads { OnlyReadsBlocks store.old store.new missing.now }
     ensures value { IfOk result (λ found. (stored : Contents) (first : ℕ)
         (array : ℕ → Option (List ℕ)) (blocks : List Block) → Holds store.old stored
-        → IsPart stored node.now first part array blocks → AnswersAreTrue store.old store.new
+        → IsPart stored node.now first part array blocks
+        → AnswersTell store.old store.new missing.now
         → bytes_in found ≡ array (first + place)) }
     ensures born { IfOk result (λ found. (stored : Contents) (first : ℕ) (births : ℕ → ℕ → ℕ)
         → Holds store.old stored → AreBirths stored part.level first part.pointer births
-        → AnswersAreTrue store.old store.new
+        → AnswersTell store.old store.new missing.now
         → IfSome found (λ block. block.birth ≡ births 0 (first + place))) }
     ensures found { IfOk result (IsBlockFoundBelow store.old.spaces (property_of node.now)
         (reached part.level part.pointer part.birth) place) }
@@ -136,7 +137,8 @@ fn get_below<D: Disk + Drop>(
     ensures cause { IfErr result (λ refusal. refusal ≢ Refusal.NoSpace) }
     ensures known { IfErr result (λ refusal. (stored : Contents) (first : ℕ)
         (array : ℕ → Option (List ℕ)) (blocks : List Block) → Holds store.old stored
-        → IsPart stored node.now first part array blocks → AnswersAreTrue store.old store.new
+        → IsPart stored node.now first part array blocks
+        → AnswersTell store.old store.new missing.now
         → IsForLoss refusal) }
 {
     let BlockPtr::Block(block) = part.pointer else {

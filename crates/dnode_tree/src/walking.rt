@@ -6,7 +6,7 @@ ghost use Rattle.block_store.specs.Blocks.{Contents};
 ghost use Rattle.block_store.specs.Losses.{IsForLoss};
 ghost use Rattle.block_store.specs.Reading.{Asks};
 ghost use Rattle.block_store.specs.Store.{Holds};
-ghost use Rattle.block_store.specs.Steps.{OnlyReadsBlocks, AnswersAreTrue};
+ghost use Rattle.block_store.specs.Steps.{OnlyReadsBlocks, AnswersTell};
 ghost use Rattle.dnode_tree.specs.Tree.{property_of, IsPart, IsTree};
 ghost use Rattle.dnode_tree.specs.Ways.{reached, root_of, IsWalked, IsWalkRefused, AreWalked};
 
@@ -32,7 +32,7 @@ pub fn walk<D: Disk + Drop>(
     ensures reads { OnlyReadsBlocks store.old store.new missing.now }
     ensures blocks { IfOk result (λ found. (stored : Contents) (array : ℕ → Option (List ℕ))
         (blocks : List Block) → Holds store.old stored
-        → IsTree stored birth node.now array blocks → AnswersAreTrue store.old store.new
+        → IsTree stored birth node.now array blocks → AnswersTell store.old store.new missing.now
         → found.items ≡ blocks) }
 
     // Whatever the tree is: what was walked, and on a refusal its cause.
@@ -45,7 +45,7 @@ pub fn walk<D: Disk + Drop>(
     // And a whole tree is walked, over disks that answer truly, unless too many disks miss of a block.
     ensures known { IfErr result (λ refusal. (stored : Contents) (array : ℕ → Option (List ℕ))
         (blocks : List Block) → Holds store.old stored
-        → IsTree stored birth node.now array blocks → AnswersAreTrue store.old store.new
+        → IsTree stored birth node.now array blocks → AnswersTell store.old store.new missing.now
         → IsForLoss refusal) }
 {
     let root = Subtree {
@@ -70,7 +70,8 @@ fn collect_below<D: Disk + Drop>(
     ensures reads { OnlyReadsBlocks store.old store.new missing.now }
     ensures blocks { OnOk result ((stored : Contents) (first : ℕ) (array : ℕ → Option (List ℕ))
         (blocks : List Block) → Holds store.old stored
-        → IsPart stored node.now first part array blocks → AnswersAreTrue store.old store.new
+        → IsPart stored node.now first part array blocks
+        → AnswersTell store.old store.new missing.now
         → found.new.items ≡ found.old.items ++ blocks) }
     ensures found { OnOk result ((blocks : List Block)
         × (found.new.items ≡ found.old.items ++ blocks)
@@ -83,7 +84,8 @@ fn collect_below<D: Disk + Drop>(
     ensures cause { IfErr result (λ refusal. refusal ≢ Refusal.NoSpace) }
     ensures known { IfErr result (λ refusal. (stored : Contents) (first : ℕ)
         (array : ℕ → Option (List ℕ)) (blocks : List Block) → Holds store.old stored
-        → IsPart stored node.now first part array blocks → AnswersAreTrue store.old store.new
+        → IsPart stored node.now first part array blocks
+        → AnswersTell store.old store.new missing.now
         → IsForLoss refusal) }
 {
     let BlockPtr::Block(block) = part.pointer else {

@@ -4,7 +4,7 @@ ghost use Rattle.block_pointer.specs.declared.block.Block.{Block};
 ghost use Rattle.block_store.specs.Causes.{IsCaused};
 ghost use Rattle.block_store.specs.Blocks.{Contents};
 ghost use Rattle.block_store.specs.Losses.{IsForLoss};
-ghost use Rattle.block_store.specs.Steps.{OnlyReadsBlocks, AnswersAreTrue};
+ghost use Rattle.block_store.specs.Steps.{OnlyReadsBlocks, AnswersTell};
 ghost use Rattle.block_store.specs.Store.{Holds};
 ghost use Rattle.dnode_tree.specs.Rewriting.{AreDistinct};
 ghost use Rattle.dnode_tree.specs.Tree.{property_of, IsPart, IsTree};
@@ -39,7 +39,7 @@ pub fn walk_within<D: Disk + Drop>(
     ensures fewer { left.new ≤ left.old }
     ensures blocks { IfOk result (λ found. (stored : Contents) (array : ℕ → Option (List ℕ))
         (blocks : List Block) → Holds store.old stored
-        → IsTree stored birth node.now array blocks → AnswersAreTrue store.old store.new
+        → IsTree stored birth node.now array blocks → AnswersTell store.old store.new missing.now
         → found.items ≡ blocks) }
     ensures found { IfOk result (λ found. AreWalked store.old.spaces node.now birth found.items) }
     ensures once { IfOk result (λ found. AreDistinct found.items) }
@@ -56,7 +56,7 @@ pub fn walk_within<D: Disk + Drop>(
     ensures known { IfErr result (λ refusal. (stored : Contents) (array : ℕ → Option (List ℕ))
         (blocks : List Block) → Holds store.old stored
         → IsTree stored birth node.now array blocks → AreDistinct blocks
-        → indirect_count blocks ≤ left.old → AnswersAreTrue store.old store.new
+        → indirect_count blocks ≤ left.old → AnswersTell store.old store.new missing.now
         → IsForLoss refusal) }
 {
     TreeWalk {
@@ -86,7 +86,7 @@ pub fn walk_younger<D: Disk + Drop>(
     ensures fewer { left.new ≤ left.old }
     ensures blocks { IfOk result (λ found. (stored : Contents) (array : ℕ → Option (List ℕ))
         (blocks : List Block) → Holds store.old stored
-        → IsTree stored birth node.now array blocks → AnswersAreTrue store.old store.new
+        → IsTree stored birth node.now array blocks → AnswersTell store.old store.new missing.now
         → found.items ≡ younger since blocks) }
 
     // Whatever the tree is: what was walked, each block once, and on a refusal its cause.
@@ -107,7 +107,8 @@ pub fn walk_younger<D: Disk + Drop>(
     ensures known { IfErr result (λ refusal. (stored : Contents) (array : ℕ → Option (List ℕ))
         (blocks : List Block) → Holds store.old stored
         → IsTree stored birth node.now array blocks → AreDistinct (younger since blocks)
-        → indirect_count (younger since blocks) ≤ left.old → AnswersAreTrue store.old store.new
+        → indirect_count (younger since blocks) ≤ left.old
+        → AnswersTell store.old store.new missing.now
         → IsForLoss refusal) }
 {
     TreeWalk {
@@ -143,7 +144,7 @@ impl<'a> TreeWalk<'a> {
         ensures blocks { IfOk result (λ found. (stored : Contents)
             (array : ℕ → Option (List ℕ)) (blocks : List Block) → Holds store.old stored
             → IsTree stored birth self.entry.node.now array blocks
-            → AnswersAreTrue store.old store.new
+            → AnswersTell store.old store.new self.entry.missing.now
             → found.items ≡ filter (is_picked self.entry.since) blocks) }
         ensures found { IfOk result (λ found. AreWalkedWhere (is_picked self.entry.since)
             store.old.spaces self.entry.node.now birth found.items) }
@@ -158,7 +159,7 @@ impl<'a> TreeWalk<'a> {
             → IsTree stored birth self.entry.node.now array blocks
             → AreDistinct (filter (is_picked self.entry.since) blocks)
             → indirect_count (filter (is_picked self.entry.since) blocks) ≤ left.old
-            → AnswersAreTrue store.old store.new → IsForLoss refusal) }
+            → AnswersTell store.old store.new self.entry.missing.now → IsForLoss refusal) }
     {
         let root = Subtree {
             level: self.node.levels() - 1,
@@ -188,7 +189,7 @@ impl<'a> TreeWalk<'a> {
         ensures blocks { OnOk result ((stored : Contents) (first : ℕ)
             (array : ℕ → Option (List ℕ)) (blocks : List Block) → Holds store.old stored
             → IsPart stored self.entry.node.now first part array blocks
-            → AnswersAreTrue store.old store.new
+            → AnswersTell store.old store.new self.entry.missing.now
             → found.new.items ≡ found.old.items ++ filter (is_picked self.entry.since) blocks) }
         ensures found { OnOk result ((blocks : List Block)
             × (found.new.items ≡ found.old.items ++ blocks)
@@ -207,7 +208,7 @@ impl<'a> TreeWalk<'a> {
             (array : ℕ → Option (List ℕ)) (blocks : List Block) → Holds store.old stored
             → IsPart stored self.entry.node.now first part array blocks
             → indirect_count (filter (is_picked self.entry.since) blocks) ≤ left.old
-            → AnswersAreTrue store.old store.new → IsForLoss refusal) }
+            → AnswersTell store.old store.new self.entry.missing.now → IsForLoss refusal) }
     {
         let BlockPtr::Block(block) = part.pointer else {
             return Ok(());

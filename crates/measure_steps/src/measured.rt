@@ -32,7 +32,7 @@ impl PoolSteps for TimedCore {
 
     ghost came_from = { λ _ _. Unit {0} };
 
-    ghost answers_truly = { λ _ _. ⊥ };
+    ghost answers_tell = { λ _ _. ⊥ };
 
     ghost links = { λ _ _ _ _ _ _ _. Unit {0} };
 
@@ -42,7 +42,7 @@ impl PoolSteps for TimedCore {
 
     ghost came_further = { λ first mid last before after. tt };
 
-    ghost parts_are_true = { λ first mid last before after none. absurd none };
+    ghost parts_tell = { λ first mid last before after none. absurd none };
 
     fn take_step(&mut self, step: Step) -> Reply {
         let most = most_bytes(&step);

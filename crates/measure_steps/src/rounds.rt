@@ -33,7 +33,7 @@ fn recorded<C: PoolSteps, L: Ledger, M: Ledger>(
     books: Books<L, M>,
 ) -> io::Result<Recorded<C, L, M>>
     requires none { (books.steps.total ≡ 0) × (books.calls.total ≡ 0) }
-    requires sound { C.answers_truly core core → (v : View) × C.represents core v }
+    requires sound { C.answers_tell core core → (v : View) × C.represents core v }
 {
     match Recorded::new(alloc, core, books) {
         Ok(recorded) => Ok(recorded),

@@ -4,7 +4,7 @@ ghost use Rattle.block_pointer.specs.declared.block.Block.{Block};
 ghost use Rattle.block_store.specs.Blocks.{Contents};
 ghost use Rattle.block_store.specs.Causes.{IsCaused};
 ghost use Rattle.block_store.specs.Losses.{IsForLoss};
-ghost use Rattle.block_store.specs.Steps.{OnlyReadsBlocks, AnswersAreTrue};
+ghost use Rattle.block_store.specs.Steps.{OnlyReadsBlocks, AnswersTell};
 ghost use Rattle.block_store.specs.Store.{Holds};
 ghost use Rattle.dnode.specs.ObjectSet.{FitsObjectSet};
 ghost use Rattle.objset.specs.NodesFound.{IsNodeRefused};
@@ -47,12 +47,14 @@ pub fn read_record<D: Disk + Drop>(
     ensures reads { OnlyReadsBlocks store.old store.new missing.now }
     ensures value { IfOk result (λ found. (stored : Contents) (objects : ℕ → Option Object)
         (own : List Block) (blocks : ℕ → List Block) → Holds store.old stored
-        → AreObjects stored birth set.now objects own blocks → AnswersAreTrue store.old store.new
+        → AreObjects stored birth set.now objects own blocks
+        → AnswersTell store.old store.new missing.now
         → HasRecord (objects number) found) }
     // There is no other record.
     ensures one { IfOk result (λ found. (stored : Contents) (objects : ℕ → Option Object)
         (own : List Block) (blocks : ℕ → List Block) → Holds store.old stored
-        → AreObjects stored birth set.now objects own blocks → AnswersAreTrue store.old store.new
+        → AreObjects stored birth set.now objects own blocks
+        → AnswersTell store.old store.new missing.now
         → (other : DatasetRecord) → HasRecord (objects number) other → found ≡ other) }
 
     // Whatever the set is: what was read, and on a refusal its cause.
@@ -62,10 +64,11 @@ pub fn read_record<D: Disk + Drop>(
     ensures caused { IfErr result (IsCaused store.old store.new missing.now) }
     ensures cause { IfErr result (λ refusal. refusal ≢ Refusal.NoSpace) }
 
-    // And it is read, over disks that answer truly, unless too many disks miss of a block.
+    // And it is read, over disks whose answers tell, unless too many disks miss of a block.
     ensures known { IfErr result (λ refusal. (stored : Contents) (objects : ℕ → Option Object)
         (own : List Block) (blocks : ℕ → List Block) → Holds store.old stored
-        → AreObjects stored birth set.now objects own blocks → AnswersAreTrue store.old store.new
+        → AreObjects stored birth set.now objects own blocks
+        → AnswersTell store.old store.new missing.now
         → IsForLoss refusal ⊎ ((refusal ≡ Refusal.BadPointer)
         × ((r : DatasetRecord) → ¬ HasRecord (objects number) r))) }
 {
@@ -89,7 +92,8 @@ fn expect_record<D: Disk + Drop>(
     ensures reads { OnlyReadsBlocks store.old store.new missing.now }
     ensures value { IfOk result (λ _. (stored : Contents) (objects : ℕ → Option Object)
         (own : List Block) (blocks : ℕ → List Block) → Holds store.old stored
-        → AreObjects stored birth set.now objects own blocks → AnswersAreTrue store.old store.new
+        → AreObjects stored birth set.now objects own blocks
+        → AnswersTell store.old store.new missing.now
         → (there : Object) × (objects number ≡ Some there) × IsRecordObject there) }
     ensures found { IfOk result (λ _. IsRecordThere store.old.spaces set.now birth number) }
     ensures refused { IfErr result (λ refusal.
@@ -100,7 +104,8 @@ fn expect_record<D: Disk + Drop>(
     ensures cause { IfErr result (λ refusal. refusal ≢ Refusal.NoSpace) }
     ensures known { IfErr result (λ refusal. (stored : Contents) (objects : ℕ → Option Object)
         (own : List Block) (blocks : ℕ → List Block) → Holds store.old stored
-        → AreObjects stored birth set.now objects own blocks → AnswersAreTrue store.old store.new
+        → AreObjects stored birth set.now objects own blocks
+        → AnswersTell store.old store.new missing.now
         → IsForLoss refusal ⊎ ((refusal ≡ Refusal.BadPointer)
         × ((r : DatasetRecord) → ¬ HasRecord (objects number) r))) }
 {

@@ -4,7 +4,7 @@ ghost use Rattle.block_pointer.specs.declared.block.Block.{Block};
 ghost use Rattle.block_store.specs.Blocks.{Contents};
 ghost use Rattle.block_store.specs.Causes.{IsCaused};
 ghost use Rattle.block_store.specs.Losses.{IsForLoss};
-ghost use Rattle.block_store.specs.Steps.{OnlyReadsBlocks, AnswersAreTrue};
+ghost use Rattle.block_store.specs.Steps.{OnlyReadsBlocks, AnswersTell};
 ghost use Rattle.block_store.specs.Store.{Holds};
 ghost use Rattle.dnode.specs.ObjectSet.{FitsObjectSet};
 ghost use Rattle.objset.specs.Objects.{Object, AreObjects};
@@ -45,12 +45,14 @@ pub fn read_directory<D: Disk + Drop>(
     ensures reads { OnlyReadsBlocks store.old store.new missing.now }
     ensures value { IfOk result (λ directory. (stored : Contents) (objects : ℕ → Option Object)
         (own : List Block) (blocks : ℕ → List Block) → Holds store.old stored
-        → AreObjects stored birth set.now objects own blocks → AnswersAreTrue store.old store.new
+        → AreObjects stored birth set.now objects own blocks
+        → AnswersTell store.old store.new missing.now
         → HasDirectory (objects 1) directory) }
     // There is no other directory.
     ensures one { IfOk result (λ directory. (stored : Contents) (objects : ℕ → Option Object)
         (own : List Block) (blocks : ℕ → List Block) → Holds store.old stored
-        → AreObjects stored birth set.now objects own blocks → AnswersAreTrue store.old store.new
+        → AreObjects stored birth set.now objects own blocks
+        → AnswersTell store.old store.new missing.now
         → (other : List DirectoryRow) → HasDirectory (objects 1) other → directory ≡ other) }
 
     // Whatever the set is: what was read, and on a refusal its cause.
@@ -61,10 +63,11 @@ pub fn read_directory<D: Disk + Drop>(
     ensures caused { IfErr result (IsCaused store.old store.new missing.now) }
     ensures cause { IfErr result (λ refusal. refusal ≢ Refusal.NoSpace) }
 
-    // And it is read, over disks that answer truly, unless too many disks miss of a block.
+    // And it is read, over disks whose answers tell, unless too many disks miss of a block.
     ensures known { IfErr result (λ refusal. (stored : Contents) (objects : ℕ → Option Object)
         (own : List Block) (blocks : ℕ → List Block) → Holds store.old stored
-        → AreObjects stored birth set.now objects own blocks → AnswersAreTrue store.old store.new
+        → AreObjects stored birth set.now objects own blocks
+        → AnswersTell store.old store.new missing.now
         → IsForLoss refusal ⊎ ((refusal ≡ Refusal.BadPointer)
         × ((rows : List DirectoryRow) → ¬ HasDirectory (objects 1) rows))) }
 {
@@ -106,7 +109,8 @@ pub fn read_config<D: Disk + Drop>(
     ensures reads { OnlyReadsBlocks store.old store.new missing.now }
     ensures value { IfOk result (λ config. (stored : Contents) (objects : ℕ → Option Object)
         (own : List Block) (blocks : ℕ → List Block) → Holds store.old stored
-        → AreObjects stored birth set.now objects own blocks → AnswersAreTrue store.old store.new
+        → AreObjects stored birth set.now objects own blocks
+        → AnswersTell store.old store.new missing.now
         → HasConfig (objects 2) (config_view config)) }
 
     // Whatever the set is: what was read, and on a refusal its cause.
@@ -118,10 +122,11 @@ pub fn read_config<D: Disk + Drop>(
     ensures caused { IfErr result (IsCaused store.old store.new missing.now) }
     ensures cause { IfErr result (λ refusal. refusal ≢ Refusal.NoSpace) }
 
-    // And it is read, over disks that answer truly, unless too many disks miss of a block.
+    // And it is read, over disks whose answers tell, unless too many disks miss of a block.
     ensures known { IfErr result (λ refusal. (stored : Contents) (objects : ℕ → Option Object)
         (own : List Block) (blocks : ℕ → List Block) → Holds store.old stored
-        → AreObjects stored birth set.now objects own blocks → AnswersAreTrue store.old store.new
+        → AreObjects stored birth set.now objects own blocks
+        → AnswersTell store.old store.new missing.now
         → IsForLoss refusal ⊎ ((refusal ≡ Refusal.BadPointer)
         × ((vdevs : List PlainVdev) → ¬ HasConfig (objects 2) vdevs))) }
 {
@@ -160,12 +165,14 @@ pub fn read_stale_spans<D: Disk + Drop>(
     ensures reads { OnlyReadsBlocks store.old store.new missing.now }
     ensures value { IfOk result (λ spans. (stored : Contents) (objects : ℕ → Option Object)
         (own : List Block) (blocks : ℕ → List Block) → Holds store.old stored
-        → AreObjects stored birth set.now objects own blocks → AnswersAreTrue store.old store.new
+        → AreObjects stored birth set.now objects own blocks
+        → AnswersTell store.old store.new missing.now
         → HasStaleSpans (objects 3) spans) }
     // There are no others.
     ensures one { IfOk result (λ spans. (stored : Contents) (objects : ℕ → Option Object)
         (own : List Block) (blocks : ℕ → List Block) → Holds store.old stored
-        → AreObjects stored birth set.now objects own blocks → AnswersAreTrue store.old store.new
+        → AreObjects stored birth set.now objects own blocks
+        → AnswersTell store.old store.new missing.now
         → (other : List StaleSpan) → HasStaleSpans (objects 3) other → spans ≡ other) }
 
     // Whatever the set is: what was read, and on a refusal its cause.
@@ -176,10 +183,11 @@ pub fn read_stale_spans<D: Disk + Drop>(
     ensures caused { IfErr result (IsCaused store.old store.new missing.now) }
     ensures cause { IfErr result (λ refusal. refusal ≢ Refusal.NoSpace) }
 
-    // And it is read, over disks that answer truly, unless too many disks miss of a block.
+    // And it is read, over disks whose answers tell, unless too many disks miss of a block.
     ensures known { IfErr result (λ refusal. (stored : Contents) (objects : ℕ → Option Object)
         (own : List Block) (blocks : ℕ → List Block) → Holds store.old stored
-        → AreObjects stored birth set.now objects own blocks → AnswersAreTrue store.old store.new
+        → AreObjects stored birth set.now objects own blocks
+        → AnswersTell store.old store.new missing.now
         → IsForLoss refusal ⊎ ((refusal ≡ Refusal.BadPointer)
         × ((spans : List StaleSpan) → ¬ HasStaleSpans (objects 3) spans))) }
 {
@@ -228,12 +236,14 @@ pub fn read_space_maps<D: Disk + Drop>(
     ensures reads { OnlyReadsBlocks store.old store.new missing.now }
     ensures value { IfOk result (λ maps. (stored : Contents) (objects : ℕ → Option Object)
         (own : List Block) (blocks : ℕ → List Block) → Holds store.old stored
-        → AreObjects stored birth set.now objects own blocks → AnswersAreTrue store.old store.new
+        → AreObjects stored birth set.now objects own blocks
+        → AnswersTell store.old store.new missing.now
         → HasSpaceMaps (objects 4) maps) }
     // There are no others.
     ensures one { IfOk result (λ maps. (stored : Contents) (objects : ℕ → Option Object)
         (own : List Block) (blocks : ℕ → List Block) → Holds store.old stored
-        → AreObjects stored birth set.now objects own blocks → AnswersAreTrue store.old store.new
+        → AreObjects stored birth set.now objects own blocks
+        → AnswersTell store.old store.new missing.now
         → (other : List MetaslabMap) → HasSpaceMaps (objects 4) other → maps ≡ other) }
 
     // Whatever the set is: what was read, and on a refusal its cause.
@@ -244,10 +254,11 @@ pub fn read_space_maps<D: Disk + Drop>(
     ensures caused { IfErr result (IsCaused store.old store.new missing.now) }
     ensures cause { IfErr result (λ refusal. refusal ≢ Refusal.NoSpace) }
 
-    // And it is read, over disks that answer truly, unless too many disks miss of a block.
+    // And it is read, over disks whose answers tell, unless too many disks miss of a block.
     ensures known { IfErr result (λ refusal. (stored : Contents) (objects : ℕ → Option Object)
         (own : List Block) (blocks : ℕ → List Block) → Holds store.old stored
-        → AreObjects stored birth set.now objects own blocks → AnswersAreTrue store.old store.new
+        → AreObjects stored birth set.now objects own blocks
+        → AnswersTell store.old store.new missing.now
         → IsForLoss refusal ⊎ ((refusal ≡ Refusal.BadPointer)
         × ((maps : List MetaslabMap) → ¬ HasSpaceMaps (objects 4) maps))) }
 {

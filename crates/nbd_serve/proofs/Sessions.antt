@@ -49,7 +49,7 @@ module _ {P : Type 0} (steps : Ghosts P) (itself : (core : P) → steps.came_fro
   links export old new e answers = linked export old new e (judged export e.head) answers.responds
 
   module _ (further : (first mid last : P) → steps.came_from first mid → steps.came_from mid last → steps.came_from first last)
-      (parts_are_true : (first mid last : P) → steps.came_from first mid → steps.came_from mid last → steps.answers_truly first last → steps.answers_truly first mid × steps.answers_truly mid last) where
+      (parts_tell : (first mid last : P) → steps.came_from first mid → steps.came_from mid last → steps.answers_tell first last → steps.answers_tell first mid × steps.answers_tell mid last) where
     -- what is served leads through the exchanges
     pub record Leading (old new : Device P) (exchanges : List Exchange) : Type 0 where
       pub follows : steps.came_from (core_of old) (core_of new)
@@ -65,7 +65,7 @@ module _ {P : Type 0} (steps : Ghosts P) (itself : (core : P) → steps.came_fro
         let behind : Leads steps mid new (Exchanged (name_of old) exchanges) = subst (λ (n : List ℕ). Leads steps mid new (Exchanged n exchanges)) first.named rest.leads in record {
           follows = further (core_of old) (core_of mid) (core_of new) first.follows rest.follows;
           named = rest.named ∙ first.named;
-          leads = leads_on steps parts_are_true old mid new (Becomes (name_of old) e) (Exchanged (name_of old) exchanges) first.follows rest.follows first.leads behind;
+          leads = leads_on steps parts_tell old mid new (Becomes (name_of old) e) (Exchanged (name_of old) exchanges) first.follows rest.follows first.leads behind;
         }
 
 -- ---- the handshake's part

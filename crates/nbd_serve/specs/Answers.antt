@@ -24,7 +24,7 @@ module _ {P : Type 0} (steps : Ghosts P) where
     pub code_is : code ≡ becomes cause
     pub caused : IsCaused steps takes old new cause
 
-  -- what was read had another length, which no pool gives whose disks answer truly
+  -- what was read had another length, which no pool gives where answers tell what was written
   pub record IsMisread (head : RequestHead) (old : Device P) (code : ErrorCode) (new : Device P) : Type 0 where
     pub bytes : List ℕ
     pub leads : Leads steps old new (AreRead (name_of old) head.offset head.len bytes)

@@ -6,12 +6,12 @@ use Rattle.std.proofs.lemmas.Bool.{cases_lt, ne_eqb}
 use Rattle.block_pointer.specs.declared.block.Block.{Block}
 use Rattle.block_store.proofs.Steps.{reads_none, reads_on}
 use Rattle.block_store.specs.Blocks.{Contents}
-use Rattle.block_store.specs.Steps.{OnlyReadsBlocks, AnswersAreTrue}
+use Rattle.block_store.specs.Steps.{OnlyReadsBlocks, AnswersTell}
 use Rattle.block_store.specs.declared.refusal.Refusal.{Refusal}
 use Rattle.block_store.specs.Spaces.{VdevSpace}
 use Rattle.block_store.specs.Store.{Store, Holds}
 use Rattle.dnode.specs.declared.object_set.ObjectSet.{ObjectSet}
-use Rattle.dnode_tree.proofs.FurtherReads.{true_before, true_after}
+use Rattle.dnode_tree.proofs.FurtherReads.{told_before, told_after}
 use Rattle.objset.specs.Found.{IsDataFound}
 use Rattle.objset.specs.Objects.{Object, AreObjects}
 use Rattle.object_table.specs.declared.kind.TableKind.{TableKind}
@@ -104,13 +104,13 @@ rows_refused old mid new missing set birth kind number highest count refusal is 
 pub record IsUnderway (old now : Store) (missing : List ℕ) (set : ObjectSet) (birth number count : ℕ) (bytes : List ℕ) : Type 0 where
   pub reads : OnlyReadsBlocks old now missing
   pub read : (stored : Contents) (objects : ℕ → Option Object) (own : List Block) (blocks : ℕ → List Block) → Holds old stored → AreObjects stored birth set objects own blocks
-      → AnswersAreTrue old now → (there : Object) → objects number ≡ Some there → IsFront there.array count bytes
+      → AnswersTell old now missing → (there : Object) → objects number ≡ Some there → IsFront there.array count bytes
   pub found : AreBlocksFound old.spaces set birth number count bytes
 
 pub underway_begins : (store : Store) (missing : List ℕ) (set : ObjectSet) (birth number : ℕ) → IsUnderway store store missing set birth number 0 []
 underway_begins store missing set birth number = record {
   reads = reads_none store missing;
-  read = λ stored objects own blocks held are honest there is. (λ id lt. absurd (omega (arith, lt)), refl);
+  read = λ stored objects own blocks held are tell there is. (λ id lt. absurd (omega (arith, lt)), refl);
   found = found_none store.spaces set birth number;
 }
 
@@ -118,16 +118,16 @@ pub some_is : (object : Option Object) (there : Object) (P : Object → Type 0) 
 some_is object there P has is = subst (λ o. IsSomeAnd o P) is has
 
 pub underway_goes_on : (old now new : Store) (missing : List ℕ) (set : ObjectSet) (birth number count : ℕ) (bytes block : List ℕ) → IsUnderway old now missing set birth number count bytes → OnlyReadsBlocks now new missing
-    → ((stored : Contents) (objects : ℕ → Option Object) (own : List Block) (blocks : ℕ → List Block) → Holds now stored → AreObjects stored birth set objects own blocks → AnswersAreTrue now new
+    → ((stored : Contents) (objects : ℕ → Option Object) (own : List Block) (blocks : ℕ → List Block) → Holds now stored → AreObjects stored birth set objects own blocks → AnswersTell now new missing
     → IsSomeAnd (objects number) (λ object. Some block ≡ object.array count))
     → IsDataFound now.spaces set birth number count (Some block)
     → IsUnderway old new missing set birth number (count + 1) (bytes ++ block)
 underway_goes_on old now new missing set birth number count bytes block so_far reads value found = record {
   reads = reads_on old now new missing so_far.reads reads;
-  read = λ stored objects own blocks held are honest there is.
+  read = λ stored objects own blocks held are tell there is.
       one_more there.array count bytes block
-      (so_far.read stored objects own blocks held are (true_before old now new missing so_far.reads reads honest) there is)
-      (some_is (objects number) there (λ object. Some block ≡ object.array count) (value stored objects own blocks (so_far.reads.keeps stored held) are (true_after old now new missing so_far.reads reads honest)) is);
+      (so_far.read stored objects own blocks held are (told_before old now new missing so_far.reads reads tell) there is)
+      (some_is (objects number) there (λ object. Some block ≡ object.array count) (value stored objects own blocks (so_far.reads.keeps stored held) are (told_after old now new missing so_far.reads reads tell)) is);
   found = found_more old.spaces set birth number count bytes block so_far.found
       (subst (λ spaces. IsDataFound spaces set birth number count (Some block)) (spaces_stay old now missing so_far.reads) found);
 }

@@ -4,7 +4,7 @@ ghost use Rattle.block_pointer.specs.declared.block.Block.{Block};
 ghost use Rattle.block_store.specs.Blocks.{Contents};
 ghost use Rattle.block_store.specs.Causes.{IsCaused};
 ghost use Rattle.block_store.specs.Losses.{IsForLoss};
-ghost use Rattle.block_store.specs.Steps.{OnlyReadsBlocks, AnswersAreTrue};
+ghost use Rattle.block_store.specs.Steps.{OnlyReadsBlocks, AnswersTell};
 ghost use Rattle.block_store.specs.Store.{Holds};
 ghost use Rattle.dnode.specs.ObjectSet.{FitsObjectSet};
 ghost use Rattle.objset.specs.Found.{IsDataFound, IsDataRefused};
@@ -52,7 +52,8 @@ pub fn read_end<D: Disk + Drop>(
     ensures reads { OnlyReadsBlocks store.old store.new missing.now }
     ensures value { IfOk result (λ end. (stored : Contents) (objects : ℕ → Option Object)
         (own : List Block) (blocks : ℕ → List Block) → Holds store.old stored
-        → AreObjects stored birth set.now objects own blocks → AnswersAreTrue store.old store.new
+        → AreObjects stored birth set.now objects own blocks
+        → AnswersTell store.old store.new missing.now
         → (rows : List ℕ) → HasTable kind (objects number) rows
         → IsEndOf kind (objects number) rows end) }
 
@@ -63,10 +64,11 @@ pub fn read_end<D: Disk + Drop>(
     ensures caused { IfErr result (IsCaused store.old store.new missing.now) }
     ensures cause { IfErr result (λ refusal. refusal ≢ Refusal.NoSpace) }
 
-    // And it is read, over disks that answer truly, unless too many disks miss of a block.
+    // And it is read, over disks whose answers tell, unless too many disks miss of a block.
     ensures known { IfErr result (λ refusal. (stored : Contents) (objects : ℕ → Option Object)
         (own : List Block) (blocks : ℕ → List Block) → Holds store.old stored
-        → AreObjects stored birth set.now objects own blocks → AnswersAreTrue store.old store.new
+        → AreObjects stored birth set.now objects own blocks
+        → AnswersTell store.old store.new missing.now
         → IsForLoss refusal ⊎ ((refusal ≡ Refusal.BadPointer)
         × ((rows : List ℕ) → ¬ HasTable kind (objects number) rows))) }
 {
@@ -91,7 +93,8 @@ fn read_ends<D: Disk + Drop>(
     ensures same { IfOk result (λ ends. highest ≡ 0 → ends.1.items ≡ ends.0.items) }
     ensures value { IfOk result (λ ends. (stored : Contents) (objects : ℕ → Option Object)
         (own : List Block) (blocks : ℕ → List Block) → Holds store.old stored
-        → AreObjects stored birth set.now objects own blocks → AnswersAreTrue store.old store.new
+        → AreObjects stored birth set.now objects own blocks
+        → AnswersTell store.old store.new missing.now
         → (there : Object) → objects number ≡ Some there
         → (there.array 0 ≡ Some ends.0.items) × (there.array highest ≡ Some ends.1.items)) }
     ensures found { IfOk result (λ ends.
@@ -103,7 +106,8 @@ fn read_ends<D: Disk + Drop>(
     ensures cause { IfErr result (λ refusal. refusal ≢ Refusal.NoSpace) }
     ensures known { IfErr result (λ refusal. (stored : Contents) (objects : ℕ → Option Object)
         (own : List Block) (blocks : ℕ → List Block) → Holds store.old stored
-        → AreObjects stored birth set.now objects own blocks → AnswersAreTrue store.old store.new
+        → AreObjects stored birth set.now objects own blocks
+        → AnswersTell store.old store.new missing.now
         → (there : Object) → objects number ≡ Some there
         → IsForLoss refusal ⊎ ((refusal ≡ Refusal.BadPointer)
         × ((there.array 0 ≡ None) ⊎ (there.array highest ≡ None)))) }
@@ -131,7 +135,8 @@ fn read_block<D: Disk + Drop>(
     ensures reads { OnlyReadsBlocks store.old store.new missing.now }
     ensures value { IfOk result (λ bytes. (stored : Contents) (objects : ℕ → Option Object)
         (own : List Block) (blocks : ℕ → List Block) → Holds store.old stored
-        → AreObjects stored birth set.now objects own blocks → AnswersAreTrue store.old store.new
+        → AreObjects stored birth set.now objects own blocks
+        → AnswersTell store.old store.new missing.now
         → (there : Object) → objects number ≡ Some there → there.array id ≡ Some bytes.items) }
     ensures found { IfOk result (λ bytes.
         IsDataFound store.old.spaces set.now birth number id (Some bytes.items)) }
@@ -142,7 +147,8 @@ fn read_block<D: Disk + Drop>(
     ensures cause { IfErr result (λ refusal. refusal ≢ Refusal.NoSpace) }
     ensures known { IfErr result (λ refusal. (stored : Contents) (objects : ℕ → Option Object)
         (own : List Block) (blocks : ℕ → List Block) → Holds store.old stored
-        → AreObjects stored birth set.now objects own blocks → AnswersAreTrue store.old store.new
+        → AreObjects stored birth set.now objects own blocks
+        → AnswersTell store.old store.new missing.now
         → (there : Object) → objects number ≡ Some there
         → IsForLoss refusal ⊎ ((refusal ≡ Refusal.BadPointer) × (there.array id ≡ None))) }
 {

@@ -11,9 +11,9 @@ use Rattle.dnode.specs.declared.object_set.ObjectSet.{ObjectSet}
 use Rattle.block_store.specs.Blocks.{Contents}
 use Rattle.block_store.specs.Store.{Store, Holds}
 use Rattle.block_store.proofs.Steps.{reads_on}
-use Rattle.dnode_tree.proofs.FurtherReads.{true_before, true_after}
+use Rattle.dnode_tree.proofs.FurtherReads.{told_before, told_after}
 use Rattle.dnode_tree.specs.declared.writes.BlockWrite.{BlockWrite}
-use Rattle.block_store.specs.Steps.{OnlyReadsBlocks, AnswersAreTrue}
+use Rattle.block_store.specs.Steps.{OnlyReadsBlocks, AnswersTell}
 use Rattle.dnode_tree.specs.Tree.{IsTree}
 use Rattle.dnode_tree.specs.Writes.{AreInOrder, AreWholeBlocks, written}
 use Rattle.objset.specs.declared.node_writes.NodeWrite.{NodeWrite}
@@ -37,7 +37,7 @@ pub record IsChanging (set : ObjectSet) (start now : Store) (missing : List ℕ)
   pub reached : All (λ write. Any (λ block. block.id ≡ write.number / 32) changed) front
   pub only : All (λ block. Any (λ write. write.number / 32 ≡ block.id) front) changed
   pub value : (stored : Contents) (array : ℕ → Option (List ℕ)) (nodes : ℕ → Dnode) (blocks : List Block) → Holds start stored
-      → IsTree stored birth set.dnodes array blocks → AreNodesOf array nodes → AnswersAreTrue start now
+      → IsTree stored birth set.dnodes array blocks → AreNodesOf array nodes → AnswersTell start now missing
       → AreNodesOf (written changed array) (written_nodes front nodes)
 
 -- those writes at the front that belong to the block of the first
@@ -122,7 +122,7 @@ changing_begins set start missing birth writes changed reads good none =
       whole = All-nil (λ (block : BlockWrite). length block.bytes.items ≡ set.dnodes.data_sectors * 512);
       reached = λ j other low. absurd (omega (arith, low));
       only = λ j other low. absurd (omega (arith, low));
-      value = λ stored array nodes blocks held tree are honest. are;
+      value = λ stored array nodes blocks held tree are tell. are;
     })
 
 any_in_front : {X : Type 0} (P : X → Type 0) (xs ys : List X) → Any P xs → Any P (xs ++ ys)
@@ -154,7 +154,7 @@ module _ (set : ObjectSet) (start now later : Store) (missing : List ℕ) (birth
       omega (arith, number, here 0 first some)
 
   pub changing_goes_on : ((stored : Contents) (array : ℕ → Option (List ℕ)) (nodes : ℕ → Dnode) (blocks : List Block) → Holds now stored
-      → IsTree stored birth set.dnodes array blocks → AreNodesOf array nodes → AnswersAreTrue now later → HasSlots block.bytes.items block.id (written_nodes run nodes))
+      → IsTree stored birth set.dnodes array blocks → AreNodesOf array nodes → AnswersTell now later missing → HasSlots block.bytes.items block.id (written_nodes run nodes))
       → IsChanging set start later missing birth writes others (changed ++ block ∷ [])
   changing_goes_on value = record {
     reads = reads_on start now later missing so_far.reads reads;
@@ -181,13 +181,13 @@ module _ (set : ObjectSet) (start now later : Store) (missing : List ℕ) (birth
         (All-weaker (λ (b : BlockWrite). Any (λ (w : NodeWrite). w.number / 32 ≡ b.id) so_far.front) (λ (b : BlockWrite). Any (λ (w : NodeWrite). w.number / 32 ≡ b.id) (so_far.front ++ run))
         (λ b one. any_in_front (λ (w : NodeWrite). w.number / 32 ≡ b.id) so_far.front run one) changed so_far.only)
         (any_behind (λ (w : NodeWrite). w.number / 32 ≡ block.id) so_far.front run (0, get_or run 0 first, some, get_or_default run 0 (get_or run 0 first) first some, here 0 first some));
-    value = λ stored array nodes blocks held tree are honest.
+    value = λ stored array nodes blocks held tree are tell.
         block_added changed block array so_far.front run nodes
         (All-weaker (λ (b : BlockWrite). (b.id < so_far.next) × (b.id < 128 ^ 5)) (λ (b : BlockWrite). b.id ≢ block.id) (λ b low same. omega (arith, low.0, same, far)) changed so_far.ids)
         (All-weaker (λ (w : NodeWrite). w.number / 32 < so_far.next) (λ (w : NodeWrite). w.number / 32 ≢ block.id) (λ w low same. omega (arith, low, same, far)) so_far.front so_far.before)
         here
-        (so_far.value stored array nodes blocks held tree are (true_before start now later missing so_far.reads reads honest))
-        (value stored array nodes blocks (so_far.reads.keeps stored held) tree are (true_after start now later missing so_far.reads reads honest));
+        (so_far.value stored array nodes blocks held tree are (told_before start now later missing so_far.reads reads tell))
+        (value stored array nodes blocks (so_far.reads.keeps stored held) tree are (told_after start now later missing so_far.reads reads tell));
   }
 
 -- at the end nothing is left
@@ -203,7 +203,7 @@ pub block_changed : (set : ObjectSet) (start now later : Store) (missing : List 
     → All (λ write. write.number < 32 * (block.id + 1)) (take n rest) → ((other : NodeWrite) → n < length rest → 32 * (block.id + 1) ≤ (get_or rest n other).number)
     → run ≡ take n rest → length run ≡ n → others ≡ drop n rest → length block.bytes.items ≡ set.dnodes.data_sectors * 512
     → ((stored : Contents) (array : ℕ → Option (List ℕ)) (nodes : ℕ → Dnode) (blocks : List Block) → Holds now stored
-    → IsTree stored birth set.dnodes array blocks → AreNodesOf array nodes → AnswersAreTrue now later → HasSlots block.bytes.items block.id (written_nodes run nodes))
+    → IsTree stored birth set.dnodes array blocks → AreNodesOf array nodes → AnswersTell now later missing → HasSlots block.bytes.items block.id (written_nodes run nodes))
     → IsChanging set start later missing birth writes others (changed ++ block ∷ [])
 block_changed set start now later missing birth writes rest run others changed block so_far reads first n some first_is id_is sooner behind run_is run_long others_are size value =
     let taken : 0 < n = some_taken rest first n block.id (32 * (block.id + 1)) so_far.left some first_is id_is refl sooner behind in

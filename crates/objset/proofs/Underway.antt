@@ -21,9 +21,9 @@ use Rattle.objset.specs.declared.node_writes.SetRewrite.{SetRewrite}
 use Rattle.objset.specs.Nodes.{birth_of}
 use Rattle.objset.specs.NodeWrites.{FitsWrite, AreNodeWrites, AreNodesRewritten, IsGrownSet, written_nodes, births_written}
 use Rattle.block_store.proofs.Steps.{steps_none, steps_on}
-use Rattle.dnode_tree.proofs.Steps.{true_sooner, true_later}
+use Rattle.dnode_tree.proofs.Steps.{told_sooner, told_later}
 use Rattle.dnode_tree.specs.declared.writes.CopyCounts.{CopyCounts}
-use Rattle.block_store.specs.Steps.{OnlyReadsAndPlans, AnswersAreTrue}
+use Rattle.block_store.specs.Steps.{OnlyReadsAndPlans, AnswersTell}
 use Rattle.dnode_tree.specs.Rewriting.{IsExchanged}
 use Rattle.objset.proofs.Exchanged.{exchanged_last, exchanged_as}
 use Rattle.objset.proofs.Kept.{object_kept, object_as, within_set}
@@ -35,10 +35,10 @@ use Rattle.objset.specs.Changing.{IsObjectChanged, AreObjectsChanged}
 use Rattle.objset.specs.Objects.{Object, IsObject, AreObjects}
 
 -- what a list of changes has come to
-abbrev pub HasChanged : SetCopies → Store → Store → ObjectSet → ℕ → List ObjectChange → List NodeWrite → List Block → List Block → Type 0
-HasChanged copies start now set birth changes writes noted noted_now =
+abbrev pub HasChanged : SetCopies → Store → Store → List ℕ → ObjectSet → ℕ → List ObjectChange → List NodeWrite → List Block → List Block → Type 0
+HasChanged copies start now missing set birth changes writes noted noted_now =
     (stored planned : Contents) (bound : ℕ) (objects : ℕ → Option Object) (own : List Block) (before : ℕ → List Block) → Plans start stored planned
-    → (are : AreObjects stored bound set objects own before) → bound ≤ birth → AnswersAreTrue start now
+    → (are : AreObjects stored bound set objects own before) → bound ≤ birth → AnswersTell start now missing
     → All (λ change. MayChange change.change (objects change.number)) changes
     × (later : Contents) × Plans now stored later
     × AreObjectsChanged (object_copies copies) planned later birth changes writes are.nodes objects before noted noted_now
@@ -48,7 +48,7 @@ pub record IsUnderway (copies : SetCopies) (start now : Store) (missing : List �
   pub steps : OnlyReadsAndPlans start now missing
   pub writes_are : AreNodeWrites writes
   pub below : (number : ℕ) → All (λ change. change.number < number) changes ↔ All (λ write. write.number < number) writes
-  pub has_changed : HasChanged copies start now set birth changes writes noted noted_now
+  pub has_changed : HasChanged copies start now missing set birth changes writes noted noted_now
 
 -- nothing was changed so far
 pub none_changed : (copies : CopyCounts) (stored planned : Contents) (bound birth : ℕ) (set : ObjectSet) (objects : ℕ → Option Object) (own : List Block) (before : ℕ → List Block) (noted : List Block)
@@ -69,7 +69,7 @@ underway_begins copies start missing set birth noted fits = record {
   steps = steps_none start missing;
   writes_are = record { order = λ i j d less low. absurd (omega (arith, low)); each = All-nil FitsWrite };
   below = λ number. (λ all. All-nil (λ (write : NodeWrite). write.number < number), λ all. All-nil (λ (change : ObjectChange). change.number < number));
-  has_changed = λ stored planned bound objects own before plans are le honest. (
+  has_changed = λ stored planned bound objects own before plans are le tell. (
     All-nil (λ (change : ObjectChange). MayChange change.change (objects change.number)),
     planned,
     plans,
@@ -138,7 +138,7 @@ module _ (copies : SetCopies) (start now new : Store) (missing : List ℕ) (set 
     (steps : OnlyReadsAndPlans now new missing) where
   pub underway_goes_on : (write : NodeWrite) (noted_later : List Block) → write.number ≡ last.number → FitsDnode write.node
       → ((stored planned : Contents) (bound : ℕ) (objects : ℕ → Option Object) (own : List Block) (before : ℕ → List Block) → Plans now stored planned
-      → AreObjects stored bound set objects own before → bound ≤ birth → AnswersAreTrue now new
+      → AreObjects stored bound set objects own before → bound ≤ birth → AnswersTell now new missing
       → MayChange last.change (objects last.number)
       × (later : Contents) × Plans new stored later
       × IsObjectChanged (object_copies copies) planned later birth write.node (after_change last.change (objects last.number)) (before last.number) noted_now noted_later)
@@ -158,9 +158,9 @@ module _ (copies : SetCopies) (start now new : Store) (missing : List ℕ) (set 
               All-push (λ (c : ObjectChange). c.number < number) (take i changes) last ((so_far.below number).1 (all_front (λ (w : NodeWrite). w.number < number) writes write all))
               (omega (arith, same, all_last (λ (w : NodeWrite). w.number < number) writes write all)),
         );
-        has_changed = λ stored planned bound objects own before plans are le honest.
-            let there = so_far.has_changed stored planned bound objects own before plans are le (true_sooner start now new missing so_far.steps steps honest) in
-            let next = step stored there.1 bound objects own before there.2 are le (true_later start now new missing so_far.steps steps honest) in (
+        has_changed = λ stored planned bound objects own before plans are le tell.
+            let there = so_far.has_changed stored planned bound objects own before plans are le (told_sooner start now new missing so_far.steps steps tell) in
+            let next = step stored there.1 bound objects own before there.2 are le (told_later start now new missing so_far.steps steps tell) in (
               All-push (λ (c : ObjectChange). MayChange c.change (objects c.number)) (take i changes) last there.0 next.0,
               next.1,
               next.2,
@@ -180,12 +180,12 @@ module _ (copies : SetCopies) (start now new : Store) (missing : List ℕ) (set 
   -- the next change can't be made
   pub underway_fails : (Refused : (ℕ → Option Object) → Type 0)
       → ((stored planned : Contents) (bound : ℕ) (objects : ℕ → Option Object) (own : List Block) (before : ℕ → List Block) → Plans now stored planned
-      → AreObjects stored bound set objects own before → bound ≤ birth → AnswersAreTrue now new → Refused objects)
+      → AreObjects stored bound set objects own before → bound ≤ birth → AnswersTell now new missing → Refused objects)
       → (stored planned : Contents) (bound : ℕ) (objects : ℕ → Option Object) (own : List Block) (before : ℕ → List Block) → Plans start stored planned
-      → AreObjects stored bound set objects own before → bound ≤ birth → AnswersAreTrue start new → Refused objects
-  underway_fails Refused step stored planned bound objects own before plans are le honest =
-      let there = so_far.has_changed stored planned bound objects own before plans are le (true_sooner start now new missing so_far.steps steps honest) in
-      step stored there.1 bound objects own before there.2 are le (true_later start now new missing so_far.steps steps honest)
+      → AreObjects stored bound set objects own before → bound ≤ birth → AnswersTell start new missing → Refused objects
+  underway_fails Refused step stored planned bound objects own before plans are le tell =
+      let there = so_far.has_changed stored planned bound objects own before plans are le (told_sooner start now new missing so_far.steps steps tell) in
+      step stored there.1 bound objects own before there.2 are le (told_later start now new missing so_far.steps steps tell)
 
 -- the set is rewritten with what was changed
 module _ (copies : SetCopies) (stored planned mid later : Contents) (birth : ℕ) (rewrite done : SetRewrite) (changes : List ObjectChange) (writes : List NodeWrite) (nodes : ℕ → Dnode) (births : ℕ → ℕ)

@@ -6,7 +6,7 @@ use Rattle.block_store.specs.declared.refusal.Refusal.TheVariants.{BadPointer, D
 use Rattle.block_store.specs.Blocks.{Contents, Extends}
 use Rattle.block_store.specs.Demands.{Demand, HavePlaces, LackPlaces}
 use Rattle.block_store.specs.Plans.{Plans}
-use Rattle.block_store.specs.Steps.{AnswersAreTrue}
+use Rattle.block_store.specs.Steps.{AnswersTell}
 use Rattle.block_store.specs.Store.{Store}
 use Rattle.dnode.specs.declared.dnode.Dnode.{Dnode}
 use Rattle.dnode.specs.declared.node.ObjectNode.{ObjectNode}
@@ -55,21 +55,21 @@ pub record AreObjectsChanged (copies : CopyCounts) (planned later : Contents) (b
   pub noted_are : noted_later ≡ noted ++ gone
   pub exchanged : AreExchanged copies birth planned later changes before after gone
 
--- Whatever the store has as the set, where its answers are true: each change may be made, and the store plans the objects with the changes.
+-- Whatever the store has as the set, where its answers tell what was written: each change may be made, and the store plans the objects with the changes.
 abbrev pub ChangesEach : Changing → Store → Store → ObjectSet → List ObjectChange → List Block → List Block → List NodeWrite → Type 0
 ChangesEach this old new set changes noted noted_later writes =
     (stored planned : Contents) (bound : ℕ) (objects : ℕ → Option Object) (own : List Block) (before : ℕ → List Block) → Plans old stored planned
-    → (are : AreObjects stored bound set objects own before) → bound ≤ this.birth → AnswersAreTrue old new
+    → (are : AreObjects stored bound set objects own before) → bound ≤ this.birth → AnswersTell old new this.missing.now
     → All (λ change. MayChange change.change (objects change.number)) changes
     × (later : Contents) × Plans new stored later
     × AreObjectsChanged (object_copies this.copies) planned later this.birth changes writes are.nodes objects before noted noted_later
 
--- where the store has such a set and its answers are true: memory or room is wanting, a block is
+-- where the store has such a set and its answers tell what was written: memory or room is wanting, a block is
 -- lost, or some change may not be made
 abbrev pub IsEachRefused : Changing → Store → Store → ObjectSet → List ObjectChange → Refusal → Type 0
 IsEachRefused this old new set changes refusal =
     (stored planned : Contents) (bound : ℕ) (objects : ℕ → Option Object) (own : List Block) (before : ℕ → List Block) → Plans old stored planned
-    → AreObjects stored bound set objects own before → bound ≤ this.birth → AnswersAreTrue old new
+    → AreObjects stored bound set objects own before → bound ≤ this.birth → AnswersTell old new this.missing.now
     → (IsForRoom refusal ⊎ (refusal ≡ DiskFault))
     ⊎ ((refusal ≡ BadPointer)
     × Any (λ change. ¬ MayChange change.change (objects change.number)) changes)
@@ -78,16 +78,16 @@ IsEachRefused this old new set changes refusal =
 abbrev pub ChangesOne : Changing → Store → Store → ObjectSet → ObjectChange → List Block → List Block → Dnode → Type 0
 ChangesOne this old new set change noted noted_later node =
     (stored planned : Contents) (bound : ℕ) (objects : ℕ → Option Object) (own : List Block) (before : ℕ → List Block) → Plans old stored planned
-    → AreObjects stored bound set objects own before → bound ≤ this.birth → AnswersAreTrue old new
+    → AreObjects stored bound set objects own before → bound ≤ this.birth → AnswersTell old new this.missing.now
     → MayChange change.change (objects change.number)
     × (later : Contents) × Plans new stored later
     × IsObjectChanged (object_copies this.copies) planned later this.birth node (after_change change.change (objects change.number)) (before change.number) noted noted_later
 
--- why one change of an object of the set was refused, where the answers are true: for memory, room or a lost block, or it may not be made
+-- why one change of an object of the set was refused, where the answers tell what was written: for memory, room or a lost block, or it may not be made
 abbrev pub IsOneRefused : Changing → Store → Store → ObjectSet → ObjectChange → Refusal → Type 0
 IsOneRefused this old new set change refusal =
     (stored planned : Contents) (bound : ℕ) (objects : ℕ → Option Object) (own : List Block) (before : ℕ → List Block) → Plans old stored planned
-    → AreObjects stored bound set objects own before → bound ≤ this.birth → AnswersAreTrue old new
+    → AreObjects stored bound set objects own before → bound ≤ this.birth → AnswersTell old new this.missing.now
     → (IsForRoom refusal ⊎ (refusal ≡ DiskFault))
     ⊎ ((refusal ≡ BadPointer) × ¬ MayChange change.change (objects change.number))
 
@@ -95,24 +95,24 @@ IsOneRefused this old new set change refusal =
 abbrev pub ChangesNode : Changing → Store → Store → Dnode → Change → List Block → List Block → Dnode → Type 0
 ChangesNode this old new dnode change noted noted_later after =
     (stored planned : Contents) (bound : ℕ) (object : Option Object) (blocks : List Block) → Plans old stored planned
-    → IsObject stored bound dnode object blocks → bound ≤ this.birth → AnswersAreTrue old new
+    → IsObject stored bound dnode object blocks → bound ≤ this.birth → AnswersTell old new this.missing.now
     → MayChange change object
     × (later : Contents) × Plans new stored later
     × IsObjectChanged (object_copies this.copies) planned later this.birth after (after_change change object) blocks noted noted_later
 
--- why a change of a dnode's object was refused, where the answers are true: for memory, room or a lost block, or it may not be made
+-- why a change of a dnode's object was refused, where the answers tell what was written: for memory, room or a lost block, or it may not be made
 abbrev pub IsNodeRefused : Changing → Store → Store → Dnode → Change → Refusal → Type 0
 IsNodeRefused this old new dnode change refusal =
     (stored planned : Contents) (bound : ℕ) (object : Option Object) (blocks : List Block) → Plans old stored planned
-    → IsObject stored bound dnode object blocks → bound ≤ this.birth → AnswersAreTrue old new
+    → IsObject stored bound dnode object blocks → bound ≤ this.birth → AnswersTell old new this.missing.now
     → (IsForRoom refusal ⊎ (refusal ≡ DiskFault))
     ⊎ ((refusal ≡ BadPointer) × ¬ MayChange change object)
 
--- whatever the store has as the object's tree, where its answers are true: it plans the object with the writes
+-- whatever the store has as the object's tree, where its answers tell what was written: it plans the object with the writes
 abbrev pub WritesObject : Changing → Store → Store → ObjectNode → List BlockWrite → List Block → List Block → Dnode → Type 0
 WritesObject this old new node writes noted noted_later after =
     (stored planned : Contents) (bound : ℕ) (array : ℕ → Option (List ℕ)) (blocks : List Block) → Plans old stored planned
-    → IsTree stored bound node array blocks → bound ≤ this.birth → AnswersAreTrue old new
+    → IsTree stored bound node array blocks → bound ≤ this.birth → AnswersTell old new this.missing.now
     → (later : Contents) × Plans new stored later
     × IsObjectChanged (object_copies this.copies) planned later this.birth after (Some (object_with node writes node.highest array)) blocks noted noted_later
 
@@ -120,16 +120,16 @@ WritesObject this old new node writes noted noted_later after =
 abbrev pub ReplacesObject : Changing → Store → Store → ObjectNode → List BlockWrite → List Block → List Block → Dnode → Type 0
 ReplacesObject this old new node writes noted noted_later after =
     (stored planned : Contents) (bound : ℕ) (array : ℕ → Option (List ℕ)) (blocks : List Block) → Plans old stored planned
-    → IsTree stored bound node array blocks → bound ≤ this.birth → AnswersAreTrue old new
+    → IsTree stored bound node array blocks → bound ≤ this.birth → AnswersTell old new this.missing.now
     → (later : Contents) × Plans new stored later
     × IsObjectChanged (object_copies this.copies) planned later this.birth after (Some (object_with node writes 0 (λ id. None))) blocks noted noted_later
 
--- where the store has such a tree and its answers are true: memory or room is wanting, or a block
+-- where the store has such a tree and its answers tell what was written: memory or room is wanting, or a block
 -- is lost
 abbrev pub LacksRoomForObject : Changing → Store → Store → ObjectNode → Refusal → Type 0
 LacksRoomForObject this old new node refusal =
     (stored planned : Contents) (bound : ℕ) (array : ℕ → Option (List ℕ)) (blocks : List Block) → Plans old stored planned
-    → IsTree stored bound node array blocks → bound ≤ this.birth → AnswersAreTrue old new
+    → IsTree stored bound node array blocks → bound ≤ this.birth → AnswersTell old new this.missing.now
     → IsForRoom refusal ⊎ (refusal ≡ DiskFault)
 
 -- ---- places

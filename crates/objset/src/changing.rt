@@ -6,7 +6,7 @@ ghost use Rattle.block_store.specs.Blocks.{Contents};
 ghost use Rattle.block_store.specs.Demands.{Demand, HavePlaces};
 ghost use Rattle.block_store.specs.Losses.{IsForLoss};
 ghost use Rattle.block_store.specs.Plans.{Plans};
-ghost use Rattle.block_store.specs.Steps.{OnlyReadsBlocks, OnlyReadsAndPlans, AnswersAreTrue};
+ghost use Rattle.block_store.specs.Steps.{OnlyReadsBlocks, OnlyReadsAndPlans, AnswersTell};
 ghost use Rattle.dnode.specs.Dnode.{FitsDnode};
 ghost use Rattle.dnode.specs.Node.{FitsNode};
 ghost use Rattle.dnode.specs.ObjectSet.{FitsObjectSet};
@@ -63,7 +63,7 @@ pub fn change<D: Disk + Drop>(
     ensures changed { IfOk result (λ done. (stored planned : Contents) (bound : ℕ)
         (objects : ℕ → Option Object) (own : List Block) (blocks : ℕ → List Block)
         → Plans store.old stored planned → AreObjects stored bound set.now objects own blocks
-        → bound ≤ birth → AnswersAreTrue store.old store.new
+        → bound ≤ birth → AnswersTell store.old store.new missing.now
         → All (λ change. MayChange change.change (objects change.number)) changes.now
         × (later : Contents) × Plans store.new stored later
         × AreChanged (copies_of set.now.kind) planned later birth done changes.now
@@ -72,12 +72,12 @@ pub fn change<D: Disk + Drop>(
     ensures no_room { IfErr result (λ refusal. refusal ≡ Refusal.NoSpace
         → HasNoRoom store.old store.new missing.now (copies_of set.now.kind)) }
 
-    // And they are made, over disks that answer truly, unless there is no room or too many disks
+    // And they are made, over disks whose answers tell, unless there is no room or too many disks
     // miss of a block.
     ensures known { IfErr result (λ refusal. (stored planned : Contents) (bound : ℕ)
         (objects : ℕ → Option Object) (own : List Block) (blocks : ℕ → List Block)
         → Plans store.old stored planned → AreObjects stored bound set.now objects own blocks
-        → bound ≤ before → bound ≤ birth → AnswersAreTrue store.old store.new
+        → bound ≤ before → bound ≤ birth → AnswersTell store.old store.new missing.now
         → (IsForRoom refusal ⊎ (refusal ≡ Refusal.DiskFault)) ⊎ ((refusal ≡ Refusal.BadPointer)
         × Any (λ change. ¬ MayChange change.change (objects change.number)) changes.now)) }
 
@@ -409,13 +409,13 @@ fn free_object<D: Disk + Drop>(
     ensures noted { IfOk result (λ _. (stored planned : Contents) (bound : ℕ)
         (array : ℕ → Option (List ℕ)) (blocks : List Block) → Plans store.old stored planned
         → IsTree stored bound node.now array blocks → bound ≤ birth
-        → AnswersAreTrue store.old store.new → Plans store.new stored planned
+        → AnswersTell store.old store.new missing.now → Plans store.new stored planned
         × (replaced.new.items ≡ replaced.old.items ++ blocks)) }
     ensures cause { IfErr result (λ refusal. refusal ≢ Refusal.NoSpace) }
     ensures known { IfErr result (λ refusal. (stored planned : Contents) (bound : ℕ)
         (array : ℕ → Option (List ℕ)) (blocks : List Block) → Plans store.old stored planned
         → IsTree stored bound node.now array blocks → bound ≤ birth
-        → AnswersAreTrue store.old store.new → IsForLoss refusal) }
+        → AnswersTell store.old store.new missing.now → IsForLoss refusal) }
     ensures refused { IfErr result (λ refusal. (refusal ≡ Refusal.NoMemory)
         ⊎ IsWalkRefused store.old store.new missing.now
         (property_of node.now) (root_of node.now birth) refusal) }

@@ -5,7 +5,7 @@ ghost use Rattle.block_pointer.specs.declared.block.Block.{Block};
 ghost use Rattle.block_store.specs.Causes.{IsCaused};
 ghost use Rattle.block_store.specs.Blocks.{Contents};
 ghost use Rattle.block_store.specs.Losses.{IsForLoss};
-ghost use Rattle.block_store.specs.Steps.{OnlyReadsBlocks, AnswersAreTrue};
+ghost use Rattle.block_store.specs.Steps.{OnlyReadsBlocks, AnswersTell};
 ghost use Rattle.block_store.specs.Store.{Holds};
 ghost use Rattle.dnode.specs.ObjectSet.{FitsObjectSet};
 ghost use Rattle.objset.specs.Many.{AreDataOf, AreDataFound, IsOneDataRefused};
@@ -35,7 +35,8 @@ pub fn get_many<D: Disk + Drop>(
     ensures idle { ids.now ≡ [] → store.new ≡ store.old }
     ensures value { IfOk result (λ found. (stored : Contents) (objects : ℕ → Option Object)
         (own : List Block) (blocks : ℕ → List Block) → Holds store.old stored
-        → AreObjects stored birth set.now objects own blocks → AnswersAreTrue store.old store.new
+        → AreObjects stored birth set.now objects own blocks
+        → AnswersTell store.old store.new missing.now
         → AreDataOf (objects number) ids.now found.items) }
 
     // Whatever the set is: what was read, and on a refusal its cause.
@@ -46,10 +47,11 @@ pub fn get_many<D: Disk + Drop>(
     ensures caused { IfErr result (IsCaused store.old store.new missing.now) }
     ensures cause { IfErr result (λ refusal. refusal ≢ Refusal.NoSpace) }
 
-    // And they are read, over disks that answer truly, unless too many disks miss of a block.
+    // And they are read, over disks whose answers tell, unless too many disks miss of a block.
     ensures known { IfErr result (λ refusal. (stored : Contents) (objects : ℕ → Option Object)
         (own : List Block) (blocks : ℕ → List Block) → Holds store.old stored
-        → AreObjects stored birth set.now objects own blocks → AnswersAreTrue store.old store.new
+        → AreObjects stored birth set.now objects own blocks
+        → AnswersTell store.old store.new missing.now
         → IsForLoss refusal ⊎ ((refusal ≡ Refusal.BadPointer)
         × (objects number ≡ None))) }
 {

@@ -8,7 +8,7 @@ ghost use Rattle.block_store.specs.Causes.{IsCaused};
 ghost use Rattle.block_store.specs.Blocks.{Contents};
 ghost use Rattle.block_store.specs.Losses.{IsForLoss};
 ghost use Rattle.block_store.specs.Store.{Holds};
-ghost use Rattle.block_store.specs.Steps.{OnlyReadsBlocks, AnswersAreTrue};
+ghost use Rattle.block_store.specs.Steps.{OnlyReadsBlocks, AnswersTell};
 ghost use Rattle.dnode_tree.specs.Tree.{IsTree};
 ghost use Rattle.dnode_tree.specs.Ways.{bytes_of, IsFound, IsRefused};
 ghost use Rattle.objset.specs.Nodes.{AreNodesOf};
@@ -34,7 +34,8 @@ pub(crate) fn block_at<D: Disk + Drop>(
     ensures size { IfOk result (λ found. IfSome found (λ bytes. length bytes.items ≡ 16384)) }
     ensures value { IfOk result (λ found. (stored : Contents) (array : ℕ → Option (List ℕ))
         (blocks : List Block) → Holds store.old stored
-        → IsTree stored birth set.now.dnodes array blocks → AnswersAreTrue store.old store.new
+        → IsTree stored birth set.now.dnodes array blocks
+        → AnswersTell store.old store.new missing.now
         → option_map (λ bytes. bytes.items) found ≡ array id) }
     ensures found { IfOk result (λ found. IsFound store.old.spaces set.now.dnodes birth id
         (bytes_of found)) }
@@ -44,7 +45,8 @@ pub(crate) fn block_at<D: Disk + Drop>(
     ensures cause { IfErr result (λ refusal. refusal ≢ Refusal.NoSpace) }
     ensures known { IfErr result (λ refusal. (stored : Contents) (array : ℕ → Option (List ℕ))
         (blocks : List Block) → Holds store.old stored
-        → IsTree stored birth set.now.dnodes array blocks → AnswersAreTrue store.old store.new
+        → IsTree stored birth set.now.dnodes array blocks
+        → AnswersTell store.old store.new missing.now
         → IsForLoss refusal) }
 {
     dnode_tree::get(&set.dnodes, store, alloc, id, birth, missing)
@@ -65,14 +67,15 @@ pub(crate) fn block_or_zeros<D: Disk + Drop>(
     ensures value { IfOk result (λ bytes. (stored : Contents) (array : ℕ → Option (List ℕ))
         (nodes : ℕ → Dnode) (blocks : List Block) → Holds store.old stored
         → IsTree stored birth set.now.dnodes array blocks → AreNodesOf array nodes
-        → AnswersAreTrue store.old store.new → HasSlots bytes.items id nodes) }
+        → AnswersTell store.old store.new missing.now → HasSlots bytes.items id nodes) }
     ensures refused { IfErr result
         (IsRefused store.old store.new missing.now set.now.dnodes birth id) }
     ensures caused { IfErr result (IsCaused store.old store.new missing.now) }
     ensures cause { IfErr result (λ refusal. refusal ≢ Refusal.NoSpace) }
     ensures known { IfErr result (λ refusal. (stored : Contents) (array : ℕ → Option (List ℕ))
         (blocks : List Block) → Holds store.old stored
-        → IsTree stored birth set.now.dnodes array blocks → AnswersAreTrue store.old store.new
+        → IsTree stored birth set.now.dnodes array blocks
+        → AnswersTell store.old store.new missing.now
         → IsForLoss refusal) }
 {
     match block_at(set, store, alloc, id, birth, missing)? {

@@ -7,7 +7,7 @@ ghost use Rattle.block_store.specs.Causes.{IsCaused};
 ghost use Rattle.block_store.specs.Blocks.{Contents};
 ghost use Rattle.block_store.specs.Losses.{IsForLoss};
 ghost use Rattle.block_store.specs.Store.{Holds};
-ghost use Rattle.block_store.specs.Steps.{OnlyReadsBlocks, AnswersAreTrue};
+ghost use Rattle.block_store.specs.Steps.{OnlyReadsBlocks, AnswersTell};
 ghost use Rattle.dnode_tree.specs.Tree.{IsTree};
 ghost use Rattle.dnode_tree.specs.Ways.{IsRefused};
 ghost use Rattle.dnode_tree.specs.Writes.{AreInOrder, AreWholeBlocks, written};
@@ -43,7 +43,7 @@ fn changed_block<D: Disk + Drop>(
     ensures value { IfOk result (λ bytes. (stored : Contents) (array : ℕ → Option (List ℕ))
         (nodes : ℕ → Dnode) (blocks : List Block) → Holds store.old stored
         → IsTree stored birth set.now.dnodes array blocks → AreNodesOf array nodes
-        → AnswersAreTrue store.old store.new
+        → AnswersTell store.old store.new missing.now
         → HasSlots bytes.items id (written_nodes writes.now nodes)) }
     ensures refused { IfErr result
         (IsRefused store.old store.new missing.now set.now.dnodes birth id) }
@@ -51,7 +51,8 @@ fn changed_block<D: Disk + Drop>(
     ensures cause { IfErr result (λ refusal. refusal ≢ Refusal.NoSpace) }
     ensures known { IfErr result (λ refusal. (stored : Contents) (array : ℕ → Option (List ℕ))
         (blocks : List Block) → Holds store.old stored
-        → IsTree stored birth set.now.dnodes array blocks → AnswersAreTrue store.old store.new
+        → IsTree stored birth set.now.dnodes array blocks
+        → AnswersTell store.old store.new missing.now
         → IsForLoss refusal) }
 {
     let mut bytes = block_or_zeros(set, store, alloc, id, birth, missing)?;
@@ -81,7 +82,7 @@ pub(crate) fn block_writes<D: Disk + Drop>(
     ensures value { IfOk result (λ changed. (stored : Contents) (array : ℕ → Option (List ℕ))
         (nodes : ℕ → Dnode) (blocks : List Block) → Holds store.old stored
         → IsTree stored birth set.now.dnodes array blocks → AreNodesOf array nodes
-        → AnswersAreTrue store.old store.new
+        → AnswersTell store.old store.new missing.now
         → AreNodesOf (written changed.items array) (written_nodes writes.now nodes)) }
     ensures refused { IfErr result (λ refusal. (refusal ≡ Refusal.NoMemory)
         ⊎ IsBlockUnread store.old store.new missing.now set.now birth writes.now refusal) }
@@ -89,7 +90,8 @@ pub(crate) fn block_writes<D: Disk + Drop>(
     ensures cause { IfErr result (λ refusal. refusal ≢ Refusal.NoSpace) }
     ensures known { IfErr result (λ refusal. (stored : Contents) (array : ℕ → Option (List ℕ))
         (blocks : List Block) → Holds store.old stored
-        → IsTree stored birth set.now.dnodes array blocks → AnswersAreTrue store.old store.new
+        → IsTree stored birth set.now.dnodes array blocks
+        → AnswersTell store.old store.new missing.now
         → IsForLoss refusal) }
 {
     let mut changed = Vec::new(alloc);

@@ -6,7 +6,7 @@ ghost use Rattle.dnode.specs.ObjectSet.{FitsObjectSet};
 ghost use Rattle.block_store.specs.Causes.{IsCaused};
 ghost use Rattle.block_store.specs.Blocks.{Contents};
 ghost use Rattle.block_store.specs.Plans.{Plans};
-ghost use Rattle.block_store.specs.Steps.{OnlyReadsAndPlans, AnswersAreTrue};
+ghost use Rattle.block_store.specs.Steps.{OnlyReadsAndPlans, AnswersTell};
 ghost use Rattle.dnode_tree.specs.Writes.{HasNoRoom, IsForRoom};
 ghost use Rattle.objset.specs.Nodes.{HasNodes};
 ghost use Rattle.objset.specs.NodesRefused.{IsNodeWriteRefused};
@@ -46,19 +46,19 @@ pub fn put_many<D: Disk + Drop>(
     ensures rewritten { IfOk result (λ done. (stored planned : Contents) (bound : ℕ)
         (nodes : ℕ → Dnode) (blocks : List Block) → Plans store.old stored planned
         → (has : HasNodes stored bound set.now nodes blocks) → bound ≤ birth
-        → AnswersAreTrue store.old store.new
+        → AnswersTell store.old store.new missing.now
         → (later : Contents) × Plans store.new stored later
         × AreNodesRewritten copies planned later birth done (written_nodes writes.now nodes)
         (births_written writes.now birth (has.births 0)) blocks) }
     ensures no_room { IfErr result (λ refusal. refusal ≡ Refusal.NoSpace
         → HasNoRoom store.old store.new missing.now set.now.dnodes copies) }
 
-    // And a whole set is rewritten, over disks that answer truly, unless there is no room or too
+    // And a whole set is rewritten, over disks whose answers tell, unless there is no room or too
     // many disks miss of a block.
     ensures known { IfErr result (λ refusal. (stored planned : Contents) (bound : ℕ)
         (nodes : ℕ → Dnode) (blocks : List Block) → Plans store.old stored planned
         → HasNodes stored bound set.now nodes blocks → bound ≤ birth
-        → AnswersAreTrue store.old store.new
+        → AnswersTell store.old store.new missing.now
         → IsForRoom refusal ⊎ (refusal ≡ Refusal.DiskFault)) }
 
     // For each block with one of these dnodes, and those above, places are taken, once, and for nothing else.

@@ -8,7 +8,7 @@ ghost use Rattle.block_store.specs.Causes.{IsCaused};
 ghost use Rattle.block_store.specs.Blocks.{Contents};
 ghost use Rattle.block_store.specs.Losses.{IsForLoss};
 ghost use Rattle.block_store.specs.Store.{Holds};
-ghost use Rattle.block_store.specs.Steps.{OnlyReadsBlocks, AnswersAreTrue};
+ghost use Rattle.block_store.specs.Steps.{OnlyReadsBlocks, AnswersTell};
 ghost use Rattle.dnode_tree.specs.Births.{HasBirths};
 ghost use Rattle.dnode_tree.specs.Tree.{IsTree};
 ghost use Rattle.dnode_tree.specs.Ways.{bytes_in, IsBlockFound, IsRefused};
@@ -50,11 +50,12 @@ pub fn get<D: Disk + Drop>(
     ensures fits { IfOk result (λ found. FitsDnode found.dnode) }
     ensures value { IfOk result (λ found. (stored : Contents) (nodes : ℕ → Dnode)
         (blocks : List Block) → Holds store.old stored
-        → HasNodes stored birth set.now nodes blocks → AnswersAreTrue store.old store.new
+        → HasNodes stored birth set.now nodes blocks → AnswersTell store.old store.new missing.now
         → found.dnode ≡ nodes number) }
     ensures born { IfOk result (λ found. (stored : Contents) (nodes : ℕ → Dnode)
         (blocks : List Block) → Holds store.old stored
-        → (has : HasNodes stored birth set.now nodes blocks) → AnswersAreTrue store.old store.new
+        → (has : HasNodes stored birth set.now nodes blocks)
+        → AnswersTell store.old store.new missing.now
         → found.dnode ≢ Dnode.Free → found.birth ≡ birth_of has.births number) }
 
     // Whatever the set is: what was read, and on a refusal its cause.
@@ -64,11 +65,11 @@ pub fn get<D: Disk + Drop>(
     ensures caused { IfErr result (IsCaused store.old store.new missing.now) }
     ensures cause { IfErr result (λ refusal. refusal ≢ Refusal.NoSpace) }
 
-    // And a dnode of a whole set is read, over disks that answer truly, unless too many disks miss
+    // And a dnode of a whole set is read, over disks whose answers tell, unless too many disks miss
     // of a block.
     ensures known { IfErr result (λ refusal. (stored : Contents) (nodes : ℕ → Dnode)
         (blocks : List Block) → Holds store.old stored
-        → HasNodes stored birth set.now nodes blocks → AnswersAreTrue store.old store.new
+        → HasNodes stored birth set.now nodes blocks → AnswersTell store.old store.new missing.now
         → IsForLoss refusal) }
 {
     if number >= set.objects {
@@ -103,11 +104,12 @@ fn data_block_at<D: Disk + Drop>(
         (λ block. length block.bytes.items ≡ 16384)) }
     ensures value { IfOk result (λ found. (stored : Contents) (array : ℕ → Option (List ℕ))
         (blocks : List Block) → Holds store.old stored
-        → IsTree stored birth set.now.dnodes array blocks → AnswersAreTrue store.old store.new
+        → IsTree stored birth set.now.dnodes array blocks
+        → AnswersTell store.old store.new missing.now
         → bytes_in found ≡ array id) }
     ensures born { IfOk result (λ found. (stored : Contents) (births : ℕ → ℕ → ℕ)
         → Holds store.old stored → HasBirths stored set.now.dnodes births
-        → AnswersAreTrue store.old store.new
+        → AnswersTell store.old store.new missing.now
         → IfSome found (λ block. block.birth ≡ births 0 id)) }
     ensures found { IfOk result (IsBlockFound store.old.spaces set.now.dnodes birth id) }
     ensures refused { IfErr result
@@ -116,7 +118,8 @@ fn data_block_at<D: Disk + Drop>(
     ensures cause { IfErr result (λ refusal. refusal ≢ Refusal.NoSpace) }
     ensures known { IfErr result (λ refusal. (stored : Contents) (array : ℕ → Option (List ℕ))
         (blocks : List Block) → Holds store.old stored
-        → IsTree stored birth set.now.dnodes array blocks → AnswersAreTrue store.old store.new
+        → IsTree stored birth set.now.dnodes array blocks
+        → AnswersTell store.old store.new missing.now
         → IsForLoss refusal) }
 {
     dnode_tree::get_block(&set.dnodes, store, alloc, id, birth, missing)

@@ -8,7 +8,7 @@ ghost use Rattle.block_store.specs.Causes.{IsCaused};
 ghost use Rattle.block_store.specs.Blocks.{Contents};
 ghost use Rattle.block_store.specs.Losses.{IsForLoss};
 ghost use Rattle.block_store.specs.Store.{Holds};
-ghost use Rattle.block_store.specs.Steps.{OnlyReadsBlocks, AnswersAreTrue};
+ghost use Rattle.block_store.specs.Steps.{OnlyReadsBlocks, AnswersTell};
 ghost use Rattle.dnode_tree.specs.Rewriting.{AreDistinct};
 ghost use Rattle.dnode_tree.specs.Ways.{AreWalked};
 ghost use Rattle.dnode_tree.specs.Younger.{is_younger, younger, AreWalkedWhere};
@@ -65,7 +65,8 @@ pub fn nodes_within<D: Disk + Drop>(
     ensures fits { IfOk result (λ found. All (λ it. FitsNode it.node) found.nodes.items) }
     ensures value { IfOk result (λ found. (stored : Contents) (nodes : ℕ → Dnode)
         (blocks : List Block) → Holds store.old stored
-        → (has : HasNodes stored birth set.now nodes blocks) → AnswersAreTrue store.old store.new
+        → (has : HasNodes stored birth set.now nodes blocks)
+        → AnswersTell store.old store.new missing.now
         → (found.blocks.items ≡ blocks)
         × (found.nodes.items ≡ objects_of set.now nodes has.births)) }
 
@@ -81,12 +82,13 @@ pub fn nodes_within<D: Disk + Drop>(
     ensures caused { IfErr result (IsCaused store.old store.new missing.now) }
     ensures cause { IfErr result (λ refusal. refusal ≢ Refusal.NoSpace) }
 
-    // And a whole set that has each block once is read, over disks that answer truly, where as many
+    // And a whole set that has each block once is read, over disks whose answers tell, where as many
     // are left, unless too many disks miss of a block.
     ensures known { IfErr result (λ refusal. (stored : Contents) (nodes : ℕ → Dnode)
         (blocks : List Block) → Holds store.old stored
         → HasNodes stored birth set.now nodes blocks → AreDistinct blocks
-        → length blocks ≤ left.old → AnswersAreTrue store.old store.new → IsForLoss refusal) }
+        → length blocks ≤ left.old
+        → AnswersTell store.old store.new missing.now → IsForLoss refusal) }
 {
     nodes_younger(set, store, alloc, birth, 0, left, missing)
 }
@@ -110,7 +112,8 @@ pub fn nodes_younger<D: Disk + Drop>(
     ensures fits { IfOk result (λ found. All (λ it. FitsNode it.node) found.nodes.items) }
     ensures value { IfOk result (λ found. (stored : Contents) (nodes : ℕ → Dnode)
         (blocks : List Block) → Holds store.old stored
-        → (has : HasNodes stored birth set.now nodes blocks) → AnswersAreTrue store.old store.new
+        → (has : HasNodes stored birth set.now nodes blocks)
+        → AnswersTell store.old store.new missing.now
         → (found.blocks.items ≡ younger since blocks)
         × (found.nodes.items ≡ younger_nodes since (objects_of set.now nodes has.births))) }
 
@@ -128,12 +131,12 @@ pub fn nodes_younger<D: Disk + Drop>(
     ensures caused { IfErr result (IsCaused store.old store.new missing.now) }
     ensures cause { IfErr result (λ refusal. refusal ≢ Refusal.NoSpace) }
 
-    // And a whole set that has each younger block once is read, over disks that answer truly, where
+    // And a whole set that has each younger block once is read, over disks whose answers tell, where
     // as many are left, unless too many disks miss of a block.
     ensures known { IfErr result (λ refusal. (stored : Contents) (nodes : ℕ → Dnode)
         (blocks : List Block) → Holds store.old stored
         → HasNodes stored birth set.now nodes blocks → AreDistinct (younger since blocks)
-        → length (younger since blocks) ≤ left.old → AnswersAreTrue store.old store.new
+        → length (younger since blocks) ≤ left.old → AnswersTell store.old store.new missing.now
         → IsForLoss refusal) }
 {
     let blocks = dnode_tree::walk_younger(&set.dnodes, store, alloc, birth, since, left, missing)?;
@@ -163,7 +166,7 @@ fn read_nodes<D: Disk + Drop>(
     ensures value { OnOk result ((stored : Contents) (id : ℕ) (bytes : List ℕ)
         (dnodes : ℕ → Dnode) (births : ℕ → ℕ → ℕ) → Holds store.old stored
         → stored block.now ≡ Some bytes → HasSlots bytes id dnodes
-        → births 0 id ≡ block.now.birth → AnswersAreTrue store.old store.new
+        → births 0 id ≡ block.now.birth → AnswersTell store.old store.new missing.now
         → nodes.new.items ≡ nodes.old.items ++ objects_in dnodes births id) }
     ensures from { OnOk result ((added : List FoundNode)
         × (nodes.new.items ≡ nodes.old.items ++ added)
@@ -176,7 +179,7 @@ fn read_nodes<D: Disk + Drop>(
         (dnodes : ℕ → Dnode) → Holds store.old stored
         → stored block.now ≡ Some bytes → HasSlots bytes id dnodes
         → block.now.property ≡ (asked_of_nodes block.now).property → 0 < left.old
-        → AnswersAreTrue store.old store.new → IsForLoss refusal) }
+        → AnswersTell store.old store.new missing.now → IsForLoss refusal) }
 {
     if *left == 0 {
         return Err(Refusal::BadPointer);

@@ -10,7 +10,7 @@ ghost use Rattle.block_store.specs.Losses.{IsForLoss};
 ghost use Rattle.block_store.specs.Places.{AreChosen, RanOut};
 ghost use Rattle.block_store.specs.Plans.{Plans};
 ghost use Rattle.block_store.specs.Store.{Holds};
-ghost use Rattle.block_store.specs.Steps.{OnlyReadsBlocks, OnlyReadsAndPlans, AnswersAreTrue};
+ghost use Rattle.block_store.specs.Steps.{OnlyReadsBlocks, OnlyReadsAndPlans, AnswersTell};
 ghost use Rattle.dnode_tree.specs.Writes.{IsForRoom};
 ghost use Rattle.objset.specs.Sets.{IsSetBlock, IsSetFound, IsSetRefused, asked_of_set};
 
@@ -43,7 +43,7 @@ pub fn read_set<D: Disk + Drop>(
     ensures fits { IfOk result FitsObjectSet }
     ensures value { IfOk result (λ found. (stored : Contents) (set : ObjectSet)
         → Holds store.old stored → IsSetBlock stored birth block.now set
-        → AnswersAreTrue store.old store.new → found ≡ set) }
+        → AnswersTell store.old store.new missing.now → found ≡ set) }
 
     // Whatever the block is: what was read, and on a refusal its cause.
     ensures found { IfOk result (IsSetFound store.old.spaces birth block.now) }
@@ -51,10 +51,10 @@ pub fn read_set<D: Disk + Drop>(
     ensures caused { IfErr result (IsCaused store.old store.new missing.now) }
     ensures cause { IfErr result (λ refusal. refusal ≢ Refusal.NoSpace) }
 
-    // And it is read, over disks that answer truly, unless too many disks miss of a block.
+    // And it is read, over disks whose answers tell, unless too many disks miss of a block.
     ensures known { IfErr result (λ refusal. (stored : Contents) (set : ObjectSet)
         → Holds store.old stored → IsSetBlock stored birth block.now set
-        → AnswersAreTrue store.old store.new → IsForLoss refusal) }
+        → AnswersTell store.old store.new missing.now → IsForLoss refusal) }
 {
     let asked = Asked {
         property: SET_PROPERTY,

@@ -7,7 +7,7 @@ ghost use Rattle.block_store.specs.Blocks.{Contents};
 ghost use Rattle.block_store.specs.Losses.{IsForLoss};
 ghost use Rattle.block_store.specs.Store.{Holds};
 ghost use Rattle.dnode.specs.ObjectSet.{FitsObjectSet};
-ghost use Rattle.block_store.specs.Steps.{OnlyReadsBlocks, AnswersAreTrue};
+ghost use Rattle.block_store.specs.Steps.{OnlyReadsBlocks, AnswersTell};
 ghost use Rattle.dnode_tree.specs.Ways.{bytes_of};
 ghost use Rattle.objset.specs.Found.{IsDataFound, IsDataRefused, IsObjectWalkRefused};
 ghost use Rattle.objset.specs.Objects.{Object, AreObjects};
@@ -34,7 +34,8 @@ pub fn get<D: Disk + Drop>(
     ensures reads { OnlyReadsBlocks store.old store.new missing.now }
     ensures value { IfOk result (λ found. (stored : Contents) (objects : ℕ → Option Object)
         (own : List Block) (blocks : ℕ → List Block) → Holds store.old stored
-        → AreObjects stored birth set.now objects own blocks → AnswersAreTrue store.old store.new
+        → AreObjects stored birth set.now objects own blocks
+        → AnswersTell store.old store.new missing.now
         → IsSomeAnd (objects number) (λ object. option_map
         (λ bytes. bytes.items) found ≡ object.array id)) }
 
@@ -46,10 +47,11 @@ pub fn get<D: Disk + Drop>(
     ensures caused { IfErr result (IsCaused store.old store.new missing.now) }
     ensures cause { IfErr result (λ refusal. refusal ≢ Refusal.NoSpace) }
 
-    // And it is read, over disks that answer truly, unless too many disks miss of a block.
+    // And it is read, over disks whose answers tell, unless too many disks miss of a block.
     ensures known { IfErr result (λ refusal. (stored : Contents) (objects : ℕ → Option Object)
         (own : List Block) (blocks : ℕ → List Block) → Holds store.old stored
-        → AreObjects stored birth set.now objects own blocks → AnswersAreTrue store.old store.new
+        → AreObjects stored birth set.now objects own blocks
+        → AnswersTell store.old store.new missing.now
         → IsForLoss refusal ⊎ ((refusal ≡ Refusal.BadPointer)
         × (objects number ≡ None))) }
 {
@@ -75,7 +77,8 @@ pub fn walk<D: Disk + Drop>(
     ensures reads { OnlyReadsBlocks store.old store.new missing.now }
     ensures blocks { IfOk result (λ found. (stored : Contents) (objects : ℕ → Option Object)
         (own : List Block) (blocks : ℕ → List Block) → Holds store.old stored
-        → AreObjects stored birth set.now objects own blocks → AnswersAreTrue store.old store.new
+        → AreObjects stored birth set.now objects own blocks
+        → AnswersTell store.old store.new missing.now
         → (objects number ≢ None) × (found.items ≡ blocks number)) }
 
     // Whatever the set is: on a refusal its cause.
@@ -84,10 +87,11 @@ pub fn walk<D: Disk + Drop>(
     ensures caused { IfErr result (IsCaused store.old store.new missing.now) }
     ensures cause { IfErr result (λ refusal. refusal ≢ Refusal.NoSpace) }
 
-    // And it is walked, over disks that answer truly, unless too many disks miss of a block.
+    // And it is walked, over disks whose answers tell, unless too many disks miss of a block.
     ensures known { IfErr result (λ refusal. (stored : Contents) (objects : ℕ → Option Object)
         (own : List Block) (blocks : ℕ → List Block) → Holds store.old stored
-        → AreObjects stored birth set.now objects own blocks → AnswersAreTrue store.old store.new
+        → AreObjects stored birth set.now objects own blocks
+        → AnswersTell store.old store.new missing.now
         → IsForLoss refusal ⊎ ((refusal ≡ Refusal.BadPointer)
         × (objects number ≡ None))) }
 {

@@ -4,7 +4,7 @@ ghost use Rattle.block_pointer.specs.declared.block.Block.{Block};
 ghost use Rattle.block_store.specs.Causes.{IsCaused};
 ghost use Rattle.block_store.specs.Blocks.{Contents};
 ghost use Rattle.block_store.specs.Losses.{IsForLoss};
-ghost use Rattle.block_store.specs.Steps.{OnlyReadsBlocks, AnswersAreTrue};
+ghost use Rattle.block_store.specs.Steps.{OnlyReadsBlocks, AnswersTell};
 ghost use Rattle.block_store.specs.Store.{Holds};
 ghost use Rattle.dnode.specs.ObjectSet.{FitsObjectSet};
 ghost use Rattle.dnode_tree.specs.Rewriting.{AreDistinct};
@@ -40,7 +40,8 @@ pub fn walk_within<D: Disk + Drop>(
     ensures fewer { left.new ≤ left.old }
     ensures blocks { IfOk result (λ found. (stored : Contents) (objects : ℕ → Option Object)
         (own : List Block) (blocks : ℕ → List Block) → Holds store.old stored
-        → AreObjects stored birth set.now objects own blocks → AnswersAreTrue store.old store.new
+        → AreObjects stored birth set.now objects own blocks
+        → AnswersTell store.old store.new missing.now
         → found.items ≡ blocks_of_set set.now own blocks) }
 
     // Whatever the set is: each of its blocks was found once, and on a refusal its cause.
@@ -52,13 +53,13 @@ pub fn walk_within<D: Disk + Drop>(
     ensures caused { IfErr result (IsCaused store.old store.new missing.now) }
     ensures cause { IfErr result (λ refusal. refusal ≢ Refusal.NoSpace) }
 
-    // And a whole set that has each block once is walked, over disks that answer truly, where as
+    // And a whole set that has each block once is walked, over disks whose answers tell, where as
     // many are left, unless too many disks miss of a block.
     ensures known { IfErr result (λ refusal. (stored : Contents) (objects : ℕ → Option Object)
         (own : List Block) (blocks : ℕ → List Block) → Holds store.old stored
         → AreObjects stored birth set.now objects own blocks → HasEachOnce own blocks
         → reads_of own (blocks_of_objects set.now blocks) ≤ left.old
-        → AnswersAreTrue store.old store.new → IsForLoss refusal) }
+        → AnswersTell store.old store.new missing.now → IsForLoss refusal) }
 {
     walk_younger(set, store, alloc, birth, 0, left, missing)
 }
@@ -82,7 +83,8 @@ pub fn walk_younger<D: Disk + Drop>(
     ensures fewer { left.new ≤ left.old }
     ensures blocks { IfOk result (λ found. (stored : Contents) (objects : ℕ → Option Object)
         (own : List Block) (blocks : ℕ → List Block) → Holds store.old stored
-        → AreObjects stored birth set.now objects own blocks → AnswersAreTrue store.old store.new
+        → AreObjects stored birth set.now objects own blocks
+        → AnswersTell store.old store.new missing.now
         → found.items ≡ younger since (blocks_of_set set.now own blocks)) }
 
     // Whatever the set is: each of these blocks was found once, none that is older, and on a refusal
@@ -96,13 +98,13 @@ pub fn walk_younger<D: Disk + Drop>(
     ensures caused { IfErr result (IsCaused store.old store.new missing.now) }
     ensures cause { IfErr result (λ refusal. refusal ≢ Refusal.NoSpace) }
 
-    // And a whole set that has each block once is walked, over disks that answer truly, where as
+    // And a whole set that has each block once is walked, over disks whose answers tell, where as
     // many are left, unless too many disks miss of a block.
     ensures known { IfErr result (λ refusal. (stored : Contents) (objects : ℕ → Option Object)
         (own : List Block) (blocks : ℕ → List Block) → Holds store.old stored
         → AreObjects stored birth set.now objects own blocks → HasEachOnce own blocks
         → reads_of (younger since own) (younger since (blocks_of_objects set.now blocks))
-        ≤ left.old → AnswersAreTrue store.old store.new → IsForLoss refusal) }
+        ≤ left.old → AnswersTell store.old store.new missing.now → IsForLoss refusal) }
 {
     let FoundNodes { blocks, nodes } = crate::node_walks::nodes_younger(
         set, store, alloc, birth, since, left, missing,

@@ -291,19 +291,21 @@ same_plan plan other e = cc
 
 -- no call is made, and what is left is what there was, but for calls on the disk
 pub leaves_takes : (s : State) (mid : Store) (plan : Planned) (disk : ℕ) (new : State) → Some plan ≡ s.planned → mid.disks ≡ s.store.disks → mid.spaces ≡ s.store.spaces
-    → IsOutToo s.store.out disk mid.out → LeavesPlan disk (record s { store = mid; planned = None }) plan new → TakesOut disk s new
-leaves_takes s mid plan disk new was disks spaces too (inl (early, drop, kept, none, stamp)) = record {
+    → mid.spans.stale ≡ s.store.spans.stale → IsOutToo s.store.out disk mid.out → LeavesPlan disk (record s { store = mid; planned = None }) plan new → TakesOut disk s new
+leaves_takes s mid plan disk new was disks spaces stale too (inl (early, drop, kept, none, stamp)) = record {
   disks = drop.disks ∙ disks;
   out = record { count = ap length drop.out ∙ too.count; disks = λ other. ap (λ (outs : List Bool). is_out outs other) drop.out ∙ too.disks other };
+  stale = drop.stale ∙ stale;
   shapes = drop.shapes ∙ ap shapes_of spaces;
   kept = kept;
   stamp = stamp;
   plan = λ later is. absurd (let no : None ≡ Some later = sym none ∙ is in cc);
 }
-leaves_takes s mid plan disk new was disks spaces too (inr (none, flushed, behind, left, is)) =
+leaves_takes s mid plan disk new was disks spaces stale too (inr (none, flushed, behind, left, is)) =
     subst (λ (x : State). TakesOut disk s x) (sym is) (record {
       disks = disks;
       out = too;
+      stale = stale;
       shapes = ap shapes_of spaces;
       kept = refl;
       stamp = refl;

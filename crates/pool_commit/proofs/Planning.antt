@@ -16,7 +16,7 @@ use Rattle.block_store.specs.Blocks.{Contents, Extends, AreStored}
 use Rattle.block_store.specs.Places.{shapes_of, HaveMarks}
 use Rattle.block_store.specs.Places.{filled as filled_marks, planned as planned_marks}
 use Rattle.block_store.specs.Plans.{Plans}
-use Rattle.block_store.specs.Steps.{OnlyReadsAndPlans, AnswersAreTrue}
+use Rattle.block_store.specs.Steps.{OnlyReadsAndPlans, AnswersTell}
 use Rattle.block_store.specs.Releases.{copies_of_all, AreReleased, AreAllInUse, AreSettledIn, AreSettledInSome, AreSpared}
 use Rattle.block_store.specs.Store.{Store, Stores, outs, outs_from, is_out}
 use Rattle.block_store.specs.Uses.{CopiesLieOn, Passes, IsInUse, IsSpared, SettlesTo}
@@ -317,7 +317,7 @@ unplanned_still s planned v none backs = subst (λ (o : Option Planned). Backs (
 abbrev pub IsAfter : Store → Store → ℕ → KeptGroup → Entry → KeptGroup → Block → List Block → Type 0
 IsAfter old new group last items after root gone =
     (stored planned : Contents) (pool : PlainPool) (before : List Block) → Plans old stored planned → SpellsGroup stored (group - 1) last pool
-    → LeadsTo stored (group - 1) last.root pool before → BeginsWithMaps old.spaces stored (group - 1) last.root pool → AnswersAreTrue old new → GroupTakesEffect group pool items
+    → LeadsTo stored (group - 1) last.root pool before → BeginsWithMaps old.spaces stored (group - 1) last.root pool → AnswersTell old new [] → GroupTakesEffect group pool items
     → (later : Contents) × Plans new stored later × Extends planned later × SpellsGroup later group after (applied group pool items)
     × (reach : List Block) × LeadsTo later group after.root (applied group pool items) reach × IsReachExchanged group planned later before reach gone
     × LeavesMaps new.spaces gone later group root (applied group pool items)
@@ -395,10 +395,10 @@ pub plan_is_backed : (s : State) (made new : Store) (group : ℕ) (last : KeptGr
     → group ≡ suc v.committed → last ≡ s.kept.last → items ≡ v.ledger (suc v.committed) → GroupTakesEffect (suc v.committed) (v.pools v.committed) items
     → AreDueBehind plan.behind (filter (λ disk. not (is_out s.store.out disk)) (disks_of (vdevs_of s.store.spaces))) → (uberblock : IsUberblockOf s.stamp group plan)
     → OnlyReadsAndPlans s.store made [] → GivesBack made new gone group → HaveMarks s.store.spaces filled_marks s.store.spaces planned_marks
-    → AnswersAreTrue s.store made → Plans s.store backs.blocks.stored backs.blocks.stored → IsAfter s.store made group last items plan.after uberblock.root gone
+    → AnswersTell s.store made [] → Plans s.store backs.blocks.stored backs.blocks.stored → IsAfter s.store made group last items plan.after uberblock.root gone
     → made.stray ≡ false → AreGivenBack made new gone group → plan.after.config.value ≡ last.config.value
     → (calls : List DueCall) × IsPlan v calls × Backs (record s { store = new; planned = Some plan }) (record v { sync = Due calls })
-plan_is_backed s made new group last plan gone items v backs none next is_last are effects behind uberblock kept gives free honest begun after whole given configured =
+plan_is_backed s made new group last plan gone items v backs none next is_last are effects behind uberblock kept gives free tell begun after whole given configured =
     let before : group - 1 ≡ v.committed = omega arith in
     let pool : PlainPool = v.pools v.committed in
     let stored : Contents = backs.blocks.stored in
@@ -413,7 +413,7 @@ plan_is_backed s made new group last plan gone items v backs none next is_last a
     let begins : BeginsWithMaps s.store.spaces stored (group - 1) last.root pool =
     subst (λ (n : ℕ). BeginsWithMaps s.store.spaces stored n last.root pool) (sym before)
     (subst (λ (kept : KeptGroup). BeginsWithMaps s.store.spaces stored v.committed kept.root pool) (sym is_last) (begins_with_maps s v backs free)) in
-    let there = after stored stored pool (earlier v.committed) begun spelled led begins honest (subst (λ (n : ℕ). GroupTakesEffect n pool items) (sym next) effects) in
+    let there = after stored stored pool (earlier v.committed) begun spelled led begins tell (subst (λ (n : ℕ). GroupTakesEffect n pool items) (sym next) effects) in
     let later : Contents = there.0 in
     let root : Block = uberblock.root in
     let on : LeadsOn made.spaces stored later (suc v.committed) plan.after root (applied (suc v.committed) pool (v.ledger (suc v.committed))) (earlier v.committed) gone =

@@ -1,9 +1,9 @@
 -- Refusals of the layers below.
-use Rattle.std.proofs.Common.{◌≡◌, ◌⊎◌, ◌∙◌, ap, subst, inl, inr, refl}
+use Rattle.std.proofs.Common.{ℕ, List, [], ◌≡◌, ◌⊎◌, ◌∙◌, ap, subst, inl, inr, refl}
 use Rattle.block_store.specs.declared.refusal.Refusal.{Refusal as StoreRefusal}
 use Rattle.block_store.specs.declared.refusal.Refusal.TheVariants as store
 use Rattle.block_store.specs.Losses.{IsForLoss}
-use Rattle.block_store.specs.Steps.{AnswersAreTrue}
+use Rattle.block_store.specs.Steps.{AnswersTell}
 use Rattle.block_store.specs.Store.{Store}
 use Rattle.dnode_tree.specs.ReadRefusals.{IsForRead}
 use Rattle.dnode_tree.specs.Writes.{IsForRoom}
@@ -45,23 +45,24 @@ no_room_for_reads (inr (inr (inl is))) = cc
 no_room_for_reads (inr (inr (inr is))) = cc
 
 -- a read of a pool that is whole is refused for want of memory or for a fault
-pub read_faults : (old new : Store) (cause : StoreRefusal) → IsForRead cause → (AnswersAreTrue old new → IsForLoss cause) → (of_store cause ≡ NoMemory) ⊎ IsFaultIn old new (of_store cause)
-read_faults old new store.NoMemory for known = inl refl
-read_faults old new store.DiskFault for known = inr (inl refl)
-read_faults old new store.NoSpace for known = absurd (no_room_for_reads for)
-read_faults old new store.BadPointer for known = inr (inr (inl refl, (λ true. not_for_loss store.BadPointer (λ e. cc) (λ e. cc) (known true))))
-read_faults old new store.BadDigest for known = inr (inr (inr refl, (λ true. not_for_loss store.BadDigest (λ e. cc) (λ e. cc) (known true))))
-read_faults old new store.BadConfig for known = inr (inr (inl refl, (λ true. not_for_loss store.BadConfig (λ e. cc) (λ e. cc) (known true))))
+pub read_faults : (old new : Store) (missing : List ℕ) (cause : StoreRefusal) → IsForRead cause → (AnswersTell old new missing → IsForLoss cause)
+    → (of_store cause ≡ NoMemory) ⊎ IsFaultIn old new missing (of_store cause)
+read_faults old new missing store.NoMemory for known = inl refl
+read_faults old new missing store.DiskFault for known = inr (inl refl)
+read_faults old new missing store.NoSpace for known = absurd (no_room_for_reads for)
+read_faults old new missing store.BadPointer for known = inr (inr (inl refl, (λ tell. not_for_loss store.BadPointer (λ e. cc) (λ e. cc) (known tell))))
+read_faults old new missing store.BadDigest for known = inr (inr (inr refl, (λ tell. not_for_loss store.BadDigest (λ e. cc) (λ e. cc) (known tell))))
+read_faults old new missing store.BadConfig for known = inr (inr (inl refl, (λ tell. not_for_loss store.BadConfig (λ e. cc) (λ e. cc) (known tell))))
 
 -- and a plan, or for want of room
-pub plan_faults : (old new : Store) (cause : StoreRefusal) → (AnswersAreTrue old new → IsForRoom cause ⊎ (cause ≡ store.DiskFault))
-    → (of_store cause ≡ NoMemory) ⊎ ((of_store cause ≡ NoSpace) ⊎ IsFaultIn old new (of_store cause))
+pub plan_faults : (old new : Store) (cause : StoreRefusal) → (AnswersTell old new [] → IsForRoom cause ⊎ (cause ≡ store.DiskFault))
+    → (of_store cause ≡ NoMemory) ⊎ ((of_store cause ≡ NoSpace) ⊎ IsFaultIn old new [] (of_store cause))
 plan_faults old new store.NoMemory known = inl refl
 plan_faults old new store.NoSpace known = inr (inl refl)
 plan_faults old new store.DiskFault known = inr (inr (inl refl))
-plan_faults old new store.BadPointer known = inr (inr (inr (inl refl, (λ true. not_for_plan store.BadPointer (λ e. cc) (λ e. cc) (λ e. cc) (known true)))))
-plan_faults old new store.BadDigest known = inr (inr (inr (inr refl, (λ true. not_for_plan store.BadDigest (λ e. cc) (λ e. cc) (λ e. cc) (known true)))))
-plan_faults old new store.BadConfig known = inr (inr (inr (inl refl, (λ true. not_for_plan store.BadConfig (λ e. cc) (λ e. cc) (λ e. cc) (known true)))))
+plan_faults old new store.BadPointer known = inr (inr (inr (inl refl, (λ tell. not_for_plan store.BadPointer (λ e. cc) (λ e. cc) (λ e. cc) (known tell)))))
+plan_faults old new store.BadDigest known = inr (inr (inr (inr refl, (λ tell. not_for_plan store.BadDigest (λ e. cc) (λ e. cc) (λ e. cc) (known tell)))))
+plan_faults old new store.BadConfig known = inr (inr (inr (inl refl, (λ tell. not_for_plan store.BadConfig (λ e. cc) (λ e. cc) (λ e. cc) (known tell)))))
 
 -- want of memory is no fault
 memory_is_none : ¬ IsReadFault NoMemory

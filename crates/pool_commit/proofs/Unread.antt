@@ -7,7 +7,7 @@ use Rattle.block_pointer.specs.declared.block.Block.{Block}
 use Rattle.block_pointer.specs.Copies.{dvas}
 use Rattle.raidz_io.specs.declared.vdev.Extent.{Extent}
 use Rattle.raidz_io.specs.declared.vdev.Vdev.{Vdev as VdevOnDisks}
-use Rattle.raidz_io.specs.Reads.{OnlyReads, IsHonestSince, absent_since, MoreAreLost}
+use Rattle.raidz_io.specs.Reads.{OnlyReads, absent_since, MoreAreLost}
 use Rattle.raidz_io.proofs.Calls.{OnlyReads-none}
 use Rattle.raidz_io.proofs.Pigeons.{distinct_fit}
 use Rattle.raidz_io.proofs.Placed.{placed_at}
@@ -17,10 +17,11 @@ use Rattle.block_store.specs.Spaces.{VdevSpace}
 use Rattle.block_store.specs.Losses.{IsBlockLost, IsForLoss}
 use Rattle.block_store.specs.Places.{shapes_of}
 use Rattle.block_store.specs.Reading.{HaveFailed}
-use Rattle.block_store.specs.Steps.{AnswersAreTrue}
+use Rattle.block_store.specs.Steps.{AnswersTell, StaysLost}
 use Rattle.block_store.specs.Store.{Store, outs, outs_from, missed, stale_from, is_out, is_stale}
 use Rattle.block_store.proofs.ReadingLost.{absent_earlier}
 use Rattle.block_store.proofs.ReadingSteps.{reads_on}
+use Rattle.block_store.proofs.Telling.{lost_same, tell_between}
 use Rattle.meta_objset.specs.declared.directory.DirectoryRow.{DirectoryRow}
 use Rattle.meta_objset.specs.declared.stale_spans.StaleSpan.{StaleSpan}
 use Rattle.pool_model.specs.Pools.{Entry, PlainPool, volume_at}
@@ -136,8 +137,8 @@ module _ (v : View) (start new : Store) (missing : List ℕ) (from : IsSince v s
 
 -- a fault of a whole pool, told of its states
 lost_in_states : (v : View) (missing : List ℕ) (old new : State) (start : Store) (refusal : Refusal) → start.disks ≡ old.store.disks → IsSince v start new.store
-    → (refusal ≡ DiskFault → IsBlockLost start new.store missing) → IsFaultIn start new.store refusal → IsLost v missing old new start refusal
-lost_in_states v missing old new start refusal disks from loses (inl is) =
+    → (refusal ≡ DiskFault → IsBlockLost start new.store missing) → StaysLost start old.store → IsFaultIn start new.store missing refusal → IsLost v missing old new start refusal
+lost_in_states v missing old new start refusal disks from loses same (inl is) =
     let there = fault_lost v start new.store missing from (loses is) in
     subst (λ (r : Refusal). IsLost v missing old new start r) (sym is) (
       there.0,
@@ -147,10 +148,10 @@ lost_in_states v missing old new start refusal disks from loses (inl is) =
         subst (λ (d : Disks). there.0.vdev.parity < lost_in (is_lost v missing (unread_between d new.store.disks) there.0.birth) there.0.vdev.first there.0.vdev.children) disks there.1.1.1,
       ),
     )
-lost_in_states v missing old new start refusal disks from loses (inr (inl is, untrue)) =
-    subst (λ (r : Refusal). IsLost v missing old new start r) (sym is) (subst (λ (d : Disks). ¬ IsHonestSince d new.store.disks) disks untrue)
-lost_in_states v missing old new start refusal disks from loses (inr (inr is, untrue)) =
-    subst (λ (r : Refusal). IsLost v missing old new start r) (sym is) (subst (λ (d : Disks). ¬ IsHonestSince d new.store.disks) disks untrue)
+lost_in_states v missing old new start refusal disks from loses same (inr (inl is, untold)) =
+    subst (λ (r : Refusal). IsLost v missing old new start r) (sym is) (λ tell. untold (tell_between old.store new.store start new.store missing disks refl same tell))
+lost_in_states v missing old new start refusal disks from loses same (inr (inr is, untold)) =
+    subst (λ (r : Refusal). IsLost v missing old new start r) (sym is) (λ tell. untold (tell_between old.store new.store start new.store missing disks refl same tell))
 
 -- ---- reads and plans
 
@@ -177,22 +178,22 @@ unread_of old new kept birth root name offset len missing cause refusal is answe
 -- and of a pool that is whole one that is there, for want of memory or for a fault
 pub read_refused : (old new : Store) (kept : KeptGroup) (birth : ℕ) (root : Block) (name : List ℕ) (offset len : ℕ) (missing : List ℕ) (pool : PlainPool) (cause : StoreRefusal)
     (refusal : Refusal) → kept.root ≡ Some root → refusal ≡ of_store cause → read_refusal offset len (volume_at name pool) ≡ None
-    → IsRangeRefusedIn old new missing birth root kept.directory.value name offset len cause → (AnswersAreTrue old new → IsForLoss cause)
+    → IsRangeRefusedIn old new missing birth root kept.directory.value name offset len cause → (AnswersTell old new missing → IsForLoss cause)
     → (refusal ≡ NoMemory) ⊎ (IsReadCause (read_refusal offset len (volume_at name pool)) refusal
-    ⊎ ((read_refusal offset len (volume_at name pool) ≡ None) × IsUnreadOf old new kept birth name offset len missing refusal × IsFaultIn old new refusal))
+    ⊎ ((read_refusal offset len (volume_at name pool) ≡ None) × IsUnreadOf old new kept birth name offset len missing refusal × IsFaultIn old new missing refusal))
 read_refused old new kept birth root name offset len missing pool cause refusal is answered none why known =
     ⊎_elim (λ memory. inl (answered ∙ memory))
-    (λ fault. inr (inr (none, unread_of old new kept birth root name offset len missing cause refusal is answered why, subst (IsFaultIn old new) (sym answered) fault)))
-    (read_faults old new cause (reads_need_no_room.ranges_in old new missing birth root kept.directory.value name offset len cause why) known)
+    (λ fault. inr (inr (none, unread_of old new kept birth root name offset len missing cause refusal is answered why, subst (IsFaultIn old new missing) (sym answered) fault)))
+    (read_faults old new missing cause (reads_need_no_room.ranges_in old new missing birth root kept.directory.value name offset len cause why) known)
 
 pub lost_under : (v : View) (old : State) (new : Store) (group : ℕ) (kept : KeptGroup) (name : List ℕ) (offset len : ℕ) (missing : List ℕ) (refusal : Refusal)
     → Backs old v → group_at old.kept group ≡ Some kept → OnlyReads old.store.disks new.disks
-    → IsUnreadOf old.store new kept group name offset len missing refusal → IsFaultIn old.store new refusal
+    → IsUnreadOf old.store new kept group name offset len missing refusal → IsFaultIn old.store new missing refusal
     → IsLostUnder v old (record old { store = new }) group name offset len missing refusal
 lost_under v old new group kept name offset len missing refusal backs is_kept reads is fault = record {
   unread = record { under = kept; kept = is_kept; unread = is };
   lost = lost_in_states v missing old (record old { store = new }) old.store refusal refl (record { vdevs = backs.vdevs; out = backs.out; stale = backs.stale; reads = reads })
-      (λ lost. losses_by_rows.ranges old.store new missing group is.root kept.directory.value name offset len is.cause is.unread (only_lost is.cause (sym is.answered ∙ lost))) fault;
+      (λ lost. losses_by_rows.ranges old.store new missing group is.root kept.directory.value name offset len is.cause is.unread (only_lost is.cause (sym is.answered ∙ lost))) (lost_same old.store old.store refl refl refl) fault;
 }
 
 next_lost : (old new : Store) (last : Option Block) (rows : List DirectoryRow) (vdevs : List PlainVdev) (group : ℕ) (spans : Option (List StaleSpan)) (items : Entry)
@@ -208,10 +209,11 @@ behind_lost old new last group items refusal (inr it) is =
 
 pub lost_for_plan : (v : View) (old new : State) (items : Entry) (refusal : Refusal) (is : IsUnreadForPlan old new items refusal)
     → Backs (record old { store = is.refused.begun; planned = None }) v → OnlyReads is.refused.begun.disks new.store.disks
-    → IsFaultIn is.refused.begun new.store refusal → IsLostForPlan v old new items refusal
+    → IsFaultIn is.refused.begun new.store [] refusal → IsLostForPlan v old new items refusal
 lost_for_plan v old new items refusal is backs reads fault = record {
   unread = is;
   lost = lost_in_states v [] old new is.refused.begun refusal is.refused.is_begun.disks (record { vdevs = backs.vdevs; out = backs.out; stale = backs.stale; reads = reads })
       (λ lost. behind_lost is.refused.begun new.store old.kept.last is.refused.group items is.cause is.refused.why
-      (only_lost is.cause (sym is.answered ∙ lost))) fault;
+      (only_lost is.cause (sym is.answered ∙ lost)))
+      (lost_same is.refused.begun old.store (sym is.refused.is_begun.shapes) (sym is.refused.is_begun.out) (sym is.refused.is_begun.stale)) fault;
 }

@@ -55,6 +55,7 @@ one_goes_out old disk new too = record {
 pub record StepWrites (s : State) (plan later : Planned) (mid : Store) : Type 0 where
   pub makes : Makes (may_write (with_plan s plan) plan) s.store.disks mid.disks
   pub goes : GoesOnWith s.store plan mid later
+  pub stale : mid.spans.stale ≡ s.store.spans.stale
   pub out : StayOut s.store.out mid.out
 
 out_to : (old mid new : List Bool) → new ≡ mid → StayOut old mid → StayOut old new
@@ -86,6 +87,7 @@ writes_on s mid plan later phase (Moved moved) new fits step carries =
       ends = λ other is none. absurd (let no : Some later ≡ None = none in cc);
       shapes = ap shapes_of step.goes.spaces;
       stamp = refl;
+      stale = step.stale;
       out = step.out;
     })
 writes_on s mid plan later phase Done new fits step carries =
@@ -100,14 +102,15 @@ writes_on s mid plan later phase Done new fits step carries =
           (subst (λ (k : KeptGroup). IsShifted s.kept k new.kept) step.goes.leads carries.2));
       shapes = carries.1.shapes ∙ ap shapes_of step.goes.spaces;
       stamp = carries.4;
+      stale = carries.1.stale ∙ step.stale;
       out = out_to s.store.out mid.out new.store.out carries.1.out step.out;
     }
 writes_on s mid plan later phase (Dropped disk) new fits step carries = absurd carries
 
 -- calls were made, the last one failed, and the plan is dropped
 pub writes_dropped : (s : State) (mid : Store) (plan : Planned) (disk : ℕ) (new : State) → Fits plan.uberblock → Makes (may_write (with_plan s plan) plan) s.store.disks mid.disks
-    → mid.spaces ≡ s.store.spaces → IsOutToo s.store.out disk mid.out → DropsPlan mid new.store → new.kept ≡ s.kept → new.planned ≡ None → new.stamp ≡ s.stamp → WritesPlan (with_plan s plan) new
-writes_dropped s mid plan disk new fits makes spaces too drops kept none stamp =
+    → mid.spaces ≡ s.store.spaces → mid.spans.stale ≡ s.store.spans.stale → IsOutToo s.store.out disk mid.out → DropsPlan mid new.store → new.kept ≡ s.kept → new.planned ≡ None → new.stamp ≡ s.stamp → WritesPlan (with_plan s plan) new
+writes_dropped s mid plan disk new fits makes spaces stale too drops kept none stamp =
     let out : StayOut s.store.out mid.out = one_goes_out s.store.out disk mid.out too in
     record {
       idle = λ without. with_one s plan (new ≡ with_plan s plan) without;
@@ -119,6 +122,7 @@ writes_dropped s mid plan disk new fits makes spaces too drops kept none stamp =
       ends = λ other is gone. inl (record { disk = disk; out = ap (λ them. is_out them disk) drops.out ∙ is_out_now s.store.out disk mid.out too; kept = kept });
       shapes = drops.shapes ∙ ap shapes_of spaces;
       stamp = stamp;
+      stale = drops.stale ∙ stale;
       out = out_to s.store.out mid.out new.store.out drops.out out;
     }
 
@@ -140,9 +144,9 @@ pub writes_without : (s : State) (mid : Store) (plan later : Planned) (disk : �
     → StepWrites s plan later mid → IsOutToo s.store.out disk mid.out → s.planned ≡ None → LeavesOut (record s { store = mid }) later disk phase progress new → WritesPlan (with_plan s plan) new
 writes_without s mid plan later disk phase progress new fits step too none leaves =
     ⊎_elim
-    (λ dropped. writes_dropped s mid plan disk new fits step.makes step.goes.spaces too dropped.2 dropped.3 (dropped.4 ∙ none) dropped.5)
+    (λ dropped. writes_dropped s mid plan disk new fits step.makes step.goes.spaces step.stale too dropped.2 dropped.3 (dropped.4 ∙ none) dropped.5)
     (λ left. writes_on s mid plan (record later { behind = left.1 }) phase progress new fits
-    (record { makes = step.makes; goes = without s.store plan mid later left.1 left.2.0 step.goes; out = step.out }) left.3)
+    (record { makes = step.makes; goes = without s.store plan mid later left.1 left.2.0 step.goes; stale = step.stale; out = step.out }) left.3)
     leaves
 
 -- ---- what each phase writes
@@ -249,12 +253,13 @@ slot_makes r first old new u all rest later write next same starts calls so belo
 -- ---- plans
 
 -- of a plan that was begun, and not made
-pub from_begun : (s : State) (begun : Store) (group : ℕ) → s.planned ≡ None → begun.out ≡ s.store.out → shapes_of begun.spaces ≡ shapes_of s.store.spaces
+pub from_begun : (s : State) (begun : Store) (group : ℕ) → s.planned ≡ None → begun.out ≡ s.store.out → begun.spans.stale ≡ s.store.spans.stale → shapes_of begun.spaces ≡ shapes_of s.store.spaces
     → AreSettledInSome group s.store.spaces begun.spaces → PlansFrom s (record s { store = begun })
-from_begun s begun group none out shapes some = record {
+from_begun s begun group none out stale shapes some = record {
   kept = refl;
   stamp = refl;
   out = out;
+  stale = stale;
   shapes = shapes;
   filled = settled_not_free group s.store.spaces begun.spaces shapes some;
   flushes = λ plan is. absurd (let no : None ≡ Some plan = sym none ∙ is in cc);
@@ -262,12 +267,13 @@ from_begun s begun group none out shapes some = record {
 }
 
 -- of the same with other marks of what is planned
-pub from_then : (s : State) (mid new : Store) → s.planned ≡ None → PlansFrom s (record s { store = mid }) → new.out ≡ mid.out → shapes_of new.spaces ≡ shapes_of mid.spaces
+pub from_then : (s : State) (mid new : Store) → s.planned ≡ None → PlansFrom s (record s { store = mid }) → new.out ≡ mid.out → new.spans.stale ≡ mid.spans.stale → shapes_of new.spaces ≡ shapes_of mid.spaces
     → HaveMarks mid.spaces filled_marks new.spaces filled_marks → PlansFrom s (record s { store = new })
-from_then s mid new none before out shapes stays = record {
+from_then s mid new none before out stale shapes stays = record {
   kept = refl;
   stamp = refl;
   out = out ∙ before.out;
+  stale = stale ∙ before.stale;
   shapes = shapes ∙ before.shapes;
   filled = λ at used. before.filled at (for_before IsNotFree mid.spaces new.spaces filled_marks filled_marks at shapes stays used);
   flushes = λ plan is. absurd (let no : None ≡ Some plan = sym none ∙ is in cc);
@@ -281,6 +287,7 @@ from_made s new plan before flushes spans = record {
   kept = refl;
   stamp = refl;
   out = before.out;
+  stale = before.stale;
   shapes = before.shapes;
   filled = before.filled;
   flushes = λ other is. of_plan (λ p. p.behind.flushes.items ≡ in_use_of s) plan other is flushes;
@@ -293,6 +300,7 @@ from_none s none = record {
   kept = refl;
   stamp = refl;
   out = refl;
+  stale = refl;
   shapes = refl;
   filled = λ at used. used;
   flushes = λ plan is. absurd (let no : None ≡ Some plan = sym none ∙ is in cc);

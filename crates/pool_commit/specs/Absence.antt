@@ -22,6 +22,7 @@ LeavesPlan disk old plan new =
 pub record TakesOut (disk : ℕ) (old new : State) : Type 0 where
   pub disks : new.store.disks ≡ old.store.disks
   pub out : IsOutToo old.store.out disk new.store.out
+  pub stale : new.store.spans.stale ≡ old.store.spans.stale
   pub shapes : shapes_of new.store.spaces ≡ shapes_of old.store.spaces
   pub kept : new.kept ≡ old.kept
   pub stamp : new.stamp ≡ old.stamp

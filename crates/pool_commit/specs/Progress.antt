@@ -105,7 +105,7 @@ pub record EndsPlan (old new : Store) (marks : Marks) (of_blocks : Contents → 
   pub filled_by : HaveMarks old.spaces marks new.spaces filled
   pub plans : (stored planned : Contents) → Plans old stored planned → Plans new (of_blocks stored planned) (of_blocks stored planned)
 
--- the blocks of the plan are stored; or they are dropped
+-- the blocks of the plan are stored
 abbrev pub StoresPlan : Store → Store → Type 0
 StoresPlan old new = EndsPlan old new planned_marks (λ stored planned. planned)
 

@@ -1,14 +1,14 @@
 -- Reads of a pool, and what they leave.
 use Rattle.std.specs.Prelude.{ℕ, ◌≡◌, ◌++◌, ◌-◌, ◌<◌, ◌⊎◌, List, [], length, slice_get, Contains, Bool, Option, Some, None, ◌||◌, ◌==◌}
 use Rattle.std.specs.List.{list_any}
-use Rattle.raidz_io.specs.Reads.{OnlyReads, AreUntouched, IsHonestSince}
+use Rattle.raidz_io.specs.Reads.{OnlyReads, AreUntouched}
 use Rattle.block_pointer.specs.declared.block.Block.{Block}
 use Rattle.block_pointer.specs.declared.dva.Dva.{Dva}
 use Rattle.block_pointer.specs.Copies.{dvas}
 use Rattle.block_store.specs.declared.refusal.Refusal.{Refusal as StoreRefusal}
 use Rattle.block_store.specs.Store.{Store, outs}
 use Rattle.block_store.specs.Losses.{IsBlockLost}
-use Rattle.block_store.specs.Steps.{AnswersAreTrue}
+use Rattle.block_store.specs.Steps.{AnswersTell}
 use Rattle.dataset_snapshots.specs.Ranges.{IsRangeRefusedIn}
 use Rattle.dnode_tree.specs.ReadRefusals.{IsForRead}
 use Rattle.pool_model.specs.Pools.{Entry}
@@ -26,9 +26,9 @@ use Rattle.pool_commit.specs.Causes.{of_store}
 use Rattle.pool_commit.specs.Room.{IsPlanRefused}
 use Rattle.pool_commit.specs.State.{State, group_at}
 
--- what the disks answered since is true
-abbrev pub PoolAnswersTruly : State → State → Type 0
-PoolAnswersTruly old new = IsHonestSince old.store.disks new.store.disks
+-- what the disks answered since tells what was written, with these disks missing beside those that are out
+abbrev pub PoolAnswersTell : State → State → List ℕ → Type 0
+PoolAnswersTell old new missing = AnswersTell old.store new.store missing
 
 -- nothing was done but reads, none of them on a disk that is out or missing, and each view that was backed is backed
 pub record OnlyReadsPool (old new : State) (missing : List ℕ) : Type 0 where
@@ -46,10 +46,10 @@ is_lost v missing unread birth disk =
 abbrev pub IsReadFault : Refusal → Type 0
 IsReadFault refusal = (refusal ≡ DiskFault) ⊎ ((refusal ≡ BadPointer) ⊎ (refusal ≡ BadDigest))
 
--- a block could not be read: for lack of disks, or as not all that they answered is true
-abbrev pub IsFaultIn : Store → Store → Refusal → Type 0
-IsFaultIn old new refusal =
-    (refusal ≡ DiskFault) ⊎ (((refusal ≡ BadPointer) ⊎ (refusal ≡ BadDigest)) × ¬ AnswersAreTrue old new)
+-- a block could not be read: for lack of disks, or as what they answered doesn't tell it
+abbrev pub IsFaultIn : Store → Store → List ℕ → Refusal → Type 0
+IsFaultIn old new missing refusal =
+    (refusal ≡ DiskFault) ⊎ (((refusal ≡ BadPointer) ⊎ (refusal ≡ BadDigest)) × ¬ AnswersTell old new missing)
 
 -- the vdev misses, for a block of that birth, more disks than it has parities
 abbrev pub IsLostOn : View → List ℕ → State → State → Loss → Type 0
@@ -70,12 +70,12 @@ pub record LosesOn (v : View) (missing : List ℕ) (since new : Store) (loss : L
   pub birth : lost.block.birth ≡ loss.birth
 
 -- Why a pool that is whole could not be read since then: of a block that was read last, the vdev of its last copy misses too many
--- disks for it; or what was read is no block of the pool, or has another digest, and then not all that the disks answered is true.
+-- disks for it; or what was read is no block of the pool, or has another digest, and then what the disks answered doesn't tell it.
 abbrev pub IsLost : View → List ℕ → State → State → Store → Refusal → Type 0
 IsLost v missing old new since DiskFault =
     (loss : Loss) × LosesOn v missing since new.store loss × IsLostOn v missing old new loss
-IsLost v missing old new since BadPointer = ¬ PoolAnswersTruly old new
-IsLost v missing old new since BadDigest = ¬ PoolAnswersTruly old new
+IsLost v missing old new since BadPointer = ¬ PoolAnswersTell old new missing
+IsLost v missing old new since BadDigest = ¬ PoolAnswersTell old new missing
 IsLost v missing old new since refusal = ⊥
 
 -- a range of the volume of that name was refused, as it is read by the group's root and the directory that is kept: that is the answer,

@@ -30,7 +30,7 @@ abbrev pub LabelsLieAside : List (List ℕ) → List VdevSpace → Type 0
 LabelsLieAside starts spaces = (disk : ℕ) → disk < length starts → (1048576 ≤ length (bytes_of starts disk))
     × ((label : ℕ) → label < 4 → IsAside spaces disk (label_at (length (bytes_of starts disk)) label) 262144)
 
--- one slot in each of a disk's four labels; and the same of each of these disks
+-- one slot in each of a disk's four labels
 abbrev pub slots_of_disk : ℕ → List SlotWrite
 slots_of_disk disk =
     record { disk = disk; label = 0 } ∷ record { disk = disk; label = 1 } ∷ record { disk = disk; label = 2 } ∷ record { disk = disk; label = 3 } ∷ []

@@ -83,6 +83,7 @@ pub record WritesPlan (old new : State) : Type 0 where
   pub ends : (plan : Planned) → old.planned ≡ Some plan → new.planned ≡ None → IsDropped old new ⊎ IsShifted old.kept plan.after new.kept
   pub shapes : shapes_of new.store.spaces ≡ shapes_of old.store.spaces
   pub stamp : new.stamp ≡ old.stamp
+  pub stale : new.store.spans.stale ≡ old.store.spans.stale
   pub out : StayOut old.store.out new.store.out
 
 -- ---- plans and reads
@@ -97,6 +98,7 @@ pub record PlansFrom (old new : State) : Type 0 where
   pub kept : new.kept ≡ old.kept
   pub stamp : new.stamp ≡ old.stamp
   pub out : new.store.out ≡ old.store.out
+  pub stale : new.store.spans.stale ≡ old.store.spans.stale
   pub shapes : shapes_of new.store.spaces ≡ shapes_of old.store.spaces
   pub filled : (at : SectorAt) → IsFor IsNotFree new.store.spaces filled_marks at → IsFor IsNotFree old.store.spaces filled_marks at
   pub flushes : (plan : Planned) → new.planned ≡ Some plan → plan.behind.flushes.items ≡ in_use_of old

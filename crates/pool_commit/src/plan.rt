@@ -6,7 +6,7 @@ ghost use Rattle.block_store.specs.Blocks.{Contents, Extends, AreDistinct, AreSt
 ghost use Rattle.block_store.specs.Places.{filled};
 ghost use Rattle.block_store.specs.Plans.{Plans};
 ghost use Rattle.block_store.specs.Releases.{copies_of_all, AreReleased, AreAllInUse};
-ghost use Rattle.block_store.specs.Steps.{OnlyReadsAndPlans, AnswersAreTrue};
+ghost use Rattle.block_store.specs.Steps.{OnlyReadsAndPlans, AnswersTell};
 ghost use Rattle.dnode_tree.specs.Writes.{IsForRoom};
 ghost use Rattle.raidz_io.specs.Reads.{OnlyReads, AreUntouched};
 ghost use Rattle.dataset_snapshots.specs.Reached.{UseNothing};
@@ -26,7 +26,7 @@ ghost use Rattle.vdev_label.specs.Plain.{config_view};
 ghost use Rattle.pool_commit.specs.Configs.{FitsTable};
 ghost use Rattle.pool_commit.specs.Backs.{Backs, BeginsWithMaps, LeadsTo, LeavesMaps, SpellsGroup, SpellsRoot};
 ghost use Rattle.pool_commit.specs.Directories.{SpellsBy};
-ghost use Rattle.pool_commit.specs.Reading.{PoolAnswersTruly, IsReadFault};
+ghost use Rattle.pool_commit.specs.Reading.{PoolAnswersTell, IsReadFault};
 ghost use Rattle.pool_commit.specs.Reading.{IsUnreadForPlan, IsLostForPlan};
 ghost use Rattle.dataset_snapshots.specs.Creating.{stale_after};
 ghost use Rattle.stale_disks.specs.Rules.{AreSpansAfter, guids_in};
@@ -76,7 +76,7 @@ fn first_root<D: Disk + Drop>(
         let pool = applied group no_volumes (with_made items.now parted.now) in
         IfOk result (λ first. (stored planned : Contents)
         → Plans store.old stored planned → UseNothing store.old.spaces filled
-        → AnswersAreTrue store.old store.new
+        → AnswersTell store.old store.new []
         → (later : Contents) × Plans store.new stored later × Extends planned later
         × SpellsRoot later group (Some first.root) pool
         × (reach : List Block) × LeadsTo later group (Some first.root) pool reach
@@ -86,7 +86,7 @@ fn first_root<D: Disk + Drop>(
         × LeavesMaps store.new.spaces [] later group first.root pool) }
     ensures known { IfErr result (λ refusal. (stored planned : Contents)
         → Plans store.old stored planned → UseNothing store.old.spaces filled
-        → AnswersAreTrue store.old store.new → AreGoodChanges parted.now.made
+        → AnswersTell store.old store.new [] → AreGoodChanges parted.now.made
         → IsForRoom refusal ⊎ (refusal ≡ lost_blocks.DiskFault)) }
     ensures refused { IfErr result (IsFirstRefused store.old store.new next.now.number
         (config_view config.now) (stale_after next.now.spans [])
@@ -123,7 +123,7 @@ fn root_after<D: Disk + Drop>(
         → Plans store.old stored planned → SpellsGroup stored (group - 1) last.now pool
         → LeadsTo stored (group - 1) last.now.root pool before
         → BeginsWithMaps store.old.spaces stored (group - 1) last.now.root pool
-        → AnswersAreTrue store.old store.new → GroupTakesEffect group pool items.now
+        → AnswersTell store.old store.new [] → GroupTakesEffect group pool items.now
         → (later : Contents) × Plans store.new stored later × Extends planned later
         × SpellsRoot later group (Some made.root) (applied group pool items.now)
         × (reach : List Block) × LeadsTo later group (Some made.root)
@@ -138,7 +138,7 @@ fn root_after<D: Disk + Drop>(
         IfErr result (λ refusal. (stored planned : Contents) (pool : PlainPool)
         → Plans store.old stored planned → SpellsGroup stored (group - 1) last.now pool
         → BeginsWithMaps store.old.spaces stored (group - 1) last.now.root pool
-        → AnswersAreTrue store.old store.new → MakesGoodVolumes items.now
+        → AnswersTell store.old store.new [] → MakesGoodVolumes items.now
         → GroupTakesEffect group pool items.now
         → IsForRoom refusal ⊎ (refusal ≡ lost_blocks.DiskFault)) }
     ensures refused { IfErr result (IsNextRefused store.old store.new last.now.root
@@ -271,7 +271,7 @@ fn group_after<D: Disk + Drop>(
         → Plans store.old stored planned → SpellsGroup stored (group - 1) last.now pool
         → LeadsTo stored (group - 1) last.now.root pool before
         → BeginsWithMaps store.old.spaces stored (group - 1) last.now.root pool
-        → AnswersAreTrue store.old store.new → GroupTakesEffect group pool items.now
+        → AnswersTell store.old store.new [] → GroupTakesEffect group pool items.now
         → (later : Contents) × Plans store.new stored later × Extends planned later
         × SpellsGroup later group next.after (applied group pool items.now)
         × (reach : List Block) × LeadsTo later group next.after.root
@@ -282,7 +282,7 @@ fn group_after<D: Disk + Drop>(
     ensures known { IfErr result (λ refusal. (stored planned : Contents) (pool : PlainPool)
         → Plans store.old stored planned → SpellsGroup stored (group - 1) last.now pool
         → BeginsWithMaps store.old.spaces stored (group - 1) last.now.root pool
-        → AnswersAreTrue store.old store.new → MakesGoodVolumes items.now
+        → AnswersTell store.old store.new [] → MakesGoodVolumes items.now
         → GroupTakesEffect group pool items.now
         → IsForRoom refusal ⊎ (refusal ≡ lost_blocks.DiskFault)) }
     ensures refused { IfErr result
@@ -314,7 +314,7 @@ fn group_after<D: Disk + Drop>(
 }
 
 /// Gives the blocks that a group replaced back. Where one of them is not in use, it stays as it is, and so do those behind it: disks
-/// that answer truly name no such block. A plan that took places for a block that it hasn't got would lose room: it is refused
+/// whose answers tell what was written name no such block. A plan that took places for a block that it hasn't got would lose room: it is refused
 /// as where memory is short.
 fn give_back<D: Disk + Drop>(
     store: &mut BlockStore<D>,
@@ -365,7 +365,7 @@ impl<D: Disk + Drop> Commit<D> {
             → is_planned v.sync ≡ false → v.committed < 2 ^ 62
             → items.now ≡ v.ledger (suc v.committed)
             → GroupTakesEffect (suc v.committed) (v.pools v.committed) items.now
-            → PoolAnswersTruly (state_of self.old) (state_of self.new)
+            → PoolAnswersTell (state_of self.old) (state_of self.new) []
             → (calls : List DueCall) × IsPlan v calls
             × Backs (state_of self.new) (record v { sync = Due calls })) }
 

@@ -6,13 +6,13 @@ ghost use Rattle.pool_model.specs.Pools.{volume_at};
 ghost use Rattle.pool_model.specs.View.{View};
 ghost use Rattle.volume_rules.specs.Overlay.{HasRangeAt, StandsThere};
 ghost use Rattle.block_store.specs.Blocks.{Contents};
-ghost use Rattle.block_store.specs.Steps.{OnlyReadsBlocks, AnswersAreTrue};
+ghost use Rattle.block_store.specs.Steps.{OnlyReadsBlocks, AnswersTell};
 ghost use Rattle.block_store.specs.Store.{Holds};
 ghost use Rattle.pool_model.specs.Pools.{PlainPool};
 ghost use Rattle.pool_model.specs.Refusals.{read_refusal};
 ghost use Rattle.pool_commit.specs.Backs.{Backs, SpellsGroup};
 ghost use Rattle.pool_commit.specs.StateOf.{state_of};
-ghost use Rattle.pool_commit.specs.Reading.{PoolAnswersTruly, OnlyReadsPool, IsReadFault};
+ghost use Rattle.pool_commit.specs.Reading.{PoolAnswersTell, OnlyReadsPool, IsReadFault};
 ghost use Rattle.pool_commit.specs.Reading.{IsFaultIn, IsUnreadOf, IsUnreadUnder, IsLostUnder};
 ghost use Rattle.pool_commit.specs.Reading.{HasNoCause, IsUnderCause, IsReadCause, IsLostAt, IsUnreadAt};
 
@@ -40,7 +40,7 @@ fn read_of<D: Disk + Drop>(
     ensures bytes { IfOk result (λ bytes. (stored : Contents) (pool : PlainPool)
         → Holds store.old stored → SpellsGroup stored birth kept.now pool
         → (read_refusal range.now.offset range.now.len (volume_at range.now.name.now pool) ≡ None)
-        × (AnswersAreTrue store.old store.new
+        × (AnswersTell store.old store.new missing.now
         → AreBytesOf pool range.now.name.now range.now.offset range.now.len bytes.items)) }
     ensures len { IfOk result (λ bytes. length bytes.items ≡ range.now.len) }
     ensures refused { IfErr result (λ refusal. (stored : Contents) (pool : PlainPool)
@@ -49,7 +49,7 @@ fn read_of<D: Disk + Drop>(
         ⊎ (IsReadCause (read_refusal range.now.offset range.now.len (volume_at range.now.name.now pool)) refusal
         ⊎ ((read_refusal range.now.offset range.now.len (volume_at range.now.name.now pool) ≡ None)
         × IsUnreadOf store.old store.new kept.now birth range.now.name.now range.now.offset range.now.len
-        missing.now refusal × IsFaultIn store.old store.new refusal))) }
+        missing.now refusal × IsFaultIn store.old store.new missing.now refusal))) }
     ensures unread { IfErr result (λ refusal. IsReadFault refusal
         → IsUnreadOf store.old store.new kept.now birth range.now.name.now range.now.offset range.now.len
         missing.now refusal) }
@@ -83,7 +83,7 @@ impl<D: Disk + Drop> Commit<D> {
         ensures reads { OnlyReadsPool (state_of self.old) (state_of self.new) missing.now }
         ensures bytes { IfOk result (λ bytes. (v : View) → Backs (state_of self.old) v
             → HasNoCause v group name.now offset len
-            × (PoolAnswersTruly (state_of self.old) (state_of self.new)
+            × (PoolAnswersTell (state_of self.old) (state_of self.new) missing.now
             → AreBytesOf (v.pools group) name.now offset len bytes.items)) }
         ensures refused { IfErr result (λ refusal. (v : View) → Backs (state_of self.old) v
             → (refusal ≡ Refusal.NoMemory) ⊎ (IsUnderCause v group name.now offset len refusal
@@ -116,7 +116,7 @@ impl<D: Disk + Drop> Commit<D> {
         ensures len { IfOk result (λ bytes. length bytes.items ≡ len) }
         ensures bytes { IfOk result (λ bytes. (v : View) (size : ℕ)
             → Backs (state_of self.old) v
-            → PoolAnswersTruly (state_of self.old) (state_of self.new)
+            → PoolAnswersTell (state_of self.old) (state_of self.new) []
             → StandsThere (option_copied name.entry) (v.pools v.committed) size → offset + len ≤ size
             → HasRangeAt bytes.items (option_copied name.entry) (v.pools v.committed) size offset) }
         ensures refused { IfErr result (λ refusal. (v : View) (size : ℕ)

@@ -5,6 +5,7 @@ pub mod ReadSteps
 pub mod Running
 pub mod Moving
 pub mod Sharing
+pub mod Telling
 pub mod Untouched
 pub use Rattle.pool_commit.proofs.SnapshotsLosses
 pub use Rattle.pool_commit.proofs.SnapshotsReadings

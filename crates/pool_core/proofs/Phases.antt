@@ -30,7 +30,7 @@ use Rattle.pool_commit.specs.declared.kept.Planned.{Planned as PlannedGroup}
 use Rattle.pool_commit.specs.Backs.{Backs, IsPlanOf, IsReachOfPlan}
 use Rattle.pool_commit.specs.Calls.{disk_call, plan_call, fault_call, unread_call, told_since, made_between, faults_between, unread_between, GrewTo, which_call, called_between}
 use Rattle.pool_commit.specs.Progress.{AreMade, Progresses, EndsWell, fault_list, given_calls}
-use Rattle.pool_commit.specs.Reading.{IsLostUnder, IsLostForPlan}
+use Rattle.pool_commit.specs.Reading.{IsLostUnder, IsLostForPlan, PoolAnswersTell}
 use Rattle.pool_commit.specs.Room.{LacksRoom}
 use Rattle.pool_commit.specs.State.{State}
 use Rattle.pool_commit.proofs.Made.{told_by_none}
@@ -45,7 +45,7 @@ use Rattle.pool_commit.specs.Causes.{cause_of}
 use Rattle.pool_core.specs.Reading.{LosesUnder, LosesForPlan}
 use Rattle.pool_core.specs.Represents.{Represents}
 use Rattle.pool_core.specs.State.{CoreState, disks_of}
-use Rattle.pool_core.specs.Steps.{AwayIsUntouched, AreFlushed, ShowsGroup, PoolAnswersTruly, LosesBlock, FindsNoRoom, IsGiven, Goes}
+use Rattle.pool_core.specs.Steps.{AwayIsUntouched, AreFlushed, ShowsGroup, LosesBlock, FindsNoRoom, IsGiven, Goes}
 use Rattle.pool_core.proofs.Fronting.{nothing_is_given}
 
 -- ---- reads are no calls of a plan
@@ -110,8 +110,8 @@ pub record GivesLost (v : View) (old new : CoreState) (trusted : Bool) (cause : 
   pub loses : (loss : Loss) → lost ≡ Some loss → Loses loss
 
 untrusted : {P : Type 0} (trusted : Bool) → (trusted ≡ true → P) → ¬ P → trusted ≡ false
-untrusted true honest lies = absurd (lies (honest refl))
-untrusted false honest lies = refl
+untrusted true holds fails = absurd (fails (holds refl))
+untrusted false holds fails = refl
 
 none_lost : (P : Loss → Type 0) (loss : Loss) → None ≡ Some loss → P loss
 none_lost P loss e = absurd (cc)
@@ -120,28 +120,28 @@ this_lost : (P : Loss → Type 0) (lost loss : Loss) → P lost → Some lost �
 this_lost P lost loss p e = let same : lost ≡ loss = cc in subst P same p
 
 pub under_given : (v : View) (old new : CoreState) (trusted : Bool) (group : ℕ) (name : List ℕ) (offset len : ℕ) (refusal : Refusal)
-    → IsLostUnder v old.commit new.commit group name offset len [] refusal → (trusted ≡ true → PoolAnswersTruly old new)
+    → IsLostUnder v old.commit new.commit group name offset len [] refusal → (trusted ≡ true → PoolAnswersTell old.commit new.commit [])
     → GivesLost v old new trusted (cause_of refusal) (LosesUnder v old.commit new.commit group name offset len)
-under_given v old new trusted group name offset len DiskFault is honest = record {
+under_given v old new trusted group name offset len DiskFault is tell = record {
   lost = Some is.lost.0;
   unreadable = (is.lost.0, refl, record { there = is.lost.2.0; more = is.lost.2.1 });
   loses = λ loss e. this_lost (LosesUnder v old.commit new.commit group name offset len) is.lost.0 loss (record { unread = is.unread; on = is.lost.1 }) e;
 }
-under_given v old new trusted group name offset len BadPointer is honest = record { lost = None; unreadable = untrusted trusted honest is.lost; loses = none_lost _ }
-under_given v old new trusted group name offset len BadDigest is honest = record { lost = None; unreadable = untrusted trusted honest is.lost; loses = none_lost _ }
-under_given v old new trusted group name offset len refusal is honest = absurd is.lost
+under_given v old new trusted group name offset len BadPointer is tell = record { lost = None; unreadable = untrusted trusted tell is.lost; loses = none_lost _ }
+under_given v old new trusted group name offset len BadDigest is tell = record { lost = None; unreadable = untrusted trusted tell is.lost; loses = none_lost _ }
+under_given v old new trusted group name offset len refusal is tell = absurd is.lost
 
 pub plan_given : (v : View) (old new : CoreState) (trusted : Bool) (items : Entry) (refusal : Refusal)
-    → IsLostForPlan v old.commit new.commit items refusal → (trusted ≡ true → PoolAnswersTruly old new)
+    → IsLostForPlan v old.commit new.commit items refusal → (trusted ≡ true → PoolAnswersTell old.commit new.commit [])
     → GivesLost v old new trusted (cause_of refusal) (LosesForPlan v old.commit new.commit items)
-plan_given v old new trusted items DiskFault is honest = record {
+plan_given v old new trusted items DiskFault is tell = record {
   lost = Some is.lost.0;
   unreadable = (is.lost.0, refl, record { there = is.lost.2.0; more = is.lost.2.1 });
   loses = λ loss e. this_lost (LosesForPlan v old.commit new.commit items) is.lost.0 loss (record { unread = is.unread; on = is.lost.1 }) e;
 }
-plan_given v old new trusted items BadPointer is honest = record { lost = None; unreadable = untrusted trusted honest is.lost; loses = none_lost _ }
-plan_given v old new trusted items BadDigest is honest = record { lost = None; unreadable = untrusted trusted honest is.lost; loses = none_lost _ }
-plan_given v old new trusted items refusal is honest = absurd is.lost
+plan_given v old new trusted items BadPointer is tell = record { lost = None; unreadable = untrusted trusted tell is.lost; loses = none_lost _ }
+plan_given v old new trusted items BadDigest is tell = record { lost = None; unreadable = untrusted trusted tell is.lost; loses = none_lost _ }
+plan_given v old new trusted items refusal is tell = absurd is.lost
 
 -- reads and plans that touch no disk that is out
 pub spares_outs : (s : CoreState) (commit : State) (intake : Intake) (v : View) (missing : List ℕ) → Represents s v → AreUntouched (outs s.commit.store ++ missing) (disks_of s) commit.store.disks
@@ -432,16 +432,16 @@ plans s intake commit v trusted timestamp group calls none f is plan backs reads
 -- a plan that was refused, by its cause: its group is taken
 pub plan_refused : (s : CoreState) (intake : Intake) (commit : State) (v : View) (trusted : Bool) (timestamp : ℕ) (refusal : Refusal) (named : Cause) → named ≡ cause_of refusal
     → refusal_of v (Plan timestamp) ≡ None → Follows intake (taken v Unplanned) → Backs commit (taken v Unplanned) → OnlyReads (disks_of s) commit.store.disks → AwayIsUntouched s v (record { intake = intake; commit = commit })
-    → (trusted ≡ true → PoolAnswersTruly s (record { intake = intake; commit = commit })) → (refusal ≡ NoSpace → LacksRoom s.commit (v.ledger (suc v.committed)))
+    → (trusted ≡ true → PoolAnswersTell s.commit commit []) → (refusal ≡ NoSpace → LacksRoom s.commit (v.ledger (suc v.committed)))
     → (refusal ≡ NoMemory) ⊎ (IsLostForPlan (taken v Unplanned) s.commit commit (v.ledger (suc v.committed)) refusal ⊎ (refusal ≡ NoSpace))
     → Goes s v trusted (Plan timestamp) (Refused named) (record { intake = intake; commit = commit })
-plan_refused s intake commit v trusted timestamp refusal named is none f backs reads spared honest full why =
+plan_refused s intake commit v trusted timestamp refusal named is none f backs reads spared tell full why =
     subst (λ (c : Cause). Goes s v trusted (Plan timestamp) (Refused c) new) (sym is) (⊎_elim
     (λ memory. subst (λ (x : Refusal). Goes s v trusted (Plan timestamp) (Refused (cause_of x)) new) (sym memory)
     (goes None false (none_lost _) (λ e. absurd (true≢false (sym e))) causes.NoMemory
     (inr (inl (record { may = none; answer = refl; leaves = refl; calls = reads_quiet s new None trusted false })))))
     (λ other. ⊎_elim
-    (λ lost. let gives = plan_given (taken v Unplanned) s new trusted (v.ledger (suc v.committed)) refusal lost honest in
+    (λ lost. let gives = plan_given (taken v Unplanned) s new trusted (v.ledger (suc v.committed)) refusal lost tell in
     goes gives.lost false (λ loss e. let there = gives.loses loss e in record { unread = there.unread; on = record { lost = there.on.lost; last = record { place = there.on.last.place; is_last = there.on.last.is_last; is_there = there.on.last.is_there }; birth = there.on.birth } })
     (λ e. absurd (true≢false (sym e))) (cause_of refusal)
     (inr (inr (record { none = none; answered = (inl (same_causes refusal gives.lost gives.unreadable), refl); calls = reads_quiet s new gives.lost trusted false }))))

@@ -19,12 +19,12 @@ use Rattle.volume_rules.specs.Shapes.{shape_of, shape_at}
 use Rattle.volume_rules.specs.Sources.{base_name}
 use Rattle.pool_commit.specs.declared.refusal.Refusal.{Refusal}
 use Rattle.pool_commit.specs.declared.refusal.Refusal.TheVariants.{NoMemory, NoSuchName, OutOfRange, GroupGone}
-use Rattle.pool_commit.specs.Reading.{PoolAnswersTruly as AnswersAreTrue, HasNoCause, IsUnderCause, IsLostAt, IsLostUnder, OnlyReadsPool}
+use Rattle.pool_commit.specs.Reading.{PoolAnswersTell, HasNoCause, IsUnderCause, IsLostAt, IsLostUnder, OnlyReadsPool}
 use Rattle.pool_commit.specs.State.{State}
 use Rattle.pool_commit.specs.Causes.{cause_of}
 use Rattle.pool_core.specs.Represents.{Represents}
 use Rattle.pool_core.specs.State.{CoreState}
-use Rattle.pool_core.specs.Steps.{LosesBlock, Goes, PoolAnswersTruly}
+use Rattle.pool_core.specs.Steps.{LosesBlock, Goes}
 use Rattle.pool_core.specs.Reading.{IsLostAnswer, LosesAt}
 use Rattle.pool_core.proofs.Fronting.{IsFrontStep, front_commits_none, front_shows_none, front_calls}
 use Rattle.pool_core.proofs.Phases.{GivesLost, given_by_reads, reads_are_given, reads_quiet, under_given, spares_outs}
@@ -83,9 +83,9 @@ reads_under s commit v trusted group name offset len bytes r reads none are =
     (inr (inr (record { none = none; answered = (are, refl); calls = reads_quiet s (record s { commit = commit }) None trusted false })))
 
 pub refuses_under : (s : CoreState) (commit : State) (v : View) (trusted : Bool) (group : ℕ) (name : List ℕ) (offset len : ℕ) (cause : Cause) → Represents s v → OnlyReadsPool s.commit commit []
-    → (trusted ≡ true → AnswersAreTrue s.commit commit) → IsUnderRefused v group name offset len [] s.commit commit cause
+    → (trusted ≡ true → PoolAnswersTell s.commit commit []) → IsUnderRefused v group name offset len [] s.commit commit cause
     → Goes s v trusted (ReadUnder group name offset len) (Refused cause) (record s { commit = commit })
-refuses_under s commit v trusted group name offset len cause r reads honest why =
+refuses_under s commit v trusted group name offset len cause r reads tell why =
     let new : CoreState = record s { commit = commit } in
     let step : Step = ReadUnder group name offset len in
     let quiet = reads_quiet s new None trusted false in elim why [
@@ -93,7 +93,7 @@ refuses_under s commit v trusted group name offset len cause r reads honest why 
       | inr other ↦ elim other [
         | inl first ↦ read_goes s commit v None trusted step (Refused cause) r reads tt (none_lost _)
             (inl (record { cause = cause; first = first; answer = refl; unchanged = refl; quiet = quiet; calls = quiet }))
-        | inr lost ↦ let gives = under_given v s new trusted group name offset len lost.1.refusal lost.1.lost honest in
+        | inr lost ↦ let gives = under_given v s new trusted group name offset len lost.1.refusal lost.1.lost tell in
             subst (λ (c : Cause). Goes s v trusted step (Refused c) new) (sym lost.1.answered)
             (read_goes s commit v gives.lost trusted step (Refused (cause_of lost.1.refusal)) r reads tt gives.loses
             (inr (inr (record { none = lost.0; answered = (gives.unreadable, refl); calls = reads_quiet s new gives.lost trusted false }))))
@@ -122,20 +122,20 @@ reads_now s commit v trusted name offset len bytes volume r reads none at count 
 
 -- what could not be read are bytes that the committed pool has, where there are such
 lost_given : (v : View) (old new : CoreState) (trusted : Bool) (base : Option (List ℕ)) (offset len : ℕ) (refusal : Refusal) → IsLostAt v old.commit new.commit base offset len refusal
-    → (trusted ≡ true → PoolAnswersTruly old new) → GivesLost v old new trusted (cause_of refusal) (LosesAt v old.commit new.commit base offset len)
-lost_given v old new trusted None offset len refusal lost honest = absurd lost
-lost_given v old new trusted (Some name) offset len refusal lost honest = under_given v old new trusted v.committed name offset len refusal lost honest
+    → (trusted ≡ true → PoolAnswersTell old.commit new.commit []) → GivesLost v old new trusted (cause_of refusal) (LosesAt v old.commit new.commit base offset len)
+lost_given v old new trusted None offset len refusal lost tell = absurd lost
+lost_given v old new trusted (Some name) offset len refusal lost tell = under_given v old new trusted v.committed name offset len refusal lost tell
 
 pub refuses_now : (s : CoreState) (commit : State) (v : View) (trusted : Bool) (name : List ℕ) (offset len : ℕ) (refusal : Refusal) (named : Cause) → named ≡ cause_of refusal → Represents s v
-    → OnlyReadsPool s.commit commit [] → refusal_of v (Read name offset len) ≡ None → (trusted ≡ true → AnswersAreTrue s.commit commit)
+    → OnlyReadsPool s.commit commit [] → refusal_of v (Read name offset len) ≡ None → (trusted ≡ true → PoolAnswersTell s.commit commit [])
     → (refusal ≡ NoMemory) ⊎ IsLostAt v s.commit commit (base_name v name) offset len refusal
     → Goes s v trusted (Read name offset len) (Refused named) (record s { commit = commit })
-refuses_now s commit v trusted name offset len refusal named is r reads none honest why =
+refuses_now s commit v trusted name offset len refusal named is r reads none tell why =
     let new : CoreState = record s { commit = commit } in
     let step : Step = Read name offset len in elim why [
       | inl memory ↦ read_goes s commit v None trusted step (Refused named) r reads tt (none_lost _)
           (inr (inl (record { may = refl; answer = ap Refused (is ∙ ap cause_of memory); leaves = refl; calls = reads_quiet s new None trusted false })))
-      | inr lost ↦ let gives = lost_given v s new trusted (base_name v name) offset len refusal lost honest in
+      | inr lost ↦ let gives = lost_given v s new trusted (base_name v name) offset len refusal lost tell in
           subst (λ (c : Cause). Goes s v trusted step (Refused c) new) (sym is)
           (read_goes s commit v gives.lost trusted step (Refused (cause_of refusal)) r reads tt gives.loses
           (inr (inr (record { none = none; answered = (gives.unreadable, refl); calls = reads_quiet s new gives.lost trusted false }))))

@@ -1,15 +1,16 @@
 -- What a step of a core is.
-use Rattle.std.specs.Prelude.{ℕ, suc, ◌≡◌, ◌<◌, Contains, map, Bool, true, false, Some}
+use Rattle.std.specs.Prelude.{ℕ, suc, [], ◌≡◌, ◌<◌, Contains, map, Bool, true, false, Some}
 use Rattle.block_pointer.specs.declared.block.Block.{Block}
-use Rattle.model_disk.specs.Joint.{calls_on}
-use Rattle.raidz_io.specs.Reads.{IsHonestSince}
+use Rattle.block_store.specs.Steps.{AnswersTell, StaysLost}
+use Rattle.model_disk.specs.Joint.{Disks, calls_on}
+use Rattle.raidz_io.specs.Reads.{OnlyReads}
 use Rattle.pool_model.specs.declared.step.Step.{Step}
 use Rattle.pool_model.specs.declared.step.Step.TheVariants.{Plan, Device, DiskOut, Release, Read, ReadUnder}
 use Rattle.pool_model.specs.declared.step.Reply.{Reply}
 use Rattle.pool_model.specs.declared.step.Reply.TheVariants.{Planned, Committed}
 use Rattle.pool_model.specs.View.{View, Loss, Given, is_away, disks_in_use, is_suspended}
 use Rattle.pool_model.specs.Machine.{StepOf}
-use Rattle.pool_commit.specs.Calls.{disk_call, made_between, faults_between, unread_between, called_between, IsFlushed}
+use Rattle.pool_commit.specs.Calls.{GrewTo, disk_call, made_between, faults_between, unread_between, called_between, IsFlushed}
 use Rattle.pool_commit.specs.Progress.{fault_list}
 use Rattle.pool_commit.specs.declared.kept.Planned.{Planned as GroupPlan}
 use Rattle.disk_set.specs.declared.behind.SlotWrite.{SlotWrite}
@@ -20,9 +21,22 @@ use Rattle.pool_core.specs.Reading.{LosesAt, LosesUnder, LosesForPlan}
 use Rattle.pool_core.specs.State.{CoreState, disks_of}
 use Rattle.pool_core.specs.Represents.{Represents}
 
--- what the disks answered since is true
-abbrev pub PoolAnswersTruly : CoreState → CoreState → Type 0
-PoolAnswersTruly old new = IsHonestSince (disks_of old) (disks_of new)
+-- the second state came from the first by steps: calls were added to the record, and what was lost is still lost
+pub record CameFrom (old new : CoreState) : Type 0 where
+  pub grew : GrewTo (disks_of old) (disks_of new)
+  pub lost : StaysLost old.commit.store new.commit.store
+
+-- between the two states there is a part in which disks were only read
+pub record IsReadWithin (old new from to : Disks) : Type 0 where
+  pub before : GrewTo old from
+  pub reads : OnlyReads from to
+  pub after : GrewTo to new
+
+-- in each part in which disks were only read, what they answered tells what was written, with all that is lost by the second state
+abbrev pub AnswersTellThroughout : CoreState → CoreState → Type 0
+AnswersTellThroughout old new =
+    (from to : Disks) → IsReadWithin (disks_of old) (disks_of new) from to
+    → AnswersTell (record new.commit.store { disks = from }) (record new.commit.store { disks = to }) []
 
 -- the steps that a suspended pool refuses
 abbrev pub is_barred : Step → Bool
@@ -85,7 +99,7 @@ pub record Link (old : CoreState) (v : View) (step : Step) (given : Given) (repl
   pub untouched : AwayIsUntouched old v new
   pub only : OnlyWritesAndFlushes step old given new
 
--- so it is with some given, which is trusted where the answers of the disks are known to be true
+-- so it is with some given, which is trusted where the answers of the disks are known to tell what was written
 pub record Goes (old : CoreState) (v : View) (trusted : Bool) (step : Step) (reply : Reply) (new : CoreState) : Type 0 where
   pub given : Given
   pub trust : trusted ≡ true → given.trusted ≡ true
@@ -97,13 +111,13 @@ abbrev pub IsPlanned : Reply → Type 0
 IsPlanned (Planned group) = Unit {0}
 IsPlanned reply = ⊥
 
--- So it is from each view that old represents, whether or not the answers are known to be true; only a plan that is made
+-- So it is from each view that old represents, whether or not the answers are known to tell; only a plan that is made
 -- asks for that.
 abbrev pub TakesStep : CoreState → Step → Reply → CoreState → Type 0
-TakesStep old step reply new = (v : View) (trusted : Bool) → Represents old v → (trusted ≡ true → PoolAnswersTruly old new)
+TakesStep old step reply new = (v : View) (trusted : Bool) → Represents old v → (trusted ≡ true → AnswersTellThroughout old new)
     → (IsPlanned reply → trusted ≡ true) → Goes old v trusted step reply new
 
 -- the same of a pool that is not suspended
 abbrev pub TakesStepUnlessSuspended : CoreState → Step → Reply → CoreState → Type 0
-TakesStepUnlessSuspended old step reply new = (v : View) (trusted : Bool) → Represents old v → is_suspended v ≡ false → (trusted ≡ true → PoolAnswersTruly old new)
+TakesStepUnlessSuspended old step reply new = (v : View) (trusted : Bool) → Represents old v → is_suspended v ≡ false → (trusted ≡ true → AnswersTellThroughout old new)
     → (IsPlanned reply → trusted ≡ true) → Goes old v trusted step reply new

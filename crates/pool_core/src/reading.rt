@@ -9,11 +9,11 @@ ghost use Rattle.pool_model.specs.View.{View, now_of};
 ghost use Rattle.volume_rules.specs.Covering.{IsCovered};
 ghost use Rattle.volume_rules.specs.Shapes.{shape_of};
 ghost use Rattle.pool_commit.specs.Calls.{GrewTo};
-ghost use Rattle.pool_commit.specs.Reading.{OnlyReadsPool};
+ghost use Rattle.pool_commit.specs.Reading.{OnlyReadsPool, PoolAnswersTell};
 ghost use Rattle.pool_core.specs.Reading.{IsLostAnswer};
 ghost use Rattle.pool_core.specs.Represents.{Represents};
 ghost use Rattle.pool_core.specs.StateOf.{disks_in, state_of};
-ghost use Rattle.pool_core.specs.Steps.{Goes, PoolAnswersTruly, TakesStep};
+ghost use Rattle.pool_core.specs.Steps.{Goes, TakesStep};
 
 use crate::pool::Core;
 use model_disk::Disk;
@@ -103,7 +103,7 @@ impl<D: Disk + Drop> Core<D> {
             (state_of self.new).commit missing.now }
         ensures bytes { IfOk result (λ bytes. (v : View) → Represents (state_of self.old) v
             → (refusal_of v (steps.ReadUnder group name.now offset len) ≡ None)
-            × (PoolAnswersTruly (state_of self.old) (state_of self.new)
+            × (PoolAnswersTell (state_of self.old).commit (state_of self.new).commit missing.now
             → AreBytesOf (v.pools group) name.now offset len bytes)) }
         ensures refused { IfErr result (λ refusal. (v : View) → Represents (state_of self.old) v
             → (refusal ≡ Refusal.NoMemory) ⊎ ((refusal_of v

@@ -16,6 +16,8 @@ use Rattle.meta_objset.specs.declared.stale_spans.StaleSpan.{StaleSpan}
 use Rattle.stale_disks.proofs.Tables.{empty_once}
 use Rattle.pool_open.specs.Pools.{SpellsPool}
 use Rattle.pool_open.proofs.CommitDirectories.{spans_led}
+use Rattle.pool_open.proofs.CoreRunning.{came_through, tell_in, trusts}
+use Rattle.pool_open.proofs.CoreTelling.{truth_tells}
 use Rattle.pool_open.proofs.CoreUntouched.{chain_keeps}
 use Rattle.pool_open.specs.Mapped.{SpellsWithMaps}
 use Rattle.pool_open.proofs.CommitMapping.{its_maps_over}
@@ -30,7 +32,6 @@ use Rattle.pool_open.specs.CommitState.{NoneIsOut, group_at}
 use Rattle.pool_open.specs.Kept.{Kept}
 use Rattle.pool_open.specs.KeptGroup.{KeptGroup}
 use Rattle.pool_open.specs.CoreState.{CoreState, disks_of}
-use Rattle.pool_open.specs.CoreRuns.{PlansAreTrusted}
 use Rattle.pool_model.specs.Accepted.{Accepted, accepted, ledger_with}
 use Rattle.pool_model.specs.Groups.{commits}
 use Rattle.pool_model.specs.Pools.{Entry, PlainPool, applied, no_items, no_volumes}
@@ -66,10 +67,6 @@ none_by_first n (a ∷ b ∷ c ∷ replies) = none_by_device n replies
 
 none_accepted : (steps : List Step) (replies : List Reply) → AreFirstSteps steps → accepted steps replies ≡ []
 none_accepted steps replies are = ap (λ (them : List Step). accepted them replies) are.2 ∙ none_by_first are.0 replies
-
-all_trusted : (replies : List Reply) → PlansAreTrusted true replies
-all_trusted [] = tt
-all_trusted (reply ∷ replies) = (λ planned. refl, all_trusted replies)
 
 devices_more : (n : ℕ) → replicate n Device ++ Device ∷ [] ≡ replicate (suc n) Device
 devices_more zero = refl
@@ -139,7 +136,7 @@ spells_none old it before after root none in_front_of done honest =
     let ran = done.ran in
     let here : IsHonestSince (disks_of before) (disks_of after) = subst (λ (d : Disks). IsHonestSince d (disks_of after)) (sym in_front_of.disks_are) honest in
     let replies = ran.ran.0 in
-    let all = ran.ran.3 (in_front it) true in_front_of.represents (λ e. here) (all_trusted replies) in
+    let all = ran.ran.3 (in_front it) (trusts replies) in_front_of.represents (tell_in before ran.steps replies after ran.ran.2 (truth_tells before after here)) in
     let w = all.0.after in
     let head = all.2 in
     let one : length (commits replies) ≡ 1 = ap (λ (them : List Reply). length (commits them)) (sym ran.ran.1) ∙ done.done.0 in
@@ -180,7 +177,7 @@ keeps_known old it before after root in_front_of done honest known =
     let ran = done.ran in
     let here : IsHonestSince (disks_of before) (disks_of after) = subst (λ (d : Disks). IsHonestSince d (disks_of after)) (sym in_front_of.disks_are) honest in
     let replies = ran.ran.0 in
-    let all = ran.ran.3 (in_front it) true in_front_of.represents (λ e. here) (all_trusted replies) in
+    let all = ran.ran.3 (in_front it) (trusts replies) in_front_of.represents (tell_in before ran.steps replies after ran.ran.2 (truth_tells before after here)) in
     let links = all.0 in
     let kept = chain_known it.out.items before (in_front it) ran.steps links.givens replies after links.after (in_front it).out links.after.out links.chain all.2.outs
     (λ disk. links.represents.backs.out disk ∙ done.done.1 disk) in
@@ -189,7 +186,8 @@ keeps_known old it before after root in_front_of done honest known =
 pub first_of : (old : Disks) (it : NewPool) (before after : CoreState) (root : Block) (new : Disks) → it.out.items ≡ none_out (length old.starts) → IsInFront old it before → IsCommitted it before after root
     → new ≡ disks_of after → HasFirstGroup old it new root
 first_of old it before after root new none in_front_of done same =
-    let grew : GrewTo old (disks_of after) = subst (λ (d : Disks). GrewTo d (disks_of after)) in_front_of.disks_are done.ran.ran.2 in
+    let grew : GrewTo old (disks_of after) = subst (λ (d : Disks). GrewTo d (disks_of after)) in_front_of.disks_are
+    (came_through before done.ran.steps done.ran.ran.0 after done.ran.ran.2).grew in
     let known = keeps_known old it before after root in_front_of done in
     let spells = spells_none old it before after root none in_front_of done in
     record {
@@ -251,7 +249,7 @@ fails_first old it before after refusal none in_front_of why is honest =
     let ran = why.ran in
     let here : IsHonestSince (disks_of before) (disks_of after) = subst (λ (d : Disks). IsHonestSince d (disks_of after)) (sym in_front_of.disks_are) honest in
     let replies = ran.ran.0 in
-    let all = ran.ran.3 (in_front it) true in_front_of.represents (λ e. here) (all_trusted replies) in
+    let all = ran.ran.3 (in_front it) (trusts replies) in_front_of.represents (tell_in before ran.steps replies after ran.ran.2 (truth_tells before after here)) in
     let links = all.0 in
     let lost : why.whole ≡ false = disks_out (list_any says_no_space why.replies) (list_any says_no_memory why.replies) why.whole (sym why.cause_is ∙ is) in
     let out = some_out after.commit.store.out (λ whole. not_whole why.whole lost (why.is_whole.1 whole)) in

@@ -67,7 +67,7 @@ pub record IsCommitted (it : NewPool) (old new : CoreState) (root : Block) : Typ
   pub done : IsDone it new replies
   pub root_is : new.commit.kept.last.root ≡ Some root
 
--- a step was refused for lack of room; or of memory
+-- a step was refused for want of room
 abbrev pub says_no_space : Reply → Bool
 says_no_space (Refused cause.NoSpace) = true
 says_no_space reply = false
@@ -77,7 +77,7 @@ abbrev pub says_no_memory : Reply → Bool
 says_no_memory (Refused cause.NoMemory) = true
 says_no_memory reply = false
 
--- what it is put down to where the group isn't committed: no room, where a reply says so; else disks, where one is out; else memory
+-- what it is put down to where the group isn't committed: no room, or no memory, where a reply says so; else disks, where one is out; else memory
 abbrev pub cause_in : List Reply → Bool → Refusal
 cause_in replies whole = if list_any says_no_space replies then NoSpace else (if list_any says_no_memory replies then NoMemory else (if whole then NoMemory else DiskFault))
 

@@ -1,6 +1,5 @@
 -- A run of a pool on its own disks: it runs on, with the uberblocks of the groups that were committed.
 use Rattle.std.proofs.Common.{◌≡◌, ⊎_elim, ℕ, suc, true, List, [], ◌∷◌, Option, Some, refl, sym, ap, subst, ◌∙◌}
-use Rattle.std.specs.List.{AllByRecursion}
 use Rattle.uberblock_ring.specs.declared.uberblock.Uberblock.{Uberblock}
 use Rattle.vdev_label.specs.Plain.{PlainVdev}
 use Rattle.pool_create.specs.Backs.{HasPlan, IsPlanOf}
@@ -8,7 +7,6 @@ use Rattle.pool_create.specs.CommitPlanned.{Planned}
 use Rattle.pool_create.specs.CommitState.{NoneIsOut}
 use Rattle.pool_create.specs.CoreRuns.{Chain}
 use Rattle.pool_create.specs.CoreState.{CoreState}
-use Rattle.pool_create.specs.CoreSteps.{IsPlanned}
 use Rattle.pool_format.specs.declared.labeling.PoolIdentity.{PoolIdentity}
 use Rattle.pool_model.specs.View.{Given, View}
 use Rattle.pool_model.specs.declared.step.Reply.{Reply}
@@ -89,9 +87,3 @@ chain_on none_was law pool vdevs digest old v (step ∷ steps) (given ∷ givens
     with_step pool vdevs digest old v last before mid.later mid.earlier new w so.runs (next_of it)
     (chain_on none_was law pool vdevs digest chain.0 chain.1 steps givens replies new w mid.later mid.earlier it.stops.on it.on.on chain.5 none)
 chain_on none_was law pool vdevs digest old v steps givens replies new w last before so on chain none = absurd chain
-
--- ---- what is known to be true
-
-pub trusted : (replies : List Reply) → AllByRecursion (λ reply. IsPlanned reply → true ≡ true) replies
-trusted [] = tt
-trusted (reply ∷ replies) = (λ planned. refl, trusted replies)

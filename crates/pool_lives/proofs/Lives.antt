@@ -13,6 +13,8 @@ use Rattle.stale_disks.specs.Rules.{guids_in}
 use Rattle.vdev_label.specs.Limits.{IsAllowed, IsAllowedVdev}
 use Rattle.vdev_label.specs.Plain.{PlainVdev, config_view}
 use Rattle.vdev_label.specs.declared.label.Config.{Config}
+use Rattle.pool_core.proofs.Running.{tell_in, trusts}
+use Rattle.pool_core.proofs.Telling.{truth_tells}
 use Rattle.pool_create.specs.Backs.{pool_after}
 use Rattle.pool_create.specs.CoreRuns.{Ran}
 use Rattle.pool_create.specs.CoreState.{CoreState, disks_of}
@@ -45,7 +47,7 @@ use Rattle.pool_stops.specs.Unhindered.{AnswerTruly}
 use Rattle.pool_lives.specs.Lasting.{Keeps, LivesGoOn, LivesLoseNothing, served_first}
 use Rattle.pool_lives.specs.Lives.{Down, Exports, FindsNone, Goes, HandsBack, Happening, IsAnswered, IsExported, IsHandedBack, IsLife, IsOpenStopped, IsRun, IsRunStopped, Opens, Place, Runs, StopsOpening, StopsRunning, Up}
 use Rattle.pool_lives.specs.Tales.{IsTale, Known, Resting, Serving, Tells}
-use Rattle.pool_lives.proofs.Chains.{chain_on, trusted}
+use Rattle.pool_lives.proofs.Chains.{chain_on}
 use Rattle.pool_lives.proofs.Handing.{at_hand, begun_grew, safe_exported, safe_unexported, safe_unopened}
 use Rattle.pool_lives.proofs.Known.{chain_known, known_unfailed}
 use Rattle.pool_lives.proofs.Refused.{none_went_out}
@@ -125,7 +127,8 @@ module _ {D : Type 0} (g : disk.Ghosts D) (laws : Laws g) (pool : PoolIdentity) 
       → IsUp pool vdevs digest core v last before → IsRun core steps replies later
       → GoesOn pool vdevs digest (Serving v last before) (Runs steps replies) (Up later)
   runs_on core later v last before steps replies is run =
-      let ran = run.ran.3 v true is.so.runs.represents (λ trust. run.honest) (trusted run.ran.0) in
+      let ran = run.ran.3 v (trusts run.ran.0) is.so.runs.represents
+      (tell_in core steps run.ran.0 later run.ran.2 (truth_tells core later run.honest)) in
       let links = ran.0 in
       let same : run.ran.0 ≡ replies = sym (append_cancel_left run.before replies run.ran.0 run.ran.1) in
       let it = chain_on laws.stops.none_was laws.stops.stay pool vdevs digest core v steps links.givens run.ran.0 later links.after last before is.so is.on
@@ -150,7 +153,8 @@ module _ {D : Type 0} (g : disk.Ghosts D) (laws : Laws g) (pool : PoolIdentity) 
       → IsUp pool vdevs digest core v last before → IsRunStopped core steps at images
       → GoesOn pool vdevs digest (Serving v last before) (StopsRunning steps at) (Down images)
   stops_on core images v last before steps at is (new, all_replies, run, leaves, same) =
-      let ran = run.ran.3 v true is.so.runs.represents (λ trust. run.honest) (trusted run.ran.0) in
+      let ran = run.ran.3 v (trusts run.ran.0) is.so.runs.represents
+      (tell_in core steps run.ran.0 new run.ran.2 (truth_tells core new run.honest)) in
       let links = ran.0 in
       let it = subst (λ (m : Disks). Stopped pool vdevs digest v last before steps m images) (sym same)
       (chain_stops laws.stops pool vdevs digest images leaves.calls core v steps links.givens run.ran.0 new links.after last before is.so is.on

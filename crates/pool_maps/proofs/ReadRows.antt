@@ -8,12 +8,13 @@ use Rattle.block_store.specs.Blocks.{Contents}
 use Rattle.block_store.specs.Maps.{HasSectors}
 use Rattle.block_store.specs.Shapes.{metaslab_sectors}
 use Rattle.block_store.specs.Spaces.{VdevSpace}
-use Rattle.block_store.specs.Steps.{AnswersAreTrue, OnlyReadsBlocks}
+use Rattle.block_store.specs.Steps.{AnswersTell, OnlyReadsBlocks}
 use Rattle.block_store.specs.Store.{Store, Holds}
 use Rattle.block_store.specs.declared.refusal.Refusal.{Refusal as StoreRefusal}
 use Rattle.block_store.specs.declared.refusal.Refusal.TheVariants.{NoMemory as NoStoreMemory, DiskFault, NoSpace, BadPointer, BadDigest, BadConfig}
 use Rattle.block_store.specs.declared.shape.VdevShape.{VdevShape}
-use Rattle.block_store.proofs.Steps.{reads_none, reads_on, true_after, true_before}
+use Rattle.block_store.proofs.Steps.{reads_none, reads_on}
+use Rattle.block_store.proofs.Telling.{read_after, read_before}
 use Rattle.dnode.specs.declared.object_set.ObjectSet.{ObjectSet}
 use Rattle.dnode_tree.proofs.Getting.{zip_append}
 use Rattle.meta_objset.specs.Found.{AreMapRows, IsRowsRefused}
@@ -31,24 +32,24 @@ use Rattle.pool_maps.proofs.Underway.{spaces_stay}
 pub record ReadUpTo (old now : Store) (missing : List ℕ) (set : ObjectSet) (birth : ℕ) (rows : List MetaslabMap) (read : List FreeMetaslab) : Type 0 where
   pub reads : OnlyReadsBlocks old now missing
   pub value : (stored : Contents) (objects : ℕ → Option Object) (own : List Block) (blocks : ℕ → List Block) → Holds old stored
-      → AreObjects stored birth set objects own blocks → AnswersAreTrue old now → AllZip (IsReadOf objects old.spaces) rows read
+      → AreObjects stored birth set objects own blocks → AnswersTell old now missing → AllZip (IsReadOf objects old.spaces) rows read
   pub found : AllZip (IsFreeFound old.spaces set birth) rows read
 
 pub none_yet : (store : Store) (missing : List ℕ) (set : ObjectSet) (birth : ℕ) → ReadUpTo store store missing set birth [] []
-none_yet store missing set birth = record { reads = reads_none store missing; value = λ stored objects own blocks held are honest. tt; found = tt }
+none_yet store missing set birth = record { reads = reads_none store missing; value = λ stored objects own blocks held are tell. tt; found = tt }
 
 pub one_more : (old now new : Store) (missing : List ℕ) (set : ObjectSet) (birth : ℕ) (done : List MetaslabMap) (read : List FreeMetaslab) (row : MetaslabMap) (free : FreeMetaslab)
     → ReadUpTo old now missing set birth done read → OnlyReadsBlocks now new missing
     → ((stored : Contents) (objects : ℕ → Option Object) (own : List Block) (blocks : ℕ → List Block) → Holds now stored → AreObjects stored birth set objects own blocks
-    → AnswersAreTrue now new → IsReadOf objects now.spaces row free)
+    → AnswersTell now new missing → IsReadOf objects now.spaces row free)
     → IsFreeFound now.spaces set birth row free → ReadUpTo old new missing set birth (done ++ row ∷ []) (read ++ free ∷ [])
 one_more old now new missing set birth done read row free before reads value found =
     let same = spaces_stay old now missing before.reads in
     record {
       reads = reads_on old now new missing before.reads reads;
-      value = λ stored objects own blocks held are honest.
-          let sooner = before.value stored objects own blocks held are (true_before old now new reads.reads honest) in
-          let this = value stored objects own blocks (before.reads.keeps stored held) are (true_after old now new before.reads.reads honest) in
+      value = λ stored objects own blocks held are tell.
+          let sooner = before.value stored objects own blocks held are (read_before old now new missing before.reads reads tell) in
+          let this = value stored objects own blocks (before.reads.keeps stored held) are (read_after old now new missing before.reads reads tell) in
           zip_append (IsReadOf objects old.spaces) done (row ∷ []) read (free ∷ []) sooner (subst (λ (spaces : List VdevSpace). IsReadOf objects spaces row free) same this, tt);
       found = zip_append (IsFreeFound old.spaces set birth) done (row ∷ []) read (free ∷ []) before.found
           (subst (λ (spaces : List VdevSpace). IsFreeFound spaces set birth row free) same found, tt);

@@ -9,12 +9,13 @@ use Rattle.block_store.specs.Losses.{IsForLoss}
 use Rattle.block_store.specs.Releases.{AreReleased, copies_of_all}
 use Rattle.block_store.specs.Shapes.{first_meta}
 use Rattle.block_store.specs.Spaces.{VdevSpace}
-use Rattle.block_store.specs.Steps.{OnlyReadsBlocks, AnswersAreTrue}
+use Rattle.block_store.specs.Steps.{OnlyReadsBlocks, AnswersTell}
 use Rattle.block_store.specs.Store.{Store, Holds}
 use Rattle.block_store.specs.declared.refusal.Refusal.{Refusal}
 use Rattle.block_store.specs.declared.shape.VdevShape.{VdevShape}
 use Rattle.block_store.specs.declared.refusal.Refusal.TheVariants.{NoMemory, NoSpace}
-use Rattle.block_store.proofs.Steps.{reads_none, reads_on, true_before, true_after}
+use Rattle.block_store.proofs.Steps.{reads_none, reads_on}
+use Rattle.block_store.proofs.Telling.{read_after, read_before}
 use Rattle.dnode.specs.declared.object_set.ObjectSet.{ObjectSet}
 use Rattle.meta_objset.specs.declared.space_maps.MetaslabPlace.{MetaslabPlace}
 use Rattle.objset.specs.Objects.{Object, AreObjects}
@@ -29,14 +30,14 @@ pub record Underway (old new : Store) (set : ObjectSet) (birth : ℕ) (gone : Li
   pub reads : OnlyReadsBlocks old new []
   pub step : IsStep old.spaces gone first last
   pub advances : (stored : Contents) (objects : ℕ → Option Object) (own : List Block) (blocks : ℕ → List Block) → Holds old stored
-      → AreObjects stored birth set objects own blocks → AnswersAreTrue old new → IsSound old.spaces first → AreUnmade first objects
+      → AreObjects stored birth set objects own blocks → AnswersTell old new [] → IsSound old.spaces first → AreUnmade first objects
       → Advances objects old.spaces gone are first last
 
 -- why a refusal may come over disks that answer truly
 abbrev pub IsKnown : Store → Store → ObjectSet → ℕ → List Block → (MetaslabPlace → Type 0) → MapPlan → Refusal → Type 0
 IsKnown old new set birth gone are plan refusal =
     (stored : Contents) (objects : ℕ → Option Object) (own : List Block) (blocks : ℕ → List Block) → Holds old stored
-    → AreObjects stored birth set objects own blocks → AnswersAreTrue old new → IsSound old.spaces plan → AreUnmade plan objects → AreBelow plan
+    → AreObjects stored birth set objects own blocks → AnswersTell old new [] → IsSound old.spaces plan → AreUnmade plan objects → AreBelow plan
     → AreAhead objects old.spaces are plan → (after : List VdevSpace) (group : ℕ) → AreReleased old.spaces (copies_of_all gone) group after
     → IsForLoss refusal ⊎ (refusal ≡ NoSpace)
 
@@ -48,7 +49,7 @@ pub none_yet : (store : Store) (set : ObjectSet) (birth : ℕ) (gone : List Bloc
 none_yet store set birth gone plan ordered = record {
   reads = reads_none store [];
   step = no_step store.spaces gone plan ordered;
-  advances = λ stored objects own blocks held are honest sound unmade. none_advances objects store.spaces gone plan;
+  advances = λ stored objects own blocks held are tell sound unmade. none_advances objects store.spaces gone plan;
 }
 
 module _ (old mid new : Store) (set : ObjectSet) (birth : ℕ) (gone : List Block) (are rest : MetaslabPlace → Type 0) (first now : MapPlan)
@@ -60,9 +61,9 @@ module _ (old mid new : Store) (set : ObjectSet) (birth : ℕ) (gone : List Bloc
   one_more last two = record {
     reads = reads_on old mid new [] one.reads two.reads;
     step = step_on old.spaces gone first now last one.step (subst (λ spaces. IsStep spaces gone now last) same two.step);
-    advances = λ stored objects own blocks held of honest sound unmade.
-        let before = one.advances stored objects own blocks held of (true_before old mid new two.reads.reads honest) sound unmade in
-        let later = two.advances stored objects own blocks (one.reads.keeps stored held) of (true_after old mid new one.reads.reads honest)
+    advances = λ stored objects own blocks held of tell sound unmade.
+        let before = one.advances stored objects own blocks held of (read_before old mid new [] one.reads two.reads tell) sound unmade in
+        let later = two.advances stored objects own blocks (one.reads.keeps stored held) of (read_after old mid new [] one.reads two.reads tell)
         (subst (λ spaces. IsSound spaces now) (sym same) (one.step.sound sound)) (unmade_later objects first now one.step.goes_on unmade) in
         advances_on objects old.spaces gone are rest first now last apart before (subst (λ spaces. Advances objects spaces gone rest now last) same later);
   }
@@ -70,9 +71,9 @@ module _ (old mid new : Store) (set : ObjectSet) (birth : ℕ) (gone : List Bloc
   -- a refusal of one of those that are ahead
   pub known_then : (some : MetaslabPlace → Type 0) (refusal : Refusal) → OnlyReadsBlocks mid new [] → ((place : MetaslabPlace) → rest place → some place)
       → IsKnown mid new set birth gone rest now refusal → IsKnown old new set birth gone some first refusal
-  known_then some refusal reads into known = λ stored objects own blocks held of honest sound unmade below ahead after group released.
-      let before = one.advances stored objects own blocks held of (true_before old mid new reads.reads honest) sound unmade in
-      known stored objects own blocks (one.reads.keeps stored held) of (true_after old mid new one.reads.reads honest)
+  known_then some refusal reads into known = λ stored objects own blocks held of tell sound unmade below ahead after group released.
+      let before = one.advances stored objects own blocks held of (read_before old mid new [] one.reads reads tell) sound unmade in
+      known stored objects own blocks (one.reads.keeps stored held) of (read_after old mid new [] one.reads reads tell)
       (subst (λ spaces. IsSound spaces now) (sym same) (one.step.sound sound)) (unmade_later objects first now one.step.goes_on unmade) (one.step.below sound below)
       (subst (λ spaces. AreAhead objects spaces rest now) (sym same) (ahead_still objects old.spaces gone some are rest first now into (λ place of_rest of. apart place of of_rest) before ahead))
       after group (subst (λ spaces. AreReleased spaces (copies_of_all gone) group after) (sym same) released)
@@ -83,8 +84,8 @@ pub underway_as : (old new : Store) (set : ObjectSet) (birth : ℕ) (gone : List
 underway_as old new set birth gone are others first last into out is = record {
   reads = is.reads;
   step = is.step;
-  advances = λ stored objects own blocks held of honest sound unmade.
-      advances_as objects old.spaces gone are others first last into out (is.advances stored objects own blocks held of honest sound unmade);
+  advances = λ stored objects own blocks held of tell sound unmade.
+      advances_as objects old.spaces gone are others first last into out (is.advances stored objects own blocks held of tell sound unmade);
 }
 
 -- ---- refusals

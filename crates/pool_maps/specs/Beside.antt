@@ -12,17 +12,17 @@ pub record AreSameBefore (spaces after : List VdevSpace) : Type 0 where
   pub same : (vdev metaslab : ℕ) (space new : VdevSpace) → slice_get spaces vdev ≡ Some space → slice_get after vdev ≡ Some new
       → metaslab < first_meta space.shape → slice_get (planned new) metaslab ≡ slice_get (planned space) metaslab
 
--- the copy lies in a meta region, or before one
+-- the copy lies in the meta region of its vdev, where there is such a vdev
 abbrev pub IsInMeta : List VdevSpace → CopyAt → Type 0
 IsInMeta spaces copy =
     (space : VdevSpace) → slice_get spaces copy.place.vdev ≡ Some space → first_meta space.shape ≤ metaslab_of space.shape copy.place
 
--- the copy lies before the meta region of its vdev
+-- the copy lies before the meta region of its vdev, where there is such a vdev
 abbrev pub IsBeforeMeta : List VdevSpace → CopyAt → Type 0
 IsBeforeMeta spaces copy =
     (space : VdevSpace) → slice_get spaces copy.place.vdev ≡ Some space → metaslab_of space.shape copy.place < first_meta space.shape
 
--- so do all copies of these blocks
+-- all copies of these blocks lie in the meta regions
 abbrev pub LieInMeta : List VdevSpace → List Block → Type 0
 LieInMeta spaces blocks = All (IsInMeta spaces) (copies_of_all blocks)
 

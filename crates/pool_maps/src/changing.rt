@@ -4,7 +4,7 @@ ghost use Rattle.block_pointer.specs.declared.block.Block.{Block};
 ghost use Rattle.block_store.specs.Blocks.{Contents};
 ghost use Rattle.block_store.specs.Causes.{IsCaused};
 ghost use Rattle.block_store.specs.Losses.{IsForLoss};
-ghost use Rattle.block_store.specs.Steps.{OnlyReadsBlocks, AnswersAreTrue};
+ghost use Rattle.block_store.specs.Steps.{OnlyReadsBlocks, AnswersTell};
 ghost use Rattle.block_store.specs.Store.{Holds};
 ghost use Rattle.dnode.specs.ObjectSet.{FitsObjectSet};
 ghost use Rattle.object_table.specs.Ends.{IsEndOf, IsEndRefused};
@@ -48,7 +48,7 @@ pub(crate) fn update_map<D: Disk + Drop>(
     ensures value { IfOk result (λ change. (stored : Contents) (objects : ℕ → Option Object)
         (own : List Block) (blocks : ℕ → List Block) (before : FreeRuns)
         → Holds store.old stored → AreObjects stored birth set.now objects own blocks
-        → AnswersAreTrue store.old store.new → HasMap (objects number) before.sectors before
+        → AnswersTell store.old store.new [] → HasMap (objects number) before.sectors before
         → LeadsFrom before update.now → MayChange change (objects number)
         × Says (after_change change (objects number)) update.now) }
     ensures refused { IfErr result (λ refusal. (refusal ≡ Refusal.NoMemory)
@@ -57,7 +57,7 @@ pub(crate) fn update_map<D: Disk + Drop>(
     ensures known { IfErr result (λ refusal. (stored : Contents) (objects : ℕ → Option Object)
         (own : List Block) (blocks : ℕ → List Block) (before : FreeRuns)
         → Holds store.old stored → AreObjects stored birth set.now objects own blocks
-        → AnswersAreTrue store.old store.new → HasMap (objects number) before.sectors before
+        → AnswersTell store.old store.new [] → HasMap (objects number) before.sectors before
         → IsForLoss refusal) }
 {
     match read_map_end(set, store, alloc, number, birth, &[]) {

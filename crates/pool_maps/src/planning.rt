@@ -7,7 +7,7 @@ ghost use Rattle.block_store.specs.Losses.{IsForLoss};
 ghost use Rattle.block_store.specs.Places.{filled, planned};
 ghost use Rattle.block_store.specs.Releases.{AreReleased, copies_of_all};
 ghost use Rattle.block_store.specs.Spaces.{VdevSpace};
-ghost use Rattle.block_store.specs.Steps.{OnlyReadsBlocks, AnswersAreTrue};
+ghost use Rattle.block_store.specs.Steps.{OnlyReadsBlocks, AnswersTell};
 ghost use Rattle.block_store.specs.Store.{Holds};
 ghost use Rattle.dnode.specs.ObjectSet.{FitsObjectSet};
 ghost use Rattle.meta_objset.specs.Found.{AreMapsFound};
@@ -67,7 +67,7 @@ pub fn plan_maps<D: Disk + Drop>(
     // objects but as the changes so far do; what they make or change are maps, and their table.
     ensures value { IfOk result (λ all. (stored : Contents) (objects : ℕ → Option Object)
         (own : List Block) (blocks : ℕ → List Block) → Holds store.old stored
-        → AreObjects stored birth set.now objects own blocks → AnswersAreTrue store.old store.new
+        → AreObjects stored birth set.now objects own blocks → AnswersTell store.old store.new []
         → (are : AreMapsOf objects store.old.spaces filled)
         → AreOfOthers objects changes.items are.maps next
         → MayBeMade objects all.items × MapAnew objects store.old.spaces gone.now all.items
@@ -75,7 +75,7 @@ pub fn plan_maps<D: Disk + Drop>(
         × LeaveMaps objects changes.items all.items) }
     ensures known { IfErr result (λ refusal. (stored : Contents) (objects : ℕ → Option Object)
         (own : List Block) (blocks : ℕ → List Block) → Holds store.old stored
-        → AreObjects stored birth set.now objects own blocks → AnswersAreTrue store.old store.new
+        → AreObjects stored birth set.now objects own blocks → AnswersTell store.old store.new []
         → (are : AreMapsOf objects store.old.spaces filled)
         → AreOfOthers objects changes.items are.maps next
         → (after : List VdevSpace) (group : ℕ)
@@ -117,15 +117,15 @@ pub fn first_maps<D: Disk + Drop>(
     ensures caused { IfErr result (λ refusal. IsCaused store.old store.new [] refusal
         ⊎ ((refusal ≡ Refusal.NoSpace) × LacksNumbers store.old.spaces next)) }
 
-    // Where there are no objects and nothing is in use, over disks that answer truly, the changes make maps that are those of the plan.
+    // Where there are no objects and nothing is in use, over disks whose answers tell, the changes make maps that are those of the plan.
     ensures value { IfOk result (λ all. AreOfOthers (λ number. None) changes.items [] next
-        → UseNothing store.old.spaces filled → AnswersAreTrue store.old store.new
+        → UseNothing store.old.spaces filled → AnswersTell store.old store.new []
         → MayBeMade (λ number. None) all.items
         × AreMapsOf (changed all.items (λ number. None)) store.old.spaces planned
         × AreThere store.old.spaces planned
         × LeaveMaps (λ number. None) changes.items all.items) }
     ensures known { IfErr result (λ refusal. AreOfOthers (λ number. None) changes.items [] next
-        → UseNothing store.old.spaces filled → AnswersAreTrue store.old store.new
+        → UseNothing store.old.spaces filled → AnswersTell store.old store.new []
         → (refusal ≡ Refusal.NoMemory) ⊎ (refusal ≡ Refusal.NoSpace)) }
 {
     let mut plan = MapPlan {

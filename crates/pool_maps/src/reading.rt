@@ -4,7 +4,7 @@ ghost use Rattle.std.specs.List.{AllZip};
 ghost use Rattle.block_pointer.specs.declared.block.Block.{Block};
 ghost use Rattle.block_store.specs.Blocks.{Contents};
 ghost use Rattle.block_store.specs.Maps.{HasSectors};
-ghost use Rattle.block_store.specs.Steps.{AnswersAreTrue, OnlyReadsBlocks};
+ghost use Rattle.block_store.specs.Steps.{AnswersTell, OnlyReadsBlocks};
 ghost use Rattle.block_store.specs.Store.{Holds};
 ghost use Rattle.dnode.specs.ObjectSet.{FitsObjectSet};
 ghost use Rattle.meta_objset.specs.Reading.{HasSpaceMaps};
@@ -52,7 +52,8 @@ pub fn read_maps<D: Disk + Drop>(
     ensures reads { OnlyReadsBlocks store.old store.new missing.now }
     ensures value { IfOk result (λ read. (stored : Contents) (objects : ℕ → Option Object)
         (own : List Block) (blocks : ℕ → List Block) → Holds store.old stored
-        → AreObjects stored birth set.now objects own blocks → AnswersAreTrue store.old store.new
+        → AreObjects stored birth set.now objects own blocks
+        → AnswersTell store.old store.new missing.now
         → AreReadMaps objects store.old.spaces read.items) }
 
     // Whatever the set is: what was read, which a store of these vdevs may load, and on a refusal its cause.
@@ -63,10 +64,11 @@ pub fn read_maps<D: Disk + Drop>(
         ⊎ AreMapsUnread store.old store.new missing.now set.now birth refusal) }
     ensures caused { IfErr result (IsCausedOf store.old store.new missing.now) }
 
-    // And they are read, over disks that answer truly, unless too many disks miss of a block.
+    // And they are read, over disks whose answers tell, unless too many disks miss of a block.
     ensures known { IfErr result (λ refusal. (stored : Contents) (objects : ℕ → Option Object)
         (own : List Block) (blocks : ℕ → List Block) → Holds store.old stored
-        → AreObjects stored birth set.now objects own blocks → AnswersAreTrue store.old store.new
+        → AreObjects stored birth set.now objects own blocks
+        → AnswersTell store.old store.new missing.now
         → (maps : List MetaslabMap) → HasSpaceMaps (objects 4) maps
         → AreRowsOf store.old.spaces maps → HaveMaps objects store.old.spaces maps
         → IsForLossOf refusal) }
@@ -92,7 +94,8 @@ fn read_each<D: Disk + Drop>(
     ensures reads { OnlyReadsBlocks store.old store.new missing.now }
     ensures value { IfOk result (λ read. (stored : Contents) (objects : ℕ → Option Object)
         (own : List Block) (blocks : ℕ → List Block) → Holds store.old stored
-        → AreObjects stored birth set.now objects own blocks → AnswersAreTrue store.old store.new
+        → AreObjects stored birth set.now objects own blocks
+        → AnswersTell store.old store.new missing.now
         → AllZip (IsReadOf objects store.old.spaces) rows.now read.items) }
     ensures found { IfOk result (λ read.
         AllZip (IsFreeFound store.old.spaces set.now birth) rows.now read.items) }
@@ -101,7 +104,8 @@ fn read_each<D: Disk + Drop>(
     ensures caused { IfErr result (IsCausedOf store.old store.new missing.now) }
     ensures known { IfErr result (λ refusal. (stored : Contents) (objects : ℕ → Option Object)
         (own : List Block) (blocks : ℕ → List Block) → Holds store.old stored
-        → AreObjects stored birth set.now objects own blocks → AnswersAreTrue store.old store.new
+        → AreObjects stored birth set.now objects own blocks
+        → AnswersTell store.old store.new missing.now
         → HaveMaps objects store.old.spaces rows.now → IsForLossOf refusal) }
 {
     let mut read = Vec::new(alloc);
@@ -133,7 +137,8 @@ fn read_one<D: Disk + Drop>(
     ensures reads { OnlyReadsBlocks store.old store.new missing.now }
     ensures value { IfOk result (λ read. (stored : Contents) (objects : ℕ → Option Object)
         (own : List Block) (blocks : ℕ → List Block) → Holds store.old stored
-        → AreObjects stored birth set.now objects own blocks → AnswersAreTrue store.old store.new
+        → AreObjects stored birth set.now objects own blocks
+        → AnswersTell store.old store.new missing.now
         → IsReadOf objects store.old.spaces row.now read) }
     ensures found { IfOk result (IsFreeFound store.old.spaces set.now birth row.now) }
     ensures refused { IfErr result (λ refusal. (sectors : ℕ)
@@ -143,7 +148,8 @@ fn read_one<D: Disk + Drop>(
     ensures caused { IfErr result (IsCausedOf store.old store.new missing.now) }
     ensures known { IfErr result (λ refusal. (stored : Contents) (objects : ℕ → Option Object)
         (own : List Block) (blocks : ℕ → List Block) → Holds store.old stored
-        → AreObjects stored birth set.now objects own blocks → AnswersAreTrue store.old store.new
+        → AreObjects stored birth set.now objects own blocks
+        → AnswersTell store.old store.new missing.now
         → HasMapFor (objects row.now.object) store.old.spaces row.now.metaslab
         → IsForLossOf refusal) }
 {

@@ -7,7 +7,7 @@ ghost use Rattle.block_store.specs.Losses.{IsForLoss};
 ghost use Rattle.block_store.specs.Releases.{AreReleased, copies_of_all};
 ghost use Rattle.block_store.specs.Shapes.{first_meta};
 ghost use Rattle.block_store.specs.Spaces.{VdevSpace};
-ghost use Rattle.block_store.specs.Steps.{OnlyReadsBlocks, AnswersAreTrue};
+ghost use Rattle.block_store.specs.Steps.{OnlyReadsBlocks, AnswersTell};
 ghost use Rattle.block_store.specs.Store.{Holds};
 ghost use Rattle.dnode.specs.ObjectSet.{FitsObjectSet};
 ghost use Rattle.meta_objset.specs.Reading.{HasSpaceMaps};
@@ -76,13 +76,13 @@ impl MapPlan {
         ensures advances { OnOk result ((stored : Contents) (objects : ℕ → Option Object)
             (own : List Block) (blocks : ℕ → List Block) → Holds store.old stored
             → AreObjects stored birth set.now objects own blocks
-            → AnswersAreTrue store.old store.new → IsSound store.old.spaces self.old
+            → AnswersTell store.old store.new [] → IsSound store.old.spaces self.old
             → AreUnmade self.old objects
             → Advances objects store.old.spaces gone.now AreAll self.old self.new) }
         ensures known { IfErr result (λ refusal. (stored : Contents)
             (objects : ℕ → Option Object) (own : List Block) (blocks : ℕ → List Block)
             → Holds store.old stored → AreObjects stored birth set.now objects own blocks
-            → AnswersAreTrue store.old store.new → IsSound store.old.spaces self.old
+            → AnswersTell store.old store.new [] → IsSound store.old.spaces self.old
             → AreUnmade self.old objects → AreBelow self.old
             → AreAhead objects store.old.spaces AreAll self.old
             → (after : List VdevSpace) (group : ℕ)
@@ -117,13 +117,13 @@ impl MapPlan {
         ensures advances { OnOk result ((stored : Contents) (objects : ℕ → Option Object)
             (own : List Block) (blocks : ℕ → List Block) → Holds store.old stored
             → AreObjects stored birth set.now objects own blocks
-            → AnswersAreTrue store.old store.new → IsSound store.old.spaces self.old
+            → AnswersTell store.old store.new [] → IsSound store.old.spaces self.old
             → AreUnmade self.old objects
             → Advances objects store.old.spaces gone.now (AreIn vdev) self.old self.new) }
         ensures known { IfErr result (λ refusal. (stored : Contents)
             (objects : ℕ → Option Object) (own : List Block) (blocks : ℕ → List Block)
             → Holds store.old stored → AreObjects stored birth set.now objects own blocks
-            → AnswersAreTrue store.old store.new → IsSound store.old.spaces self.old
+            → AnswersTell store.old store.new [] → IsSound store.old.spaces self.old
             → AreUnmade self.old objects → AreBelow self.old
             → AreAhead objects store.old.spaces (AreIn vdev) self.old
             → (after : List VdevSpace) (group : ℕ)
@@ -168,13 +168,13 @@ impl MapPlan {
         ensures advances { OnOk result ((stored : Contents) (objects : ℕ → Option Object)
             (own : List Block) (blocks : ℕ → List Block) → Holds store.old stored
             → AreObjects stored birth set.now objects own blocks
-            → AnswersAreTrue store.old store.new → IsSound store.old.spaces self.old
+            → AnswersTell store.old store.new [] → IsSound store.old.spaces self.old
             → AreUnmade self.old objects
             → Advances objects store.old.spaces gone.now (IsThat place) self.old self.new) }
         ensures known { IfErr result (λ refusal. (stored : Contents)
             (objects : ℕ → Option Object) (own : List Block) (blocks : ℕ → List Block)
             → Holds store.old stored → AreObjects stored birth set.now objects own blocks
-            → AnswersAreTrue store.old store.new → IsSound store.old.spaces self.old
+            → AnswersTell store.old store.new [] → IsSound store.old.spaces self.old
             → AreUnmade self.old objects → AreBelow self.old
             → AreAhead objects store.old.spaces (IsThat place) self.old
             → (after : List VdevSpace) (group : ℕ)
@@ -219,7 +219,7 @@ impl MapPlan {
             × ((stored : Contents) (objects : ℕ → Option Object) (own : List Block)
             (blocks : ℕ → List Block) (before : FreeRuns) → Holds store.old stored
             → AreObjects stored birth set.now objects own blocks
-            → AnswersAreTrue store.old store.new
+            → AnswersTell store.old store.new []
             → HasMap (objects number) before.sectors before → LeadsFrom before update.now
             → MayChange change (objects number)
             × Says (after_change change (objects number)) update.now)) }
@@ -227,7 +227,7 @@ impl MapPlan {
             (objects : ℕ → Option Object) (own : List Block) (blocks : ℕ → List Block)
             (before : FreeRuns) → Holds store.old stored
             → AreObjects stored birth set.now objects own blocks
-            → AnswersAreTrue store.old store.new
+            → AnswersTell store.old store.new []
             → HasMap (objects number) before.sectors before
             → IsForLoss refusal ⊎ IsTaken self.old.changes.items number) }
         ensures refused { IfErr result (λ refusal. (refusal ≡ Refusal.NoMemory)

@@ -31,4 +31,6 @@ pub use Rattle.pool_core.proofs.CommitPlanning
 pub use Rattle.pool_core.proofs.CommitProgressing
 pub use Rattle.pool_core.proofs.Phases as CorePhases
 pub use Rattle.pool_core.proofs.Running as CoreRunning
+pub use Rattle.pool_core.proofs.Running as CoreRunning
+pub use Rattle.pool_core.proofs.Telling as CoreTelling
 pub use Rattle.pool_core.proofs.Untouched as CoreUntouched

@@ -8,7 +8,7 @@ use Rattle.block_store.specs.Blocks.{Contents}
 use Rattle.block_store.specs.Opened.{MayBeOpened}
 use Rattle.block_store.specs.Places.{shapes_of}
 use Rattle.block_store.specs.Spaces.{VdevSpace}
-use Rattle.block_store.specs.Steps.{OnlyReadsBlocks, AnswersAreTrue}
+use Rattle.block_store.specs.Steps.{OnlyReadsBlocks, AnswersTell}
 use Rattle.disk_set.specs.declared.stale.GroupSpan.{GroupSpan}
 use Rattle.block_store.specs.Store.{Store, Holds, outs, outs_from}
 use Rattle.block_store.specs.declared.refusal.Refusal.{Refusal as StoreRefusal}
@@ -57,7 +57,7 @@ refused_at_once old shapes out stale group root most cause why = record {
 abbrev pub IsForLossAt : Store → Store → ℕ → Block → ℕ → Refusal → Type 0
 IsForLossAt store later group root most refusal =
     (stored : Contents) (pool : PlainPool) → Holds store stored → (is : SpellsPool stored group root pool) → HasItsMaps store.spaces is
-    → AreDistinct (meta_blocks_of is) → length (meta_blocks_of is) ≤ most → AnswersAreTrue store later → IsForLossOf refusal
+    → AreDistinct (meta_blocks_of is) → length (meta_blocks_of is) ≤ most → AnswersTell store later [] → IsForLossOf refusal
 
 pub refused_through : (store later : Store) (old : Disks) (shapes : List VdevShape) (out : List Bool) (stale : List (Option GroupSpan)) (group : ℕ) (root : Block) (most : ℕ) (refusal : Refusal)
     → IsStoreOver old shapes out stale store → OnlyReadsBlocks store later [] → (after : ℕ) → AreContentsRefused store later [] group root most after refusal
@@ -74,7 +74,7 @@ refused_through store later old shapes out stale group root most refusal over re
     whole = λ stored pool hold small honest.
         let has : HasItsMaps store.spaces small.is = small.mapped store.spaces over.shapes_are in
         known stored pool (hold store over) small.is has (pairs_front (λ block behind. block ≢ behind) (meta_blocks_of small.is) (volume_blocks_of small.is) has.once) small.few
-        (honest_between store later old later.disks over.disks_are refl honest);
+        (inl (honest_between store later old later.disks over.disks_are refl honest));
   }));
 }
 

@@ -23,16 +23,16 @@ pub trait PoolSteps: Drop {
     // The second core came from the first by steps.
     ghost came_from: { Self → Self → Type 0 };
 
-    // What the disks answered from the first core up to the second is true.
-    ghost answers_truly: { Self → Self → Type 0 };
+    // What the disks answered from the first core up to the second tells what was written.
+    ghost answers_tell: { Self → Self → Type 0 };
 
     // From core and view a step, with what was given to it, and its reply lead to this core and view: what it did to the disks.
     ghost links: { Self → View → Step → Given → Reply → Self → View → Type 0 };
 
-    /// Takes one step. From each view that the core represents it is one of the machine, as far as the disks answer truly.
+    /// Takes one step. From each view that the core represents it is one of the machine, where what the disks answer tells what was written.
     fn take_step(&mut self, step: Step) -> Reply
         ensures follows { came_from self.old self.new }
-        ensures goes { Goes represents answers_truly links self.old step result self.new }
+        ensures goes { Goes represents answers_tell links self.old step result self.new }
         ensures room { bytes_in result ≤ most_bytes step };
 
     /// Takes the step Plan. A core may share its work among so many workers, who pass the gate before each item that they make. A core that
@@ -46,7 +46,7 @@ pub trait PoolSteps: Drop {
     ) -> Reply
         requires { 0 < workers }
         ensures follows { came_from self.old self.new }
-        ensures goes { Goes represents answers_truly links
+        ensures goes { Goes represents answers_tell links
             self.old (steps.Plan timestamp) result self.new }
         ensures room { bytes_in result ≡ 0 }
     {
@@ -62,9 +62,9 @@ pub trait PoolSteps: Drop {
 
     ghost came_further: { (first mid last : Self) → came_from first mid → came_from mid last → came_from first last };
 
-    // Each part of what is true is true.
-    ghost parts_are_true: { (first mid last : Self) → came_from first mid → came_from mid last →
-        answers_truly first last → answers_truly first mid × answers_truly mid last };
+    // Each part of what tells tells too.
+    ghost parts_tell: { (first mid last : Self) → came_from first mid → came_from mid last →
+        answers_tell first last → answers_tell first mid × answers_tell mid last };
 }
 
 /// The most bytes that the reply to the step can have: of a read its length, where that is at most 1 MiB.

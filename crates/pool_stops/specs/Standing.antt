@@ -23,7 +23,7 @@ use Rattle.pool_slots.specs.Slots.{AreSettled, StayOut}
 use Rattle.pool_slots.specs.Writes.{IsSlotWrite, SlotsStand, in_use}
 use Rattle.pool_stops.specs.Filled.{all_picked, is_filled, is_for_blocks}
 
--- all bytes that are filled, as the disks have them; and all bytes for blocks
+-- the tree of every root taken to be all bytes that are filled, as the disks have them
 abbrev pub filled_trees : List VdevSpace → Disks → Trees
 filled_trees spaces disks = all_picked (is_filled spaces) (content disks)
 

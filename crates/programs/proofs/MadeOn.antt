@@ -1,10 +1,9 @@
 -- Pools that are made on blank disks.
-use Rattle.std.proofs.Common.{◌≡◌, List}
-use Rattle.model_disk.specs.Joint.{Disks}
+use Rattle.std.proofs.Common.{◌≡◌, ℕ, List, length}
+use Rattle.model_disk.specs.Joint.{AreHonestSince}
 use Rattle.model_disk.specs.declared.memory.MemDisk.{MemDisk}
 use Rattle.model_disk.specs.contracts.memory.MemDiskDisk.TheImpl.{ghosts}
-use Rattle.pool_create.specs.CoreState.{CoreState}
-use Rattle.pool_create.specs.CoreSteps.{PoolAnswersTruly}
+use Rattle.pool_create.specs.CoreState.{CoreState, disks_of}
 use Rattle.pool_create.specs.Creates.{IsCreatedOn}
 use Rattle.pool_format.specs.declared.labeling.PoolIdentity.{PoolIdentity}
 use Rattle.schedule_lines.specs.declared.command.PoolLine.{PoolLine}
@@ -12,12 +11,9 @@ use Rattle.uberblock_ring.specs.declared.uberblock.Uberblock.{Uberblock}
 use Rattle.vdev_label.specs.declared.label.Config.{Config}
 use Rattle.programs.specs.Making.{AreBlank, IsAsked, IsMadeOn}
 
--- a core state over these disks
-abbrev over : CoreState → Disks → CoreState
-over core array = record core { commit = record core.commit { store = record core.commit.store { disks = array } } }
-
+-- disks that answer truly show the pool that was made
 pub is_made : (line : PoolLine) (disks : List MemDisk) (pool : PoolIdentity) (config : Config) (first : Uberblock) (core : CoreState)
-    → AreBlank line disks → IsAsked line pool config → IsCreatedOn ghosts disks pool config first core → ((old : CoreState) → PoolAnswersTruly old core) → IsMadeOn line core
+    → AreBlank line disks → IsAsked line pool config → IsCreatedOn ghosts disks pool config first core → ((n : ℕ) → AreHonestSince n (disks_of core).starts (disks_of core).calls) → IsMadeOn line core
 is_made line disks pool config first core blank asked made truth = record {
   disks = disks;
   blank = blank;
@@ -26,5 +22,5 @@ is_made line disks pool config first core blank asked made truth = record {
   asked = asked;
   first = first;
   made = made;
-  represents = made.created.represents (truth (over core made.array));
+  represents = made.created.represents (truth (length made.array.calls));
 }

@@ -38,10 +38,10 @@ all_more P [] x all p = (p, tt)
 all_more P (y ∷ xs) x all p = (all.0, all_more P xs x all.1 p)
 
 pub replays_more : {C : Type 0} (g : Ghosts C) (start : C) (entries : List Entry) (old new : C) (e : Entry)
-    → Replays g start entries old → Goes g.represents g.answers_truly g.links old e.step e.reply new → g.answers_truly old new
+    → Replays g start entries old → Goes g.represents g.answers_tell g.links old e.step e.reply new → g.answers_tell old new
     → Replays g start (entries ++ e ∷ []) new
-replays_more g start entries old new e so_far goes truly =
-    let one = goes so_far.after so_far.ends truly in
+replays_more g start entries old new e so_far goes tell =
+    let one = goes so_far.after so_far.ends tell in
     record {
       before = so_far.before;
       givens = so_far.givens ++ one.given ∷ [];

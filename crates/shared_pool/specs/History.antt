@@ -20,11 +20,11 @@ pub record History (C : Type 0) : Type 0 where
   pub begun : ℕ  -- the calls that they had counted as this record began
   pub calls : ℕ  -- the calls that they have counted
 
--- the record replays, where the disks have answered truly since its first beginning, the counts agree, and neither is beyond its bound
+-- the record replays, where what the disks answered since its first beginning tells what was written, the counts agree, and neither is beyond its bound
 pub record IsRecord {C : Type 0} (g : Ghosts C) (h : History C) : Type 0 where
   pub sealed_before : g.came_from h.origin h.start
   pub since : g.came_from h.start h.core
-  pub replays : g.answers_truly h.origin h.core → Replays g h.start h.entries h.core
+  pub replays : g.answers_tell h.origin h.core → Replays g h.start h.entries h.core
   pub counts : h.sealed + writers_steps h.entries ≡ h.total
   pub called : h.begun + length h.entries ≡ h.calls
   pub fits : length h.entries ≤ 65536
@@ -37,7 +37,7 @@ entry step reply = record { step = step; reply = reply }
 -- the core took this step, and it is recorded with its reply, and counted
 pub record Takes {C : Type 0} (g : Ghosts C) (old : History C) (step : Step) (reply : Reply) (new : History C) : Type 0 where
   pub came_from : g.came_from old.core new.core
-  pub goes : Goes g.represents g.answers_truly g.links old.core step reply new.core
+  pub goes : Goes g.represents g.answers_tell g.links old.core step reply new.core
   pub recorded : new.entries ≡ old.entries ++ entry step reply ∷ []
   pub counted : new.total ≡ old.total + weight_of step
   pub called : new.calls ≡ old.calls + 1
@@ -59,4 +59,4 @@ pub record Seals {C : Type 0} (old new : History C) : Type 0 where
 
 -- the record is a run of the machine, and tells what the headline says of it
 abbrev pub Tells : {C : Type 0} → Ghosts C → History C → Type 0
-Tells g h = g.answers_truly h.origin h.core → (r : Replays g h.start h.entries h.core) × Headline r.before (steps_of h.entries) r.givens (replies_of h.entries) r.after
+Tells g h = g.answers_tell h.origin h.core → (r : Replays g h.start h.entries h.core) × Headline r.before (steps_of h.entries) r.givens (replies_of h.entries) r.after

@@ -90,7 +90,7 @@ impl<C: PoolSteps, L: Ledger, M: Ledger> Recorded<C, L, M> {
 
     /// An empty record, with room for all its steps, of a core that stands for a view, as far as what its disks answer is true.
     pub fn new(alloc: Global, core: C, books: Books<L, M>) -> Result<Recorded<C, L, M>, Refusal>
-        requires sound { C.answers_truly core core → (v : View) × C.represents core v }
+        requires sound { C.answers_tell core core → (v : View) × C.represents core v }
         requires none { (books.steps.total ≡ 0) × (books.calls.total ≡ 0) }
         ensures start { IfOk result (λ r. (r.core ≡ core) × (r.start ≡ core) × (r.origin ≡ core)) }
         ensures empty { IfOk result (λ r. (r.entries ≡ []) × (r.sealed ≡ 0) × (r.begun ≡ 0)) }

@@ -2,7 +2,7 @@
 ghost use Rattle.std.specs.Prelude.{◌≡◌, ◌⊎◌, ◌^◌, ◌<◌, ℕ, List, Option, IfOk, IfErr};
 ghost use Rattle.block_pointer.specs.declared.block.Block.{Block};
 ghost use Rattle.block_store.specs.Blocks.{Contents};
-ghost use Rattle.block_store.specs.Steps.{OnlyReadsBlocks, AnswersAreTrue};
+ghost use Rattle.block_store.specs.Steps.{OnlyReadsBlocks, AnswersTell};
 ghost use Rattle.block_store.specs.Store.{Holds};
 ghost use Rattle.dnode.specs.ObjectSet.{FitsObjectSet};
 ghost use Rattle.objset.specs.Objects.{Object, AreObjects};
@@ -38,7 +38,8 @@ pub fn read_free_set<D: Disk + Drop>(
     ensures reads { OnlyReadsBlocks store.old store.new missing.now }
     ensures value { IfOk result (λ free. (stored : Contents) (objects : ℕ → Option Object)
         (own : List Block) (blocks : ℕ → List Block) → Holds store.old stored
-        → AreObjects stored birth set.now objects own blocks → AnswersAreTrue store.old store.new
+        → AreObjects stored birth set.now objects own blocks
+        → AnswersTell store.old store.new missing.now
         → HasMap (objects number) sectors free) }
 
     // Whatever the set is: what was read, and on a refusal its cause.
@@ -47,10 +48,11 @@ pub fn read_free_set<D: Disk + Drop>(
         (IsMapRefused store.old store.new missing.now set.now birth number sectors) }
     ensures caused { IfErr result (IsCausedOf store.old store.new missing.now) }
 
-    // And it is read, over disks that answer truly, unless too many disks miss of a block.
+    // And it is read, over disks whose answers tell, unless too many disks miss of a block.
     ensures known { IfErr result (λ refusal. (stored : Contents) (objects : ℕ → Option Object)
         (own : List Block) (blocks : ℕ → List Block) → Holds store.old stored
-        → AreObjects stored birth set.now objects own blocks → AnswersAreTrue store.old store.new
+        → AreObjects stored birth set.now objects own blocks
+        → AnswersTell store.old store.new missing.now
         → IsForLossOf refusal ⊎ ¬ HasSomeMap (objects number) sectors) }
 {
     let rows = object_table::read(set, store, alloc, SPACE_MAP_KIND, number, birth, missing)?;
@@ -88,7 +90,8 @@ pub fn read_map_end<D: Disk + Drop>(
     ensures reads { OnlyReadsBlocks store.old store.new missing.now }
     ensures value { IfOk result (λ end. (stored : Contents) (objects : ℕ → Option Object)
         (own : List Block) (blocks : ℕ → List Block) → Holds store.old stored
-        → AreObjects stored birth set.now objects own blocks → AnswersAreTrue store.old store.new
+        → AreObjects stored birth set.now objects own blocks
+        → AnswersTell store.old store.new missing.now
         → (entries : List ℕ) → HasTable map_kind (objects number) entries
         → IsEndOf map_kind (objects number) entries end) }
 
@@ -98,10 +101,11 @@ pub fn read_map_end<D: Disk + Drop>(
         (IsEndUnread store.old store.new missing.now set.now birth number) }
     ensures caused { IfErr result (IsCausedOf store.old store.new missing.now) }
 
-    // And it is read, over disks that answer truly, unless too many disks miss of a block.
+    // And it is read, over disks whose answers tell, unless too many disks miss of a block.
     ensures known { IfErr result (λ refusal. (stored : Contents) (objects : ℕ → Option Object)
         (own : List Block) (blocks : ℕ → List Block) → Holds store.old stored
-        → AreObjects stored birth set.now objects own blocks → AnswersAreTrue store.old store.new
+        → AreObjects stored birth set.now objects own blocks
+        → AnswersTell store.old store.new missing.now
         → IsForLossOf refusal ⊎ ((entries : List ℕ) → ¬ HasTable map_kind (objects number) entries)) }
 {
     let end = object_table::read_end(set, store, alloc, SPACE_MAP_KIND, number, birth, missing)?;

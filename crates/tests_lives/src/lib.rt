@@ -7,3 +7,5 @@ mod away;
 mod lived;
 #[cfg(test)]
 mod scrubbed;
+#[cfg(test)]
+mod spoilt;

@@ -36,7 +36,7 @@ const STALE: [(&str, &str); 2] = [("out 1", "out"), ("read v 0 1024", "refused 2
 const WHOLE: [(&str, &str); 2] = [("out 1", "out"), ("read v 0 1024", "aax512 00x512")];
 
 /// The first of these lines of which the last reply is another one.
-fn wrong<D: Disk + Drop>(
+pub(crate) fn wrong<D: Disk + Drop>(
     alloc: Global,
     core: &mut Core<D>,
     lines: &[(&str, &str)],
@@ -81,7 +81,10 @@ fn stale_disks(alloc: Global) -> Result<Vec<MemDisk>, Fail> {
 }
 
 /// The disks of members that are there.
-fn there(alloc: Global, members: Vec<Member<MemDisk>>) -> Result<Vec<MemDisk>, AllocError> {
+pub(crate) fn there(
+    alloc: Global,
+    members: Vec<Member<MemDisk>>,
+) -> Result<Vec<MemDisk>, AllocError> {
     let mut disks = Vec::new(alloc);
     'members: for member in members {
         if let Member::Present(disk) = member {
@@ -112,7 +115,7 @@ fn wrong_opened(
 }
 
 /// What is wrong with these lines behind a scrub of the disks, and what it counted.
-fn wrong_scrubbed(
+pub(crate) fn wrong_scrubbed(
     alloc: Global,
     disks: Vec<MemDisk>,
     lines: &[(&str, &str)],

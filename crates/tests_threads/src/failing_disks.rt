@@ -33,7 +33,7 @@ impl PoolSteps for Failing {
 
     ghost came_from = { λ _ _. Unit {0} };
 
-    ghost answers_truly = { λ _ _. ⊥ };
+    ghost answers_tell = { λ _ _. ⊥ };
 
     ghost links = { λ _ _ _ _ _ _ _. Unit {0} };
 
@@ -43,7 +43,7 @@ impl PoolSteps for Failing {
 
     ghost came_further = { λ first mid last before after. tt };
 
-    ghost parts_are_true = { λ first mid last before after truly. absurd truly };
+    ghost parts_tell = { λ first mid last before after truly. absurd truly };
 
     fn take_step(&mut self, step: Step) -> Reply {
         let most = most_bytes(&step);

@@ -33,7 +33,7 @@ module _ {C : Type 0} (g : Ghosts C) (show : C → CoreState) (shows : (c : C) (
       let linked = links old v e.step x e.reply chain.0 chain.1 chain.2 in
       (show chain.0, chain.1, linked.0, linked.1, linked.2, shown chain.0 chain.1 entries givens new w chain.3)
 
-  module _ (core : CoreState) (truly : (first last : C) (v : View) → Represents core v → g.answers_truly first last) where
+  module _ (core : CoreState) (truly : (first last : C) (v : View) → Represents core v → g.answers_tell first last) where
     one_run : (old new : Option (List ℕ)) → PrintsRecord g old new → PrintsRun core old new
     one_run old new printed = record {
       entries = printed.history.entries;

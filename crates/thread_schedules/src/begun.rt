@@ -60,7 +60,7 @@ impl<'a, X: SharedPlanner, J: Beginning> PoolSteps for Begun<'a, X, J> {
     ghost came_from = { λ _ _. Unit {0} };
 
     // Disks in memory answer truly. So all that is asked is that there is a view to begin with.
-    ghost answers_truly = { λ _ _. (v : View) × J.represents v };
+    ghost answers_tell = { λ _ _. (v : View) × J.represents v };
 
     ghost links = { λ old v step given reply new w. GrewTo (disks_in old.core) (disks_in new.core)
         × Link (state_of old.core) v step given reply (state_of new.core) w
@@ -72,7 +72,7 @@ impl<'a, X: SharedPlanner, J: Beginning> PoolSteps for Begun<'a, X, J> {
 
     ghost came_further = { λ first mid last before after. tt };
 
-    ghost parts_are_true = { λ first mid last before after truly. (truly, truly) };
+    ghost parts_tell = { λ first mid last before after truly. (truly, truly) };
 
     fn take_step(&mut self, step: Step) -> Reply {
         let most = most_bytes(&step);

@@ -4,7 +4,7 @@ ghost use Rattle.block_pointer.specs.Block.{FitsBlock};
 ghost use Rattle.block_store.specs.Blocks.{Contents, Extends};
 ghost use Rattle.block_store.specs.Causes.{IsCaused};
 ghost use Rattle.block_store.specs.Plans.{Plans};
-ghost use Rattle.block_store.specs.Steps.{OnlyReadsAndPlans, AnswersAreTrue};
+ghost use Rattle.block_store.specs.Steps.{OnlyReadsAndPlans, AnswersTell};
 ghost use Rattle.dnode_tree.specs.Writes.{IsForRoom};
 ghost use Rattle.objset.specs.declared.changes.Change.{Change};
 ghost use Rattle.pool_model.specs.Names.{is_block_size};
@@ -53,7 +53,7 @@ impl VolumeSet {
         ensures fits { IfOk result (λ volume. FitsBlock (block_of volume)) }
         ensures shape { IfOk result (λ volume. HasShape volume size block_size) }
         ensures value { IfOk result (λ volume. (stored planned : Contents)
-            → Plans store.old stored planned → AnswersAreTrue store.old store.new
+            → Plans store.old stored planned → AnswersTell store.old store.new []
             → (later : Contents) × Plans store.new stored later × Extends planned later
             × Spells later birth volume (replicate size 0)
             × IsMade planned later birth volume) }
@@ -69,10 +69,10 @@ impl VolumeSet {
             × IsPlanRefused store.old store.new empty_set birth birth change
             refusal) }
 
-        // Only room is wanting, over disks that answer truly, unless too many disks miss of a
+        // Only room is wanting, over disks whose answers tell, unless too many disks miss of a
         // block.
         ensures known { IfErr result (λ refusal. (stored planned : Contents)
-            → Plans store.old stored planned → AnswersAreTrue store.old store.new
+            → Plans store.old stored planned → AnswersTell store.old store.new []
             → IsForRoom refusal ⊎ (refusal ≡ Refusal.DiskFault)) }
     {
         let creation = Change::Create {

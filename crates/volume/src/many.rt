@@ -5,7 +5,7 @@ ghost use Rattle.std.specs.List.Sorted.{IsStrictlyIncreasing};
 ghost use Rattle.block_store.specs.Blocks.{Contents};
 ghost use Rattle.block_store.specs.Causes.{IsCaused};
 ghost use Rattle.block_store.specs.Losses.{IsForLoss};
-ghost use Rattle.block_store.specs.Steps.{OnlyReadsBlocks, AnswersAreTrue};
+ghost use Rattle.block_store.specs.Steps.{OnlyReadsBlocks, AnswersTell};
 ghost use Rattle.block_store.specs.Store.{Holds};
 ghost use Rattle.dnode.specs.ObjectSet.{FitsObjectSet};
 ghost use Rattle.dnode_tree.specs.Ways.{bytes_of};
@@ -38,7 +38,8 @@ impl VolumeSet {
             All (λ bytes. length bytes.items ≡ block_size_of self.now) blocks.items) }
         ensures value { IfOk result (λ blocks. (stored : Contents) (array : List ℕ)
             → Holds store.old stored → HasData stored (block_of self.now).birth set.now
-            (size_of self.now) (block_size_of self.now) array → AnswersAreTrue store.old store.new
+            (size_of self.now) (block_size_of self.now) array
+            → AnswersTell store.old store.new missing.now
             → All (λ id. id < size_of self.now / block_size_of self.now) ids.now
             → AllZip (λ id bytes. bytes.items ≡ part array (block_size_of self.now) id)
             ids.now blocks.items) }
@@ -51,7 +52,8 @@ impl VolumeSet {
         ensures cause { IfErr result (λ refusal. refusal ≢ Refusal.NoSpace) }
         ensures known { IfErr result (λ refusal. (stored : Contents) (array : List ℕ)
             → Holds store.old stored → HasData stored (block_of self.now).birth set.now
-            (size_of self.now) (block_size_of self.now) array → AnswersAreTrue store.old store.new
+            (size_of self.now) (block_size_of self.now) array
+            → AnswersTell store.old store.new missing.now
             → All (λ id. id < size_of self.now / block_size_of self.now) ids.now
             → IsForLoss refusal) }
     {

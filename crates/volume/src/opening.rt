@@ -3,7 +3,7 @@ ghost use Rattle.std.specs.Prelude.{◌≡◌, ◌≢◌, ◌≤◌, ◌↔◌, 
 ghost use Rattle.block_store.specs.Blocks.{Contents};
 ghost use Rattle.block_store.specs.Causes.{IsCaused};
 ghost use Rattle.block_store.specs.Losses.{IsForLoss};
-ghost use Rattle.block_store.specs.Steps.{OnlyReadsBlocks, AnswersAreTrue};
+ghost use Rattle.block_store.specs.Steps.{OnlyReadsBlocks, AnswersTell};
 ghost use Rattle.block_store.specs.Store.{Holds};
 ghost use Rattle.dnode.specs.ObjectSet.{FitsObjectSet};
 ghost use Rattle.dnode.specs.declared.object_set.ObjectSetKind.TheVariants as kinds;
@@ -31,7 +31,7 @@ impl VolumeSet {
         ensures fits { IfOk result FitsObjectSet }
         ensures value { IfOk result (λ set. (stored : Contents) (bound : ℕ) (array : List ℕ)
             → Holds store.old stored → (is : Spells stored bound self.now array) → bound ≤ birth
-            → AnswersAreTrue store.old store.new → set ≡ is.set) }
+            → AnswersTell store.old store.new missing.now → set ≡ is.set) }
 
         // Whatever the volume is: what was found, and on a refusal its cause.
         ensures found { IfOk result (IsVolumeFound store.old.spaces self.now birth) }
@@ -40,10 +40,10 @@ impl VolumeSet {
             (IsVolumeRefused store.old store.new missing.now self.now birth) }
         ensures cause { IfErr result (λ refusal. refusal ≢ Refusal.NoSpace) }
 
-        // And it is read, over disks that answer truly, unless too many disks miss of a block.
+        // And it is read, over disks whose answers tell, unless too many disks miss of a block.
         ensures known { IfErr result (λ refusal. (stored : Contents) (bound : ℕ) (array : List ℕ)
             → Holds store.old stored → Spells stored bound self.now array → bound ≤ birth
-            → AnswersAreTrue store.old store.new → IsForLoss refusal) }
+            → AnswersTell store.old store.new missing.now → IsForLoss refusal) }
     {
         let set = read_set(store, alloc, &self.block, birth, missing)?;
         if !is_of_volume(&set) {

@@ -6,7 +6,7 @@ ghost use Rattle.block_pointer.specs.Block.{FitsBlock};
 ghost use Rattle.block_store.specs.Blocks.{Contents, Extends};
 ghost use Rattle.block_store.specs.Causes.{IsCaused};
 ghost use Rattle.block_store.specs.Plans.{Plans};
-ghost use Rattle.block_store.specs.Steps.{OnlyReadsAndPlans, AnswersAreTrue};
+ghost use Rattle.block_store.specs.Steps.{OnlyReadsAndPlans, AnswersTell};
 ghost use Rattle.dnode.specs.declared.object_set.ObjectSet.{ObjectSet};
 ghost use Rattle.dnode.specs.ObjectSet.{FitsObjectSet};
 ghost use Rattle.dnode_tree.specs.declared.writes.BlockWrite.{BlockWrite};
@@ -74,7 +74,7 @@ impl VolumeSet {
         ensures value { IfOk result (λ done. (stored planned : Contents) (bound : ℕ)
             (array : List ℕ)
             → Plans store.old stored planned → (is : Spells stored bound self.now array)
-            → bound ≤ birth → AnswersAreTrue store.old store.new
+            → bound ≤ birth → AnswersTell store.old store.new []
             → (later : Contents) × Plans store.new stored later × Extends planned later
             × ((after : List ℕ) → IsArrayWith array (block_size_of self.now) blocks.items after
             → Spells later birth done.volume after)
@@ -90,12 +90,12 @@ impl VolumeSet {
         ensures refused { IfErr result
             (IsPlacingRefused store.old store.new self.now birth blocks) }
 
-        // Only room is wanting, over disks that answer truly, unless too many disks miss of a
+        // Only room is wanting, over disks whose answers tell, unless too many disks miss of a
         // block.
         ensures known { IfErr result (λ refusal. (stored planned : Contents) (bound : ℕ)
             (array : List ℕ) → Plans store.old stored planned
             → Spells stored bound self.now array → bound ≤ birth
-            → AnswersAreTrue store.old store.new
+            → AnswersTell store.old store.new []
             → IsForRoom refusal ⊎ (refusal ≡ Refusal.DiskFault)) }
     {
         if blocks.is_empty() {
@@ -128,7 +128,7 @@ impl VolumeSet {
             → Plans store.old stored planned → volume.name ≡ changes.now.name.now
             → is_snapshot volume.kind ≡ false
             → Spells stored birth_before self.now volume.bytes → birth_before ≤ birth
-            → AnswersAreTrue store.old store.new
+            → AnswersTell store.old store.new []
             → (later : Contents) × Plans store.new stored later × Extends planned later
             × Spells later birth done.volume
             (after_writes volume changes.now.items.now.writes).bytes) }
@@ -142,7 +142,7 @@ impl VolumeSet {
             (IsWritingRefused store.old store.new self.now birth_before birth changes.now) }
         ensures known { IfErr result (λ refusal. (stored planned : Contents) (array : List ℕ)
             → Plans store.old stored planned → Spells stored birth_before self.now array
-            → birth_before ≤ birth → AnswersAreTrue store.old store.new
+            → birth_before ≤ birth → AnswersTell store.old store.new []
             → IsForRoom refusal ⊎ (refusal ≡ Refusal.DiskFault)) }
     {
         let blocks = self.changed_blocks(store, alloc, birth_before, changes)?;
@@ -166,7 +166,7 @@ impl VolumeSet {
         ensures value { IfOk result (λ done. (stored planned : Contents) (bound : ℕ)
             (array : List ℕ)
             → Plans store.old stored planned → (is : Spells stored bound self.now array)
-            → bound ≤ birth → AnswersAreTrue store.old store.new
+            → bound ≤ birth → AnswersTell store.old store.new []
             → (later : Contents) × Plans store.new stored later × Extends planned later
             × ((after : List ℕ) → IsArrayWith array (block_size_of self.now) blocks.items after
             → Spells later birth done.volume after)
@@ -181,7 +181,7 @@ impl VolumeSet {
         ensures known { IfErr result (λ refusal. (stored planned : Contents) (bound : ℕ)
             (array : List ℕ) → Plans store.old stored planned
             → Spells stored bound self.now array → bound ≤ birth
-            → AnswersAreTrue store.old store.new
+            → AnswersTell store.old store.new []
             → IsForRoom refusal ⊎ (refusal ≡ Refusal.DiskFault)) }
     {
         let set = self.open(store, alloc, birth, &[])?;
@@ -227,7 +227,7 @@ pub(crate) fn plan_change<D: Disk + Drop>(
     ensures value { IfOk result (λ done. (stored planned : Contents) (bound : ℕ)
         (objects : ℕ → Option Object) (own : List Block) (blocks : ℕ → List Block)
         → Plans store.old stored planned → AreObjects stored bound set.now objects own blocks
-        → bound ≤ birth → AnswersAreTrue store.old store.new
+        → bound ≤ birth → AnswersTell store.old store.new []
         → (later : Contents) × Plans store.new stored later
         × IsSetPlanned planned later birth set.now change objects own blocks done.block
         done.replaced.items) }
@@ -239,7 +239,8 @@ pub(crate) fn plan_change<D: Disk + Drop>(
     ensures known { IfErr result (λ refusal. (stored planned : Contents) (bound : ℕ)
         (objects : ℕ → Option Object) (own : List Block) (blocks : ℕ → List Block)
         → Plans store.old stored planned → AreObjects stored bound set.now objects own blocks
-        → bound ≤ before → bound ≤ birth → MayChange change (objects 1) → AnswersAreTrue store.old store.new
+        → bound ≤ before → bound ≤ birth → MayChange change (objects 1)
+        → AnswersTell store.old store.new []
         → IsForRoom refusal ⊎ (refusal ≡ Refusal.DiskFault)) }
 {
     let changes = [ObjectChange {

@@ -4,7 +4,7 @@ ghost use Rattle.std.specs.List.{AllZip, range_with_len};
 ghost use Rattle.block_store.specs.Blocks.{Contents};
 ghost use Rattle.block_store.specs.Causes.{IsCaused};
 ghost use Rattle.block_store.specs.Losses.{IsForLoss};
-ghost use Rattle.block_store.specs.Steps.{OnlyReadsBlocks, AnswersAreTrue};
+ghost use Rattle.block_store.specs.Steps.{OnlyReadsBlocks, AnswersTell};
 ghost use Rattle.block_store.specs.Store.{Holds};
 ghost use Rattle.dnode.specs.declared.object_set.ObjectSet.{ObjectSet};
 ghost use Rattle.dnode.specs.ObjectSet.{FitsObjectSet};
@@ -38,7 +38,7 @@ impl VolumeSet {
         ensures len { IfOk result (λ read. length read.items ≡ len) }
         ensures value { IfOk result (λ read. (stored : Contents) (array : List ℕ)
             → Holds store.old stored → Spells stored birth self.now array
-            → AnswersAreTrue store.old store.new
+            → AnswersTell store.old store.new missing.now
             → read.items ≡ slice_range array offset (offset + len)) }
 
         // Whatever the volume is: that its set was found to be one, and on a refusal its cause.
@@ -49,10 +49,10 @@ impl VolumeSet {
             ⊎ IsReadRefused store.old store.new missing.now self.now birth
             (LiesIn self.now offset (offset + len)) refusal) }
 
-        // And it is read, over disks that answer truly, unless too many disks miss of a block.
+        // And it is read, over disks whose answers tell, unless too many disks miss of a block.
         ensures known { IfErr result (λ refusal. (stored : Contents) (array : List ℕ)
             → Holds store.old stored → Spells stored birth self.now array
-            → AnswersAreTrue store.old store.new → IsForLoss refusal) }
+            → AnswersTell store.old store.new missing.now → IsForLoss refusal) }
     {
         let set = self.open(store, alloc, birth, missing)?;
         self.read_data(&set, store, alloc, offset, len, missing)
@@ -75,7 +75,8 @@ impl VolumeSet {
         ensures len { IfOk result (λ read. length read.items ≡ len) }
         ensures value { IfOk result (λ read. (stored : Contents) (array : List ℕ)
             → Holds store.old stored → HasData stored (block_of self.now).birth set.now
-            (size_of self.now) (block_size_of self.now) array → AnswersAreTrue store.old store.new
+            (size_of self.now) (block_size_of self.now) array
+            → AnswersTell store.old store.new missing.now
             → read.items ≡ slice_range array offset (offset + len)) }
         ensures caused { IfErr result (IsCaused store.old store.new missing.now) }
         ensures refused { IfErr result (λ refusal. (refusal ≡ Refusal.NoMemory)
@@ -83,7 +84,8 @@ impl VolumeSet {
             (LiesIn self.now offset (offset + len)) refusal) }
         ensures known { IfErr result (λ refusal. (stored : Contents) (array : List ℕ)
             → Holds store.old stored → HasData stored (block_of self.now).birth set.now
-            (size_of self.now) (block_size_of self.now) array → AnswersAreTrue store.old store.new
+            (size_of self.now) (block_size_of self.now) array
+            → AnswersTell store.old store.new missing.now
             → IsForLoss refusal) }
     {
         let ids = self.ids_in(alloc, offset, len)?;

@@ -3,7 +3,7 @@ ghost use Rattle.std.specs.Prelude.{◌≡◌, ◌≢◌, ◌+◌, ◌<◌, ◌�
 ghost use Rattle.block_store.specs.Blocks.{Contents};
 ghost use Rattle.block_store.specs.Causes.{IsCaused};
 ghost use Rattle.block_store.specs.Losses.{IsForLoss};
-ghost use Rattle.block_store.specs.Steps.{OnlyReadsBlocks, AnswersAreTrue};
+ghost use Rattle.block_store.specs.Steps.{OnlyReadsBlocks, AnswersTell};
 ghost use Rattle.block_store.specs.Store.{Holds};
 ghost use Rattle.dnode.specs.ObjectSet.{FitsObjectSet};
 ghost use Rattle.dnode_tree.specs.Rewriting.{AreDistinct};
@@ -43,7 +43,7 @@ impl VolumeSet {
         ensures fewer { left.new ≤ left.old }
         ensures blocks { IfOk result (λ found. (stored : Contents) (bound : ℕ) (array : List ℕ)
             → Holds store.old stored → (is : Spells stored bound self.now array) → bound ≤ birth
-            → AnswersAreTrue store.old store.new → found.items
+            → AnswersTell store.old store.new missing.now → found.items
             ≡ blocks_of_volume (block_of self.now) is.set is.has.own is.has.blocks) }
 
         // Whatever the volume is: what was found, by so many reads, and on a refusal its cause.
@@ -54,13 +54,13 @@ impl VolumeSet {
             self.now birth left.old left.new) }
         ensures cause { IfErr result (λ refusal. refusal ≢ Refusal.NoSpace) }
 
-        // And a volume whose set has each block once is walked, over disks that answer truly, where
+        // And a volume whose set has each block once is walked, over disks whose answers tell, where
         // as many are left, unless too many disks miss of a block.
         ensures known { IfErr result (λ refusal. (stored : Contents) (bound : ℕ) (array : List ℕ)
             → Holds store.old stored → (is : Spells stored bound self.now array) → bound ≤ birth
             → HasEachOnce is.has.own is.has.blocks
             → reads_of_volume is.set is.has.own is.has.blocks ≤ left.old
-            → AnswersAreTrue store.old store.new → IsForLoss refusal) }
+            → AnswersTell store.old store.new missing.now → IsForLoss refusal) }
     {
         let set = self.count_set(store, alloc, birth, left, missing)?;
         let below = objset::walk_within(&set, store, alloc, self.block.birth, left, missing)?;
@@ -83,7 +83,7 @@ impl VolumeSet {
         ensures fewer { left.new ≤ left.old }
         ensures blocks { IfOk result (λ found. (stored : Contents) (bound : ℕ) (array : List ℕ)
             → Holds store.old stored → (is : Spells stored bound self.now array) → bound ≤ birth
-            → AnswersAreTrue store.old store.new → found.items ≡ younger since
+            → AnswersTell store.old store.new missing.now → found.items ≡ younger since
             (blocks_of_volume (block_of self.now) is.set is.has.own is.has.blocks)) }
 
         // Whatever the volume is: what was found, by so many reads, and on a refusal its cause.
@@ -94,14 +94,14 @@ impl VolumeSet {
             self.now birth left.old left.new) }
         ensures cause { IfErr result (λ refusal. refusal ≢ Refusal.NoSpace) }
 
-        // And a volume that has each block once is walked, over disks that answer truly, where as
+        // And a volume that has each block once is walked, over disks whose answers tell, where as
         // many are left as it has younger ones, unless too many disks miss of a block.
         ensures known { IfErr result (λ refusal. (stored : Contents) (bound : ℕ) (array : List ℕ)
             → Holds store.old stored → (is : Spells stored bound self.now array) → bound ≤ birth
             → AreDistinct (blocks_of_volume (block_of self.now) is.set is.has.own is.has.blocks)
             → length (younger since
             (blocks_of_volume (block_of self.now) is.set is.has.own is.has.blocks)) ≤ left.old
-            → AnswersAreTrue store.old store.new → IsForLoss refusal) }
+            → AnswersTell store.old store.new missing.now → IsForLoss refusal) }
     {
         if self.block.birth <= since {
             return Ok(Vec::new(alloc));
@@ -127,7 +127,7 @@ impl VolumeSet {
         ensures count { IfOk result (λ set. left.old ≡ left.new + 1) }
         ensures value { IfOk result (λ set. (stored : Contents) (bound : ℕ) (array : List ℕ)
             → Holds store.old stored → (is : Spells stored bound self.now array) → bound ≤ birth
-            → AnswersAreTrue store.old store.new → set ≡ is.set) }
+            → AnswersTell store.old store.new missing.now → set ≡ is.set) }
         ensures found { IfOk result (IsSetThere store.old.spaces self.now birth) }
         ensures caused { IfErr result (IsCaused store.old store.new missing.now) }
         ensures refused { IfErr result
@@ -135,7 +135,7 @@ impl VolumeSet {
         ensures cause { IfErr result (λ refusal. refusal ≢ Refusal.NoSpace) }
         ensures known { IfErr result (λ refusal. (stored : Contents) (bound : ℕ) (array : List ℕ)
             → Holds store.old stored → Spells stored bound self.now array → bound ≤ birth
-            → 0 < left.old → AnswersAreTrue store.old store.new → IsForLoss refusal) }
+            → 0 < left.old → AnswersTell store.old store.new missing.now → IsForLoss refusal) }
     {
         if *left == 0 {
             return Err(Refusal::BadPointer);

@@ -8,7 +8,7 @@ ghost use Rattle.volume_rules.specs.Overlay.{after_writes};
 ghost use Rattle.block_store.specs.Blocks.{Contents};
 ghost use Rattle.block_store.specs.Causes.{IsCaused};
 ghost use Rattle.block_store.specs.Losses.{IsForLoss};
-ghost use Rattle.block_store.specs.Steps.{OnlyReadsBlocks, AnswersAreTrue};
+ghost use Rattle.block_store.specs.Steps.{OnlyReadsBlocks, AnswersTell};
 ghost use Rattle.block_store.specs.Store.{Holds};
 ghost use Rattle.dnode.specs.declared.object_set.ObjectSet.{ObjectSet};
 ghost use Rattle.dnode.specs.ObjectSet.{FitsObjectSet};
@@ -59,7 +59,7 @@ impl VolumeSet {
         ensures value { IfOk result (λ blocks. (stored : Contents) (volume : PlainVolume)
             → Holds store.old stored → volume.name ≡ changes.now.name.now
             → is_snapshot volume.kind ≡ false
-            → Spells stored birth self.now volume.bytes → AnswersAreTrue store.old store.new
+            → Spells stored birth self.now volume.bytes → AnswersTell store.old store.new []
             → IsArrayWith volume.bytes (block_size_of self.now) blocks.items
             (after_writes volume changes.now.items.now.writes).bytes) }
 
@@ -76,10 +76,10 @@ impl VolumeSet {
             (NeedsOldBytes self.now changes.now.name.now changes.now.items.now.writes) refusal) }
         ensures cause { IfErr result (λ refusal. refusal ≢ Refusal.NoSpace) }
 
-        // And they are read, over disks that answer truly, unless too many disks miss of a block.
+        // And they are read, over disks whose answers tell, unless too many disks miss of a block.
         ensures known { IfErr result (λ refusal. (stored : Contents) (array : List ℕ)
             → Holds store.old stored → Spells stored birth self.now array
-            → AnswersAreTrue store.old store.new → IsForLoss refusal) }
+            → AnswersTell store.old store.new [] → IsForLoss refusal) }
     {
         let ids = self.changed_ids(alloc, changes.name, changes.items)?;
         if ids.is_empty() {
@@ -109,7 +109,7 @@ impl VolumeSet {
             → Holds store.old stored → volume.name ≡ changes.now.name.now
             → is_snapshot volume.kind ≡ false
             → HasData stored (block_of self.now).birth set.now (size_of self.now)
-            (block_size_of self.now) volume.bytes → AnswersAreTrue store.old store.new
+            (block_size_of self.now) volume.bytes → AnswersTell store.old store.new []
             → All (λ block. block.bytes.items ≡ part
             (after_writes volume changes.now.items.now.writes).bytes
             (block_size_of self.now) block.id) blocks.items) }
@@ -126,7 +126,7 @@ impl VolumeSet {
         ensures cause { IfErr result (λ refusal. refusal ≢ Refusal.NoSpace) }
         ensures known { IfErr result (λ refusal. (stored : Contents) (array : List ℕ)
             → Holds store.old stored → HasData stored (block_of self.now).birth set.now
-            (size_of self.now) (block_size_of self.now) array → AnswersAreTrue store.old store.new
+            (size_of self.now) (block_size_of self.now) array → AnswersTell store.old store.new []
             → IsForLoss refusal) }
     {
         let needed = self.uncovered(alloc, changes, ids)?;

@@ -223,23 +223,23 @@ is_flushing t last next e = absurd cc
 
 module _ {P : Type 0} (g : Ghosts P) where
   abbrev EachGoes : P → Step → Reply → P → Type 0
-  EachGoes = Goes g.represents g.answers_truly g.links
+  EachGoes = Goes g.represents g.answers_tell g.links
 
   pub begins : ((core : P) → g.came_from core core) → (old : P) (r : Reply) (new : P) → g.came_from old new → EachGoes old step.Close r new → Commits g old r new
   begins itself old r new follows goes = record {
     follows = follows;
     last = record { before = old; from_old = itself old; step = step.Close; kind = tt; goes = goes };
-    reaches = λ v represents truly may. let one = goes v represents truly in (one.after, one.represents_after, close_step v one.given r one.after may one.is_step);
+    reaches = λ v represents tell may. let one = goes v represents tell in (one.after, one.represents_after, close_step v one.given r one.after may one.is_step);
   }
 
   pub goes_on : ((first mid last : P) → g.came_from first mid → g.came_from mid last → g.came_from first last)
-      → ((first mid last : P) → g.came_from first mid → g.came_from mid last → g.answers_truly first last → g.answers_truly first mid × g.answers_truly mid last)
+      → ((first mid last : P) → g.came_from first mid → g.came_from mid last → g.answers_tell first last → g.answers_tell first mid × g.answers_tell mid last)
       → (t : ℕ) (old : P) (last : Reply) (mid : P) (next : Step) (r : Reply) (new : P) → next_of t last ≡ next ∷ [] → Commits g old last mid → g.came_from mid new → EachGoes mid next r new → Commits g old r new
   goes_on further parts t old last mid next r new is so_far follows goes = record {
     follows = further old mid new so_far.follows follows;
     last = record { before = mid; from_old = so_far.follows; step = next; kind = is_flushing t last next is; goes = goes };
-    reaches = λ v represents truly may.
-        let both = parts old mid new so_far.follows follows truly in
+    reaches = λ v represents tell may.
+        let both = parts old mid new so_far.follows follows tell in
         let before = so_far.reaches v represents both.0 may in
         let one = goes before.0 before.1 both.1 in
         (one.after, one.represents_after, next_step v t last before.0 one.given next r one.after is before.2 one.is_step);

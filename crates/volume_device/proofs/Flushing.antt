@@ -37,22 +37,22 @@ between u r w other reaches = reaches.0
 
 module _ {P : Type 0} (g : Ghosts P) where
   abbrev pub EachGoes : P → Step → Reply → P → Type 0
-  EachGoes = Goes g.represents g.answers_truly g.links
+  EachGoes = Goes g.represents g.answers_tell g.links
 
   abbrev pub CameFurther : Type 0
   CameFurther = (first mid last : P) → g.came_from first mid → g.came_from mid last → g.came_from first last
 
-  abbrev pub PartsAreTrue : Type 0
-  PartsAreTrue = (first mid last : P) → g.came_from first mid → g.came_from mid last → g.answers_truly first last → g.answers_truly first mid × g.answers_truly mid last
+  abbrev pub PartsTell : Type 0
+  PartsTell = (first mid last : P) → g.came_from first mid → g.came_from mid last → g.answers_tell first last → g.answers_tell first mid × g.answers_tell mid last
 
   abbrev pub AreSound : Type 0
   AreSound = (core : P) (v : View) → g.represents core v → IsSound v
 
   -- ---- calls, one after another
 
-  pub same_then : PartsAreTrue → (old mid new : Device P) (becomes : Contents → Contents → Type 0) → g.came_from old.core mid.core → g.came_from mid.core new.core → Leads g old mid IsSame → Leads g mid new becomes → Leads g old new becomes
-  same_then parts old mid new becomes first second leads more c shows truly =
-      let both = parts old.core mid.core new.core first second truly in
+  pub same_then : PartsTell → (old mid new : Device P) (becomes : Contents → Contents → Type 0) → g.came_from old.core mid.core → g.came_from mid.core new.core → Leads g old mid IsSame → Leads g mid new becomes → Leads g old new becomes
+  same_then parts old mid new becomes first second leads more c shows tell =
+      let both = parts old.core mid.core new.core first second tell in
       let one = leads c shows both.0 in
       let two = more one.0 one.1 both.1 in
       (two.0, two.1, subst (λ (x : Contents). becomes x two.0) one.2 two.2)
@@ -126,13 +126,13 @@ module _ {P : Type 0} (g : Ghosts P) where
         }
 
     release_stops : (old : Device P) (r : Reply) (new : P) (cause : Refusal) → old.refused ≡ None → EachGoes old.core (step.Release 1) r new → Leads g old (record old { core = new; refused = Some cause }) IsSame
-    release_stops old r new cause goes_on goes c shows truly =
-        let one = goes shows.view shows.represents truly in
+    release_stops old r new cause goes_on goes c shows tell =
+        let one = goes shows.view shows.represents tell in
         (c, stops old new cause c one.after goes_on shows one.represents_after (release_keeps shows.view one.given r one.after one.is_step), refl)
 
     pub release_leads : (old : Device P) (new : P) → old.refused ≡ None → EachGoes old.core (step.Release 1) reply.Released new → Leads g old (record old { core = new; held = false }) IsSame
-    release_leads old new goes_on goes c shows truly =
-        let one = goes shows.view shows.represents truly in
+    release_leads old new goes_on goes c shows tell =
+        let one = goes shows.view shows.represents tell in
         let v = shows.view in
         let w = one.after in
         let on = on_from old c goes_on shows in
@@ -172,23 +172,23 @@ module _ {P : Type 0} (g : Ghosts P) where
         subst (λ (d : Device P). HasStopped old d cause) (sym stopped)
         (has_stopped itself old mid cause old.core (step.Release 1) r is follows (release_stops old r mid cause goes_on goes) refl (itself old.core) goes)
 
-    commits : (old : Device P) (r : Reply) (new : P) (c : Contents) → old.refused ≡ None → old.held ≡ false → Commits g old.core r new → (shows : Shows g old c) → g.answers_truly old.core new → (w : View) × g.represents new w × Reaches shows.view r w
-    commits old r new c goes_on free run shows truly =
+    commits : (old : Device P) (r : Reply) (new : P) (c : Contents) → old.refused ≡ None → old.held ≡ false → Commits g old.core r new → (shows : Shows g old c) → g.answers_tell old.core new → (w : View) × g.represents new w × Reaches shows.view r w
+    commits old r new c goes_on free run shows tell =
         let on = on_from old c goes_on shows in
-        run.reaches shows.view shows.represents truly (record {
+        run.reaches shows.view shows.represents tell (record {
           idle = on.idle;
           none_waits = on.none_waits;
           no_holds = on.holds ∙ ap (holds_of (suc shows.view.committed)) free;
         })
 
     commit_stops : (old : Device P) (r : Reply) (new : P) (cause : Refusal) → old.refused ≡ None → old.held ≡ false → IsOther r → Commits g old.core r new → Leads g old (record old { core = new; refused = Some cause }) IsSame
-    commit_stops old r new cause goes_on free other run c shows truly =
-        let it = commits old r new c goes_on free run shows truly in
+    commit_stops old r new cause goes_on free other run c shows tell =
+        let it = commits old r new c goes_on free run shows tell in
         (c, stops old new cause c it.0 goes_on shows it.1 (between shows.view r it.0 other it.2), refl)
 
     pub commit_leads : (old : Device P) (group : ℕ) (new : P) → old.refused ≡ None → old.held ≡ false → Commits g old.core (reply.Committed group) new → Leads g old (record old { core = new; pending = 0 }) IsFlushed
-    commit_leads old group new goes_on free run c shows truly =
-        let it = commits old (reply.Committed group) new c goes_on free run shows truly in
+    commit_leads old group new goes_on free run c shows tell =
+        let it = commits old (reply.Committed group) new c goes_on free run shows tell in
         let v = shows.view in
         let w = it.0 in
         let on = on_from old c goes_on shows in

@@ -41,8 +41,8 @@ passed_on (Err e) cause caused is c = subst caused (sym is) c
 module _ {P : Type 0} (g : Ghosts P) where
   -- a step that changes no view
   pub unchanged : (old : Device P) (new : P) (s : Step) (r : Reply) → ((v : View) (given : Given) (w : View) → StepOf v given s r w → w ≡ v) → EachGoes g old.core s r new → Leads g old (record old { core = new }) IsSame
-  unchanged old new s r same goes c shows truly =
-      let one = goes shows.view shows.represents truly in
+  unchanged old new s r same goes c shows tell =
+      let one = goes shows.view shows.represents tell in
       let e = same shows.view one.given one.after one.is_step in (
         c,
         record {
@@ -69,8 +69,8 @@ module _ {P : Type 0} (g : Ghosts P) where
 
   module _ (sound : AreSound g) where
     pub hold_leads : (old : Device P) (new : P) (group : ℕ) → old.refused ≡ None → old.held ≡ false → EachGoes g old.core (step.Hold 1) (reply.Held group) new → Leads g old (record old { core = new; held = true }) IsSame
-    hold_leads old new group goes_on free goes c shows truly =
-        let one = goes shows.view shows.represents truly in
+    hold_leads old new group goes_on free goes c shows tell =
+        let one = goes shows.view shows.represents tell in
         let v = shows.view in
         let w = one.after in
         let on = on_from g sound old c goes_on shows in
@@ -89,8 +89,8 @@ module _ {P : Type 0} (g : Ghosts P) where
 
     pub take_leads : (old : Device P) (new : P) (x : Write) (group number pending : ℕ) → old.refused ≡ None → old.held ≡ true → x.writer ≡ 1 → x.number ≡ old.number → (old.number ≤ greatest → number ≡ suc old.number) → (pending ≡ 0 → ⊥)
         → EachGoes g old.core (step.Write x) (reply.Receipt group) new → Leads g old (record old { core = new; number = number; pending = pending }) (IsWrittenOn x.volume x.offset x.bytes)
-    take_leads old new x group number pending goes_on held writer numbered counts some goes c shows truly =
-        let one = goes shows.view shows.represents truly in
+    take_leads old new x group number pending goes_on held writer numbered counts some goes c shows tell =
+        let one = goes shows.view shows.represents tell in
         let v = shows.view in
         let w = one.after in
         let on = subst (GoesOnFrom v old.number old.pending) held (on_from g sound old c goes_on shows) in

@@ -10,7 +10,7 @@ use Rattle.volume_device.specs.Causes.{IsCaused, flushing, writing}
 use Rattle.volume_device.specs.Contents.{Contents, FitsIn, IsCutOff, IsOverwritten, IsSame, IsSettled, IsWritten, IsWrittenOn}
 use Rattle.volume_device.specs.Devices.{Leads}
 use Rattle.volume_device.specs.declared.device.Device.{Device}
-use Rattle.volume_device.proofs.Flushing.{CameFurther, PartsAreTrue, caused_in, caused_then}
+use Rattle.volume_device.proofs.Flushing.{CameFurther, PartsTell, caused_in, caused_then}
 use Rattle.volume_device.proofs.Pieces.{overwritten_none}
 
 abbrev pub FitAsOne : Type 0
@@ -78,18 +78,18 @@ module _ {P : Type 0} (g : Ghosts P) where
     name = refl;
     goes_on = goes_on;
     within = omega arith;
-    leads = λ c shows truly. (c, shows, nothing_written old.name offset c);
+    leads = λ c shows tell. (c, shows, nothing_written old.name offset c);
   }
 
-  pub more : CameFurther g → PartsAreTrue g → FitAsOne → AreAsOne → (old mid new : Device P) (offset : ℕ) (bytes : List ℕ) (done len at : ℕ) (piece : List ℕ) → HasWritten old offset bytes done mid → at ≡ offset + done → piece ≡ take len (drop done bytes)
+  pub more : CameFurther g → PartsTell g → FitAsOne → AreAsOne → (old mid new : Device P) (offset : ℕ) (bytes : List ℕ) (done len at : ℕ) (piece : List ℕ) → HasWritten old offset bytes done mid → at ≡ offset + done → piece ≡ take len (drop done bytes)
       → done + len ≤ length bytes → g.came_from mid.core new.core → new.name ≡ mid.name → new.refused ≡ None → Leads g mid new (IsWrittenOn mid.name at piece) → HasWritten old offset bytes (done + len) new
   more further parts fit one old mid new offset bytes done len at piece so_far place is within follows name goes_on leads = record {
     follows = further old.core mid.core new.core so_far.follows follows;
     name = name ∙ so_far.name;
     goes_on = goes_on;
     within = within;
-    leads = λ c shows truly.
-        let both = parts old.core mid.core new.core so_far.follows follows truly in
+    leads = λ c shows tell.
+        let both = parts old.core mid.core new.core so_far.follows follows tell in
         let first = so_far.leads c shows both.0 in
         let second = leads first.0 first.1 both.1 in (
           second.0,
@@ -105,8 +105,8 @@ module _ {P : Type 0} (g : Ghosts P) where
 
   -- a front is written
   pub cut_off : (old : Device P) (offset : ℕ) (bytes : List ℕ) (done : ℕ) (new : Device P) → HasWritten old offset bytes done new → Leads g old new (IsCutOff old.name offset bytes)
-  cut_off old offset bytes done new so_far c shows truly =
-      let it = so_far.leads c shows truly in (
+  cut_off old offset bytes done new so_far c shows tell =
+      let it = so_far.leads c shows tell in (
         it.0,
         it.1,
         record {
@@ -119,9 +119,9 @@ module _ {P : Type 0} (g : Ghosts P) where
         },
       )
 
-  pub then_cut_off : PartsAreTrue g → (old : Device P) (offset : ℕ) (bytes : List ℕ) (done : ℕ) (mid new : Device P) → HasWritten old offset bytes done mid → g.came_from mid.core new.core → Leads g mid new IsSame → Leads g old new (IsCutOff old.name offset bytes)
-  then_cut_off parts old offset bytes done mid new so_far follows same c shows truly =
-      let both = parts old.core mid.core new.core so_far.follows follows truly in
+  pub then_cut_off : PartsTell g → (old : Device P) (offset : ℕ) (bytes : List ℕ) (done : ℕ) (mid new : Device P) → HasWritten old offset bytes done mid → g.came_from mid.core new.core → Leads g mid new IsSame → Leads g old new (IsCutOff old.name offset bytes)
+  then_cut_off parts old offset bytes done mid new so_far follows same c shows tell =
+      let both = parts old.core mid.core new.core so_far.follows follows tell in
       let first = cut_off old offset bytes done mid so_far c shows both.0 in
       let second = same first.0 first.1 both.1 in
       (second.0, second.1, subst (IsCutOff old.name offset bytes c) (sym second.2) first.2)
@@ -144,19 +144,19 @@ module _ {P : Type 0} (g : Ghosts P) where
     safe = inr (flushed.safe ∙ sym flushed.now);
   }
 
-  pub then_settled : PartsAreTrue g → (old mid new : Device P) (offset : ℕ) (bytes : List ℕ) → g.came_from old.core mid.core → g.came_from mid.core new.core → Leads g old mid (IsWrittenOn old.name offset bytes) → Leads g mid new IsSettled
+  pub then_settled : PartsTell g → (old mid new : Device P) (offset : ℕ) (bytes : List ℕ) → g.came_from old.core mid.core → g.came_from mid.core new.core → Leads g old mid (IsWrittenOn old.name offset bytes) → Leads g mid new IsSettled
       → Leads g old new (IsWritten old.name offset bytes)
-  then_settled parts old mid new offset bytes first second written settled c shows truly =
-      let both = parts old.core mid.core new.core first second truly in
+  then_settled parts old mid new offset bytes first second written settled c shows tell =
+      let both = parts old.core mid.core new.core first second tell in
       let one = written c shows both.0 in
       let two = settled one.0 one.1 both.1 in
       (two.0, two.1, settled_as old.name offset bytes c one.0 two.0 one.2 two.2)
 
   -- all is written, and not committed
-  pub then_not_settled : PartsAreTrue g → (old mid new : Device P) (offset : ℕ) (bytes : List ℕ) → g.came_from old.core mid.core → g.came_from mid.core new.core → Leads g old mid (IsWrittenOn old.name offset bytes) → Leads g mid new IsSame
+  pub then_not_settled : PartsTell g → (old mid new : Device P) (offset : ℕ) (bytes : List ℕ) → g.came_from old.core mid.core → g.came_from mid.core new.core → Leads g old mid (IsWrittenOn old.name offset bytes) → Leads g mid new IsSame
       → Leads g old new (IsCutOff old.name offset bytes)
-  then_not_settled parts old mid new offset bytes first second written same c shows truly =
-      let both = parts old.core mid.core new.core first second truly in
+  then_not_settled parts old mid new offset bytes first second written same c shows tell =
+      let both = parts old.core mid.core new.core first second tell in
       let one = written c shows both.0 in
       let two = same one.0 one.1 both.1 in (
         two.0,
@@ -177,7 +177,7 @@ module _ {P : Type 0} (g : Ghosts P) where
 
   -- nothing is written once a commit was refused
   pub none_written : (old : Device P) (offset : ℕ) (bytes : List ℕ) → Leads g old old (IsCutOff old.name offset bytes)
-  none_written old offset bytes c shows truly = (
+  none_written old offset bytes c shows tell = (
     c,
     shows,
     record {

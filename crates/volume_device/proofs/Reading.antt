@@ -19,7 +19,7 @@ use Rattle.volume_device.specs.Causes.{IsCaused, reading}
 use Rattle.volume_device.specs.Contents.{AreRead, Contents, HasRange, IsSame}
 use Rattle.volume_device.specs.Devices.{Leads}
 use Rattle.volume_device.specs.declared.device.Device.{Device}
-use Rattle.volume_device.proofs.Flushing.{CameFurther, EachGoes, PartsAreTrue, caused_in, caused_then}
+use Rattle.volume_device.proofs.Flushing.{CameFurther, EachGoes, PartsTell, caused_in, caused_then}
 use Rattle.volume_device.proofs.Holding.{unchanged}
 use Rattle.volume_device.proofs.Writing.{in_range, not_false}
 
@@ -101,9 +101,9 @@ wider name offset len at n low high s is = absurd is
 
 module _ {P : Type 0} (g : Ghosts P) where
   pub read_leads : (old : Device P) (new : P) (offset len : ℕ) (bytes : List ℕ) → EachGoes g old.core (step.Read old.name offset len) (reply.Bytes bytes) new → Leads g old (record old { core = new }) (AreRead old.name offset len bytes)
-  read_leads old new offset len bytes goes c shows truly =
-      let one = goes shows.view shows.represents truly in
-      let same = unchanged g old new (step.Read old.name offset len) (reply.Bytes bytes) (reads_keep old.name offset len (reply.Bytes bytes)) goes c shows truly in (
+  read_leads old new offset len bytes goes c shows tell =
+      let one = goes shows.view shows.represents tell in
+      let same = unchanged g old new (step.Read old.name offset len) (reply.Bytes bytes) (reads_keep old.name offset len (reply.Bytes bytes)) goes c shows tell in (
         same.0,
         same.1,
         (
@@ -123,14 +123,14 @@ module _ {P : Type 0} (g : Ghosts P) where
     pub within : done ≤ len
     pub leads : Leads g old new (AreRead old.name offset done bytes)
 
-  pub more : CameFurther g → PartsAreTrue g → (old mid new : Device P) (offset len done count at : ℕ) (bytes piece : List ℕ) → HasRead old offset len done bytes mid → at ≡ offset + done → done + count ≤ len → g.came_from mid.core new.core → new ≡ record mid { core = new.core }
+  pub more : CameFurther g → PartsTell g → (old mid new : Device P) (offset len done count at : ℕ) (bytes piece : List ℕ) → HasRead old offset len done bytes mid → at ≡ offset + done → done + count ≤ len → g.came_from mid.core new.core → new ≡ record mid { core = new.core }
       → Leads g mid new (AreRead mid.name at count piece) → HasRead old offset len (done + count) (bytes ++ piece) new
   more further parts old mid new offset len done count at bytes piece so_far place within follows kept leads = record {
     follows = further old.core mid.core new.core so_far.follows follows;
     kept = kept ∙ ap (λ (d : Device P). record d { core = new.core }) so_far.kept;
     within = within;
-    leads = λ c shows truly.
-        let both = parts old.core mid.core new.core so_far.follows follows truly in
+    leads = λ c shows tell.
+        let both = parts old.core mid.core new.core so_far.follows follows tell in
         let first = so_far.leads c shows both.0 in
         let second = leads first.0 first.1 both.1 in
         let name : mid.name ≡ old.name = ap (λ (d : Device P). d.name) so_far.kept in (
@@ -150,18 +150,18 @@ module _ {P : Type 0} (g : Ghosts P) where
         );
   }
 
-  pub with_more : CameFurther g → PartsAreTrue g → (old mid new : Device P) (offset len done count at : ℕ) (bytes piece slice all : List ℕ) → HasRead old offset len done bytes mid → at ≡ offset + done → done + count ≤ len → g.came_from mid.core new.core
+  pub with_more : CameFurther g → PartsTell g → (old mid new : Device P) (offset len done count at : ℕ) (bytes piece slice all : List ℕ) → HasRead old offset len done bytes mid → at ≡ offset + done → done + count ≤ len → g.came_from mid.core new.core
       → new ≡ record mid { core = new.core } → Leads g mid new (AreRead mid.name at count piece) → slice ≡ piece → all ≡ bytes ++ slice → HasRead old offset len (done + count) all new
   with_more further parts old mid new offset len done count at bytes piece slice all so_far place within follows kept leads same appended =
       subst (λ (xs : List ℕ). HasRead old offset len (done + count) xs new) (sym (appended ∙ ap (λ (xs : List ℕ). bytes ++ xs) same))
       (more further parts old mid new offset len done count at bytes piece so_far place within follows kept leads)
 
   pub stays : (old : Device P) (offset len done : ℕ) (bytes : List ℕ) (new : Device P) → HasRead old offset len done bytes new → Leads g old new IsSame
-  stays old offset len done bytes new so_far c shows truly = let it = so_far.leads c shows truly in (it.0, it.1, it.2.1)
+  stays old offset len done bytes new so_far c shows tell = let it = so_far.leads c shows tell in (it.0, it.1, it.2.1)
 
-  pub then_stays : PartsAreTrue g → (old : Device P) (offset len done : ℕ) (bytes : List ℕ) (mid new : Device P) → HasRead old offset len done bytes mid → g.came_from mid.core new.core → Leads g mid new IsSame → Leads g old new IsSame
-  then_stays parts old offset len done bytes mid new so_far follows same c shows truly =
-      let both = parts old.core mid.core new.core so_far.follows follows truly in
+  pub then_stays : PartsTell g → (old : Device P) (offset len done : ℕ) (bytes : List ℕ) (mid new : Device P) → HasRead old offset len done bytes mid → g.came_from mid.core new.core → Leads g mid new IsSame → Leads g old new IsSame
+  then_stays parts old offset len done bytes mid new so_far follows same c shows tell =
+      let both = parts old.core mid.core new.core so_far.follows follows tell in
       let first = stays old offset len done bytes mid so_far c shows both.0 in
       let second = same first.0 first.1 both.1 in
       (second.0, second.1, second.2 ∙ first.2)

@@ -44,7 +44,7 @@ module _ {P : Type 0} (steps : Ghosts P) where
     pub to_new : steps.came_from after new.core
     pub step : Step
     pub kind : takes step
-    pub goes : Goes steps.represents steps.answers_truly steps.links before step (Refused cause) after
+    pub goes : Goes steps.represents steps.answers_tell steps.links before step (Refused cause) after
 
   -- memory ran out; or a commit was refused before, for this cause; or a step was
   abbrev pub IsCaused : (Step → Type 0) → Device P → Device P → Refusal → Type 0

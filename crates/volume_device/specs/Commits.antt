@@ -54,10 +54,10 @@ module _ {P : Type 0} (steps : Ghosts P) where
     pub from_old : steps.came_from old before
     pub step : Step
     pub kind : flushing step
-    pub goes : Goes steps.represents steps.answers_truly steps.links before step reply new
+    pub goes : Goes steps.represents steps.answers_tell steps.links before step reply new
 
   -- a commit was begun, and has come so far
   pub record Commits (old : P) (reply : Reply) (new : P) : Type 0 where
     pub follows : steps.came_from old new
     pub last : IsLastReply old reply new
-    pub reaches : (v : View) → steps.represents old v → steps.answers_truly old new → MayCommit v → (w : View) × steps.represents new w × Reaches v reply w
+    pub reaches : (v : View) → steps.represents old v → steps.answers_tell old new → MayCommit v → (w : View) × steps.represents new w × Reaches v reply w

@@ -51,6 +51,6 @@ module _ {P : Type 0} (steps : Ghosts P) where
     pub safe : view.pools view.committed ≡ c.safe
     pub goes_on : MayGoOn device.refused view device.number device.pending device.held
 
-  -- whatever the pool had, where the disks answered truly it has become this
+  -- whatever the pool had, where what the disks answered tells what was written it has become this
   abbrev pub Leads : Device P → Device P → (Contents → Contents → Type 0) → Type 0
-  Leads old new becomes = (c : Contents) → Shows old c → steps.answers_truly old.core new.core → (d : Contents) × Shows new d × becomes c d
+  Leads old new becomes = (c : Contents) → Shows old c → steps.answers_tell old.core new.core → (d : Contents) × Shows new d × becomes c d

@@ -7,7 +7,7 @@ use pool_model::{Reply, Step};
 use pool_steps::PoolSteps;
 
 /// Closes the open group, which nobody holds, and commits it: the last reply. `Committed` says that it is committed. Where
-/// the disks answer truly, a reply that is no refusal either comes only after 2^64 steps.
+/// what the disks answer tells what was written, a reply that is no refusal either comes only after 2^64 steps.
 pub(crate) fn commit<P: PoolSteps>(core: &mut P, timestamp: u64) -> Reply
     ensures { Commits P.PoolSteps core.old result core.new }
 {

@@ -20,7 +20,7 @@ returns-then-is_refused-2-clause-changes g c =
     let held = c.take_step-held in
     let taken = c.take_step-taken in
     changes p t laws.is_sound c.args.pool.now c.args.item taken.result taken.new.self
-    (begins p t laws.came_further laws.parts_are_true c.args.pool.now (Hold 1) c.args.item (Release 1 ∷ Close ∷ []) held.result held.new.self taken.result taken.new.self c.is_refused.result c.is_refused.ensures c.if-is_refused.false held.ensures.follows held.ensures.goes
+    (begins p t laws.came_further laws.parts_tell c.args.pool.now (Hold 1) c.args.item (Release 1 ∷ Close ∷ []) held.result held.new.self taken.result taken.new.self c.is_refused.result c.is_refused.ensures c.if-is_refused.false held.ensures.follows held.ensures.goes
     (stops p t held.new.self c.args.item (Release 1 ∷ Close ∷ []) taken.result taken.new.self c.is_refused-2.result c.is_refused-2.ensures c.if-is_refused-2.true taken.ensures.follows taken.ensures.goes))
 
 pub returns-then-is_refused-3-clause-changes : goal.returns-then-is_refused-3-clause-changes
@@ -34,8 +34,8 @@ returns-then-is_refused-3-clause-changes g c =
     let last = released.result in
     let new = released.new.self in
     changes p t laws.is_sound c.args.pool.now c.args.item last new
-    (begins p t laws.came_further laws.parts_are_true c.args.pool.now (Hold 1) c.args.item (Release 1 ∷ Close ∷ []) held.result held.new.self last new c.is_refused.result c.is_refused.ensures c.if-is_refused.false held.ensures.follows held.ensures.goes
-    (begins p t laws.came_further laws.parts_are_true held.new.self c.args.item (Release 1) (Close ∷ []) taken.result taken.new.self last new c.is_refused-2.result c.is_refused-2.ensures c.if-is_refused-2.false taken.ensures.follows taken.ensures.goes
+    (begins p t laws.came_further laws.parts_tell c.args.pool.now (Hold 1) c.args.item (Release 1 ∷ Close ∷ []) held.result held.new.self last new c.is_refused.result c.is_refused.ensures c.if-is_refused.false held.ensures.follows held.ensures.goes
+    (begins p t laws.came_further laws.parts_tell held.new.self c.args.item (Release 1) (Close ∷ []) taken.result taken.new.self last new c.is_refused-2.result c.is_refused-2.ensures c.if-is_refused-2.false taken.ensures.follows taken.ensures.goes
     (stops p t taken.new.self (Release 1) (Close ∷ []) last new c.is_refused-3.result c.is_refused-3.ensures c.if-is_refused-3.true released.ensures.follows released.ensures.goes)))
 
 pub returns-clause-changes : goal.returns-clause-changes
@@ -49,6 +49,6 @@ returns-clause-changes g c =
     let last = c.run_on.result in
     let new = c.run_on.new.pool in
     changes p t laws.is_sound c.args.pool.now c.args.item last new
-    (begins p t laws.came_further laws.parts_are_true c.args.pool.now (Hold 1) c.args.item (Release 1 ∷ Close ∷ []) held.result held.new.self last new c.is_refused.result c.is_refused.ensures c.if-is_refused.false held.ensures.follows held.ensures.goes
-    (begins p t laws.came_further laws.parts_are_true held.new.self c.args.item (Release 1) (Close ∷ []) taken.result taken.new.self last new c.is_refused-2.result c.is_refused-2.ensures c.if-is_refused-2.false taken.ensures.follows taken.ensures.goes
-    (begins p t laws.came_further laws.parts_are_true taken.new.self (Release 1) Close [] released.result released.new.self last new c.is_refused-3.result c.is_refused-3.ensures c.if-is_refused-3.false released.ensures.follows released.ensures.goes c.run_on.ensures)))
+    (begins p t laws.came_further laws.parts_tell c.args.pool.now (Hold 1) c.args.item (Release 1 ∷ Close ∷ []) held.result held.new.self last new c.is_refused.result c.is_refused.ensures c.if-is_refused.false held.ensures.follows held.ensures.goes
+    (begins p t laws.came_further laws.parts_tell held.new.self c.args.item (Release 1) (Close ∷ []) taken.result taken.new.self last new c.is_refused-2.result c.is_refused-2.ensures c.if-is_refused-2.false taken.ensures.follows taken.ensures.goes
+    (begins p t laws.came_further laws.parts_tell taken.new.self (Release 1) Close [] released.result released.new.self last new c.is_refused-3.result c.is_refused-3.ensures c.if-is_refused-3.false released.ensures.follows released.ensures.goes c.run_on.ensures)))

@@ -8,7 +8,7 @@ loop-init g c = runs_one g.P.PoolSteps c.args.timestamp c.args.pool.now c.args.s
 pub loop-preserved : goal.loop-preserved
 loop-preserved g c =
     let taken = c.take_step-reply-in-loop in
-    runs_more g.P.PoolSteps c.args.timestamp g.met.P.PoolSteps.came_further g.met.P.PoolSteps.parts_are_true c.args.pool.now c.args.step c.loop.reply (c.loop.counter + 1) c.loop.pool c.in-Some.step taken.result taken.new.self
+    runs_more g.P.PoolSteps c.args.timestamp g.met.P.PoolSteps.came_further g.met.P.PoolSteps.parts_tell c.args.pool.now c.args.step c.loop.reply (c.loop.counter + 1) c.loop.pool c.in-Some.step taken.result taken.new.self
     c.in-Some.ensures taken.ensures.follows taken.ensures.goes c.loop.invariant
 
 pub returns-in_default : goal.returns-in_default

@@ -30,7 +30,7 @@ loop-number-preserved g c =
     let after = g.W.Write.contents c.print.new.output in
     let poured = subst (λ n. PouredSoFar g.P.PoolSteps old c.loop-number.device n before (g.W.Write.contents c.loop-number.output)) so_far c.loop-number.invariant in
     subst (λ n. PouredSoFar g.P.PoolSteps old c.read.new.self n before after) next
-    (poured_more g.P.PoolSteps g.met.P.PoolSteps.parts_are_true g.met.P.PoolSteps.came_further old c.loop-number.device c.read.new.self at c.min.result before (g.W.Write.contents c.loop-number.output) after c.in-Ok.bytes.items
+    (poured_more g.P.PoolSteps g.met.P.PoolSteps.parts_tell g.met.P.PoolSteps.came_further old c.loop-number.device c.read.new.self at c.min.result before (g.W.Write.contents c.loop-number.output) after c.in-Ok.bytes.items
     poured c.read.ensures.follows c.read.ensures.name c.in-Ok.ensures.read (subst (Appends (g.W.Write.contents c.loop-number.output) after) c.as_slice.ensures.value c.in-Ok-print.ensures))
 
 pub returns-in-Err-clause-follows : goal.returns-in-Err-clause-follows
@@ -40,7 +40,7 @@ pub returns-in-Err-clause-stopped : goal.returns-in-Err-clause-stopped
 returns-in-Err-clause-stopped g c =
     let n = min c.args.size (c.loop-number.number * 2 ^ 20) in (
       n,
-      poured_still g.P.PoolSteps g.met.P.PoolSteps.parts_are_true c.args.device.now c.loop-number.device c.read.new.self n (g.W.Write.contents c.args.output.now) (g.W.Write.contents c.loop-number.output)
+      poured_still g.P.PoolSteps g.met.P.PoolSteps.parts_tell c.args.device.now c.loop-number.device c.read.new.self n (g.W.Write.contents c.args.output.now) (g.W.Write.contents c.loop-number.output)
           c.loop-number.invariant c.read.ensures.follows c.in-Err.ensures.refused,
     )
 

@@ -14,7 +14,7 @@ returns-in-Err-clause-stopped g c =
 
 pub returns-in-Err-write-clause-stopped : goal.returns-in-Err-write-clause-stopped
 returns-in-Err-write-clause-stopped g c =
-    in_part g.P.PoolSteps c.parts_are_one.ensures.fits c.parts_are_one.ensures.now g.met.P.PoolSteps.parts_are_true g.met.P.PoolSteps.came_further c.args.device.now c.loop.device c.write.new.self c.loop.at
+    in_part g.P.PoolSteps c.parts_are_one.ensures.fits c.parts_are_one.ensures.now g.met.P.PoolSteps.parts_tell g.met.P.PoolSteps.came_further c.args.device.now c.loop.device c.write.new.self c.loop.at
     (g.R.Read.remaining c.args.input.now) (g.R.Read.remaining c.loop.input) (g.R.Read.remaining c.next_piece.new.input) c.loop.invariant c.write.ensures.follows
     (cut_commits_none g.P.PoolSteps c.loop.device c.write.new.self (name_of c.loop.device) c.loop.at c.as_slice.result.now c.in-Err-write.ensures.refused)
 
@@ -27,7 +27,7 @@ returns-then-len-lt-PIECE-clause-taken g c =
     let count : length piece ≡ c.len.result = ap length (sym c.as_slice.ensures.value) ∙ (c.as_slice.ensures.len ∙ sym c.len.ensures) in
     let few : length piece < 2 ^ 20 = omega (arith, count, c.if-len-lt-PIECE.true) in
     all_taken g.P.PoolSteps c.args.device.now c.write.new.self (c.loop.at + length piece) a after
-    (taken_more g.P.PoolSteps c.parts_are_one.ensures.fits c.parts_are_one.ensures.now g.met.P.PoolSteps.parts_are_true g.met.P.PoolSteps.came_further c.args.device.now c.loop.device c.write.new.self c.loop.at a b after c.loop.invariant
+    (taken_more g.P.PoolSteps c.parts_are_one.ensures.fits c.parts_are_one.ensures.now g.met.P.PoolSteps.parts_tell g.met.P.PoolSteps.came_further c.args.device.now c.loop.device c.write.new.self c.loop.at a b after c.loop.invariant
     c.write.ensures.follows piece c.in-Ok.ensures.piece.consumed c.write.ensures.name (subst (λ l. Leads g.P.PoolSteps c.loop.device c.write.new.self (IsWritten (name_of c.loop.device) c.loop.at l)) c.as_slice.ensures.value c.in-Ok-write.ensures.written))
     (c.in-Ok.ensures.piece.last few)
 
@@ -38,7 +38,7 @@ returns-in_default-clause-stopped g c =
     let after = g.R.Read.remaining c.next_piece.new.input in
     let piece = c.in-Ok.piece.items in
     taken_part g.P.PoolSteps c.args.device.now c.write.new.self (c.loop.at + length piece) a after
-    (taken_more g.P.PoolSteps c.parts_are_one.ensures.fits c.parts_are_one.ensures.now g.met.P.PoolSteps.parts_are_true g.met.P.PoolSteps.came_further c.args.device.now c.loop.device c.write.new.self c.loop.at a b after c.loop.invariant
+    (taken_more g.P.PoolSteps c.parts_are_one.ensures.fits c.parts_are_one.ensures.now g.met.P.PoolSteps.parts_tell g.met.P.PoolSteps.came_further c.args.device.now c.loop.device c.write.new.self c.loop.at a b after c.loop.invariant
     c.write.ensures.follows piece c.in-Ok.ensures.piece.consumed c.write.ensures.name (subst (λ l. Leads g.P.PoolSteps c.loop.device c.write.new.self (IsWritten (name_of c.loop.device) c.loop.at l)) c.as_slice.ensures.value c.in-Ok-write.ensures.written))
 
 pub loop-preserved : goal.loop-preserved
@@ -50,7 +50,7 @@ loop-preserved g c =
     let count : length piece ≡ c.len-in-loop.result = ap length (sym c.as_slice.ensures.value) ∙ (c.as_slice.ensures.len ∙ sym c.len-in-loop.ensures) in
     let next : c.loop.at + length piece ≡ c.in-Some.next = ap (λ n. c.loop.at + n) count ∙ sym c.in-Some.ensures.1 in
     subst (λ n. TakenSoFar g.P.PoolSteps c.args.device.now c.write.new.self n a after) next
-    (taken_more g.P.PoolSteps c.parts_are_one.ensures.fits c.parts_are_one.ensures.now g.met.P.PoolSteps.parts_are_true g.met.P.PoolSteps.came_further c.args.device.now c.loop.device c.write.new.self c.loop.at a b after c.loop.invariant
+    (taken_more g.P.PoolSteps c.parts_are_one.ensures.fits c.parts_are_one.ensures.now g.met.P.PoolSteps.parts_tell g.met.P.PoolSteps.came_further c.args.device.now c.loop.device c.write.new.self c.loop.at a b after c.loop.invariant
     c.write.ensures.follows piece c.in-Ok.ensures.piece.consumed c.write.ensures.name (subst (λ l. Leads g.P.PoolSteps c.loop.device c.write.new.self (IsWritten (name_of c.loop.device) c.loop.at l)) c.as_slice.ensures.value c.in-Ok-write.ensures.written))
 
 pub returns-clause-stopped : goal.returns-clause-stopped

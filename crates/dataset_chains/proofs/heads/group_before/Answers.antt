@@ -13,17 +13,17 @@ returns-in_err-before-clause-refused g c =
 pub returns-in_err-before-clause-known : goal.returns-in_err-before-clause-known
 returns-in_err-before-clause-known g c =
     passed_on _ _ _ c.from_residual.ensures.1
-    (λ stored known group objects own blocks pool readings held are honest spells number before.
+    (λ stored known group objects own blocks pool readings held are tell spells number before.
     let has = before_there known group objects pool readings c.args.changes.now spells number c.args.dataset.now.previous before c.if-dataset-eq0.false in
-    c.in_err-before.ensures.known stored objects own blocks held are honest has.behind has.r has.has)
+    c.in_err-before.ensures.known stored objects own blocks held are tell has.behind has.r has.has)
 
 pub returns-clause-value : goal.returns-clause-value
-returns-clause-value g c = λ stored known group objects own blocks pool readings held are honest spells.
+returns-clause-value g c = λ stored known group objects own blocks pool readings held are tell spells.
     let old = c.args.changes.now in
     let new = c.record.new.self in
     let found = c.in_ok-before.before in
     let n = c.args.dataset.now.previous in
-    let value = c.in_ok-before.ensures.value stored objects own blocks held are honest spells.over in (
+    let value = c.in_ok-before.ensures.value stored objects own blocks held are tell spells.over in (
       read_on known group objects pool readings old new n found c.in_ok-before.ensures.kept c.record.ensures.lists value spells,
       group_of_read known group objects pool readings old new n found c.in_ok-before.ensures.kept c.record.ensures.lists value spells,
     )

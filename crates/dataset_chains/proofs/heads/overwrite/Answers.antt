@@ -6,7 +6,7 @@ use Rattle.meta_objset.specs.declared.record.DatasetRecord.{DatasetRecord}
 use Rattle.dataset_chains.specs.Refused.{HasKnown}
 use Rattle.dead_list.specs.Blocks.{IsSplit}
 use Rattle.dead_list.specs.Datasets.{group_before}
-use Rattle.dnode_tree.proofs.FurtherReads.{true_before, true_after}
+use Rattle.dnode_tree.proofs.FurtherReads.{told_before, told_after}
 use Rattle.dnode_tree.proofs.Refusing.{caused_by_pointer, passed_on}
 use Rattle.dataset_chains.proofs.Chained.{alone_kept, objects_on, one_set_on}
 use Rattle.dataset_chains.proofs.FittingBlocks.{head_fits, left_misfit, no_misfit}
@@ -48,7 +48,7 @@ returns-in_err-expect_rows-clause-refused g c =
 pub returns-in_err-expect_rows-clause-known : goal.returns-in_err-expect_rows-clause-known
 returns-in_err-expect_rows-clause-known g c =
     passed_on _ _ _ c.from_residual-in_err-expect_rows.ensures.1
-    (λ stored known group objects own blocks pool readings held are honest spells head of_head.
+    (λ stored known group objects own blocks pool readings held are tell spells head of_head.
     absurd (no_misfit _ c.in_ok-older.older.items c.args.head.now.left.items _ c.deref-2.ensures.value
     (subst (λ (left : List Block). All (Contains left) c.in_ok-older.older.items) c.deref.ensures.value c.in_ok-older.ensures.within) c.in_err-expect_rows.ensures.refused
     (pool.datasets c.args.head.now.number).blocks (head_fits known group objects c.args.changes.now pool readings c.args.head.now.number spells head) of_head))
@@ -61,13 +61,13 @@ returns-in_err-since-clause-refused g c =
 pub returns-in_err-since-clause-known : goal.returns-in_err-since-clause-known
 returns-in_err-since-clause-known g c =
     passed_on _ _ _ c.from_residual-in_err-since.ensures.1
-    (λ stored known group objects own blocks pool readings held are honest spells head of_head.
+    (λ stored known group objects own blocks pool readings held are tell spells head of_head.
     let r1 = c.record_of_kind.ensures.reads in
     let r2 = c.group_before.ensures.reads in
-    let first = c.in_ok-dataset.ensures.value stored known group objects own blocks pool readings held are (true_before _ _ _ _ r1 r2 honest) spells in
+    let first = c.in_ok-dataset.ensures.value stored known group objects own blocks pool readings held are (told_before _ _ _ _ r1 r2 tell) spells in
     let it = head_read known group objects pool readings c.record_of_kind.new.changes c.args.head.now.number c.in_ok-dataset.dataset first.0 first.1 head in
     c.in_err-since.ensures.known stored known group objects own blocks pool readings (r1.keeps stored held)
-    (objects_on stored objects own blocks c.args.changes.now c.record_of_kind.new.changes c.record_of_kind.ensures.one_set are) (true_after _ _ _ _ r1 r2 honest) first.0 c.args.head.now.number it.before)
+    (objects_on stored objects own blocks c.args.changes.now c.record_of_kind.new.changes c.record_of_kind.ensures.one_set are) (told_after _ _ _ _ r1 r2 tell) first.0 c.args.head.now.number it.before)
 
 pub returns-in_err-add_to_list-clause-refused : goal.returns-in_err-add_to_list-clause-refused
 returns-in_err-add_to_list-clause-refused g c =
@@ -79,7 +79,7 @@ returns-in_err-add_to_list-clause-refused g c =
 pub returns-in_err-add_to_list-clause-known : goal.returns-in_err-add_to_list-clause-known
 returns-in_err-add_to_list-clause-known g c =
     passed_on _ _ _ c.from_residual-in_err-add_to_list.ensures.1
-    (λ stored known group objects own blocks pool readings held are honest spells head of_head.
+    (λ stored known group objects own blocks pool readings held are tell spells head of_head.
     let r1 = c.record_of_kind.ensures.reads in
     let r2 = c.group_before.ensures.reads in
     let r3 = c.add_to_list.ensures.reads in
@@ -90,18 +90,18 @@ returns-in_err-add_to_list-clause-known g c =
     let c1 = c.record_of_kind.new.changes in
     let c2 = c.group_before.new.changes in
     let c3 = c.change_record.new.self in
-    let early = true_before _ _ _ _ r12 r3 honest in
-    let first = c.in_ok-dataset.ensures.value stored known group objects own blocks pool readings held are (true_before _ _ _ _ r1 r2 early) spells in
+    let early = told_before _ _ _ _ r12 r3 tell in
+    let first = c.in_ok-dataset.ensures.value stored known group objects own blocks pool readings held are (told_before _ _ _ _ r1 r2 early) spells in
     let are1 = objects_on stored objects own blocks c0 c1 c.record_of_kind.ensures.one_set are in
-    let second = c.in_ok-since.ensures.value stored known group objects own blocks pool readings (r1.keeps stored held) are1 (true_after _ _ _ _ r1 r2 early) first.0 in
+    let second = c.in_ok-since.ensures.value stored known group objects own blocks pool readings (r1.keeps stored held) are1 (told_after _ _ _ _ r1 r2 early) first.0 in
     let alone = alone_kept objects c1 c2 h found c.in_ok-dataset.ensures.known_as c.in_ok-since.ensures.stays first.1 in
     let it = head_read known group objects pool readings c2 h found second.0 alone head in
     let are3 = objects_on stored objects own blocks c1 c3 (one_set_on c1 c2 c3 c.group_before.ensures.one_set c.change_record.ensures.one_set) are1 in
-    c.in_err-add_to_list.ensures.known stored objects own blocks (r12.keeps stored held) are3 (true_after _ _ _ _ r12 r3 honest) it.list_behind (pool.datasets h).dead
+    c.in_err-add_to_list.ensures.known stored objects own blocks (r12.keeps stored held) are3 (told_after _ _ _ _ r12 r3 tell) it.list_behind (pool.datasets h).dead
     (list_stays objects c2 c3 found.dead_list (pool.datasets h).dead (c.change_record.ensures.lists found.dead_list) it.dead))
 
 pub returns-clause-value : goal.returns-clause-value
-returns-clause-value g c = λ stored known later group objects own blocks pool readings r after entered reading held are honest more spells head writable entered_new set_is leads block_size size rewritten.
+returns-clause-value g c = λ stored known later group objects own blocks pool readings r after entered reading held are tell more spells head writable entered_new set_is leads block_size size rewritten.
     let r1 = c.record_of_kind.ensures.reads in
     let r2 = c.group_before.ensures.reads in
     let r3 = c.add_to_list.ensures.reads in
@@ -115,15 +115,15 @@ returns-clause-value g c = λ stored known later group objects own blocks pool r
     let c2 = c.group_before.new.changes in
     let c3 = c.change_record.new.self in
     let c4 = c.add_to_list.new.self in
-    let early = true_before _ _ _ _ r12 r3 honest in
-    let first = c.in_ok-dataset.ensures.value stored known group objects own blocks pool readings held are (true_before _ _ _ _ r1 r2 early) spells in
+    let early = told_before _ _ _ _ r12 r3 tell in
+    let first = c.in_ok-dataset.ensures.value stored known group objects own blocks pool readings held are (told_before _ _ _ _ r1 r2 early) spells in
     let are1 = objects_on stored objects own blocks c0 c1 c.record_of_kind.ensures.one_set are in
-    let second = c.in_ok-since.ensures.value stored known group objects own blocks pool readings (r1.keeps stored held) are1 (true_after _ _ _ _ r1 r2 early) first.0 in
+    let second = c.in_ok-since.ensures.value stored known group objects own blocks pool readings (r1.keeps stored held) are1 (told_after _ _ _ _ r1 r2 early) first.0 in
     let alone = alone_kept objects c1 c2 h found c.in_ok-dataset.ensures.known_as c.in_ok-since.ensures.stays first.1 in
     let it = head_read known group objects pool readings c2 h found second.0 alone head in
     let are3 = objects_on stored objects own blocks c1 c3 (one_set_on c1 c2 c3 c.group_before.ensures.one_set c.change_record.ensures.one_set) are1 in
     let over3 = c.in_ok-change_record.ensures.over objects found second.0.over ((alone found).1 refl) in
-    let third = c.in_ok-add_to_list.ensures.value stored objects own blocks (r12.keeps stored held) are3 (true_after _ _ _ _ r12 r3 honest) over3 (pool.datasets h).dead
+    let third = c.in_ok-add_to_list.ensures.value stored objects own blocks (r12.keeps stored held) are3 (told_after _ _ _ _ r12 r3 tell) over3 (pool.datasets h).dead
     (list_stays objects c2 c3 found.dead_list (pool.datasets h).dead (c.change_record.ensures.lists found.dead_list) it.dead) in
     let parts = c.in_ok-older.ensures.parts in
     let gone = parts.0 in
@@ -172,8 +172,8 @@ returns-clause-kept g c =
 pub returns-in_err-dataset-clause-known : goal.returns-in_err-dataset-clause-known
 returns-in_err-dataset-clause-known g c =
     passed_on _ _ _ c.from_residual.ensures.1
-    (λ stored known group objects own blocks pool readings held are honest spells head of_head.
-    c.in_err-dataset.ensures.known stored known group objects own blocks pool readings held are honest spells head)
+    (λ stored known group objects own blocks pool readings held are tell spells head of_head.
+    c.in_err-dataset.ensures.known stored known group objects own blocks pool readings held are tell spells head)
 
 pub returns-in_err-dataset-clause-caused : goal.returns-in_err-dataset-clause-caused
 returns-in_err-dataset-clause-caused g c = passed_on _ _ _ c.from_residual.ensures.1 c.in_err-dataset.ensures.caused

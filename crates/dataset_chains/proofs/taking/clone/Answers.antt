@@ -8,23 +8,23 @@ use Rattle.dataset_chains.proofs.taking.clone.Goals as goal
 pub returns-in_err-origin-clause-known : goal.returns-in_err-origin-clause-known
 returns-in_err-origin-clause-known g c =
     passed_on _ _ _ c.from_residual.ensures.1
-    (λ stored known objects own blocks pool readings held are honest spells snapshot.
-    inl (c.in_err-origin.ensures.known stored known c.args.group objects own blocks pool readings held are honest spells snapshot))
+    (λ stored known objects own blocks pool readings held are tell spells snapshot.
+    inl (c.in_err-origin.ensures.known stored known c.args.group objects own blocks pool readings held are tell spells snapshot))
 
 pub returns-in_default-clause-known : goal.returns-in_default-clause-known
-returns-in_default-clause-known g c = λ stored known objects own blocks pool readings held are honest spells snapshot.
+returns-in_default-clause-known g c = λ stored known objects own blocks pool readings held are tell spells snapshot.
     let full : c.in_ok-origin.origin.clones ≡ 2 ^ 64 - 1 = search rules in
     inr (refl, (c.in_ok-origin.origin, c.in_ok-origin.ensures.known_as, full))
 
 pub returns-clause-value : goal.returns-clause-value
-returns-clause-value g c = λ stored known objects own blocks pool readings held are honest spells snapshot unused fresh.
+returns-clause-value g c = λ stored known objects own blocks pool readings held are tell spells snapshot unused fresh.
     let n = c.args.numbers.dataset in
     let list = c.args.numbers.dead_list in
     let s = c.args.snapshot in
     let found = c.in_ok-origin.origin in
     let c0 = c.args.changes.now in
     let c1 = c.record_of_kind.new.changes in
-    let first = c.in_ok-origin.ensures.value stored known c.args.group objects own blocks pool readings held are honest spells in
+    let first = c.in_ok-origin.ensures.value stored known c.args.group objects own blocks pool readings held are tell spells in
     let over2 = c.in_ok-change_record.ensures.over objects found first.0.over ((first.1 found).1 refl) in
     let over = c.in_ok-make_list.ensures.over objects (c.in_ok-make_record.ensures.over objects over2 fresh.no_object.0) fresh.no_object.1 in
     cloned known c.args.group objects c1 pool readings first.0 s n list c.in-Some.clones found first.1 snapshot unused (new_list_on objects c0 c1 n list c.record_of_kind.ensures.lists fresh) (search rules)

@@ -1,6 +1,6 @@
 use Rattle.std.proofs.Common.{⊎_elim, inl, inr, sym, ℕ, subst, ◌∙◌}
 use Rattle.block_store.proofs.Steps.{reads_on}
-use Rattle.dnode_tree.proofs.FurtherReads.{true_before, true_after}
+use Rattle.dnode_tree.proofs.FurtherReads.{told_before, told_after}
 use Rattle.dnode_tree.proofs.Refusing.{passed_on}
 use Rattle.dataset_chains.specs.Passing.{IsNextPassed}
 use Rattle.dataset_chains.proofs.Chained.{objects_on}
@@ -13,7 +13,7 @@ use Rattle.block_store.proofs.Causes.{caused_behind_reads}
 use Rattle.dataset_chains.proofs.taking.snapshot.Goals as goal
 
 pub returns-clause-value : goal.returns-clause-value
-returns-clause-value g c = λ stored known objects own blocks pool readings held are honest spells head unused fresh.
+returns-clause-value g c = λ stored known objects own blocks pool readings held are tell spells head unused fresh.
     let group = c.args.group in
     let n = c.args.numbers.dataset in
     let list = c.args.numbers.dead_list in
@@ -24,9 +24,9 @@ returns-clause-value g c = λ stored known objects own blocks pool readings held
     let c2 = c.pass_next.new.changes in
     let r1 = c.record_of_kind.ensures.reads in
     let r2 = c.pass_next.ensures.reads in
-    let first = c.in_ok-dataset.ensures.value stored known group objects own blocks pool readings held are (true_before _ _ _ _ r1 r2 honest) spells in
+    let first = c.in_ok-dataset.ensures.value stored known group objects own blocks pool readings held are (told_before _ _ _ _ r1 r2 tell) spells in
     let second = c.in_ok-pass_next.ensures.value stored objects own blocks (r1.keeps stored held) (objects_on stored objects own blocks c0 c1 c.record_of_kind.ensures.one_set are)
-    (true_after _ _ _ _ r1 r2 honest) first.0.over in
+    (told_after _ _ _ _ r1 r2 tell) first.0.over in
     let it = head_read known group objects pool readings c1 h found first.0 first.1 head in
     let passed = subst (λ (before : ℕ). IsNextPassed objects c1 c2 before h n) (sym it.before) second.1 in
     let news = new_list_on objects c0 c1 n list c.record_of_kind.ensures.lists fresh in
@@ -42,8 +42,8 @@ returns-clause-value g c = λ stored known objects own blocks pool readings held
 pub returns-in_err-dataset-clause-known : goal.returns-in_err-dataset-clause-known
 returns-in_err-dataset-clause-known g c =
     passed_on _ _ _ c.from_residual.ensures.1
-    (λ stored known objects own blocks pool readings held are honest spells head.
-    c.in_err-dataset.ensures.known stored known c.args.group objects own blocks pool readings held are honest spells head)
+    (λ stored known objects own blocks pool readings held are tell spells head.
+    c.in_err-dataset.ensures.known stored known c.args.group objects own blocks pool readings held are tell spells head)
 
 pub returns-in_err-pass_next-clause-reads : goal.returns-in_err-pass_next-clause-reads
 returns-in_err-pass_next-clause-reads g c = reads_on _ _ _ _ c.record_of_kind.ensures.reads c.pass_next.ensures.reads
@@ -68,14 +68,14 @@ returns-in_err-pass_next-clause-refused g c =
 pub returns-in_err-pass_next-clause-known : goal.returns-in_err-pass_next-clause-known
 returns-in_err-pass_next-clause-known g c =
     passed_on _ _ _ c.from_residual-in_err-pass_next.ensures.1
-    (λ stored known objects own blocks pool readings held are honest spells head.
+    (λ stored known objects own blocks pool readings held are tell spells head.
     let r1 = c.record_of_kind.ensures.reads in
     let r2 = c.pass_next.ensures.reads in
     let group = c.args.group in
-    let first = c.in_ok-dataset.ensures.value stored known group objects own blocks pool readings held are (true_before _ _ _ _ r1 r2 honest) spells in
+    let first = c.in_ok-dataset.ensures.value stored known group objects own blocks pool readings held are (told_before _ _ _ _ r1 r2 tell) spells in
     let it = head_read known group objects pool readings c.record_of_kind.new.changes c.args.head c.in_ok-dataset.dataset first.0 first.1 head in
     c.in_err-pass_next.ensures.known stored known group objects own blocks pool readings (r1.keeps stored held)
-    (objects_on stored objects own blocks c.args.changes.now c.record_of_kind.new.changes c.record_of_kind.ensures.one_set are) (true_after _ _ _ _ r1 r2 honest) first.0 c.args.head it.before)
+    (objects_on stored objects own blocks c.args.changes.now c.record_of_kind.new.changes c.record_of_kind.ensures.one_set are) (told_after _ _ _ _ r1 r2 tell) first.0 c.args.head it.before)
 
 pub returns-clause-touched : goal.returns-clause-touched
 returns-clause-touched g c =

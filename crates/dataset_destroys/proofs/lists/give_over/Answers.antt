@@ -13,7 +13,7 @@ returns-in_err-dead-clause-refused g c = passed_on _ _ _ c.from_residual.ensures
 pub returns-in_err-dead-clause-known : goal.returns-in_err-dead-clause-known
 returns-in_err-dead-clause-known g c =
     passed_on _ _ _ c.from_residual.ensures.1 (λ stored objects dead own told over apart from into has_dead has_own.
-    c.in_err-dead.ensures.known stored objects told.own told.blocks told.held told.are told.honest into dead has_dead)
+    c.in_err-dead.ensures.known stored objects told.own told.blocks told.held told.are told.tell into dead has_dead)
 
 pub returns-in_err-own-clause-reads : goal.returns-in_err-own-clause-reads
 returns-in_err-own-clause-reads g c = reads_on _ _ _ _ c.in_ok-dead.ensures.reads c.in_err-own.ensures.reads
@@ -30,7 +30,7 @@ returns-in_err-own-clause-known g c =
     let place = c.args.place.now in
     passed_on _ _ _ c.from_residual-in_err-own.ensures.1 (λ stored objects dead own told over apart from into has_dead has_own.
     let later = tells_rest _ _ _ _ c.take_list.new.self _ _ c.in_ok-dead.ensures.one_set first rest told in
-    c.in_err-own.ensures.known stored objects later.own later.blocks later.held later.are later.honest from own
+    c.in_err-own.ensures.known stored objects later.own later.blocks later.held later.are later.tell from own
     (still_there objects c.args.changes.now c.take_list.new.self place.gone.dead_list place.after.dead_list apart c.in_ok-dead.ensures.taken own has_own))
 
 pub returns-in_err-merged-clause-reads : goal.returns-in_err-merged-clause-reads
@@ -49,9 +49,9 @@ returns-clause-value g c = λ stored objects dead own told over apart has_dead h
     let first = c.take_list.new.self in
     let second = c.take_list-2.new.self in
     let told_first = tells_first _ _ _ _ _ _ c.in_ok-dead.ensures.reads c.in_ok-own.ensures.reads told in
-    let one = c.in_ok-dead.ensures.value stored objects told_first.own told_first.blocks told_first.held told_first.are told_first.honest over in
+    let one = c.in_ok-dead.ensures.value stored objects told_first.own told_first.blocks told_first.held told_first.are told_first.tell over in
     let later = tells_rest _ _ _ _ first _ _ c.in_ok-dead.ensures.one_set c.in_ok-dead.ensures.reads c.in_ok-own.ensures.reads told in
-    let two = c.in_ok-own.ensures.value stored objects later.own later.blocks later.held later.are later.honest one.0 in
+    let two = c.in_ok-own.ensures.value stored objects later.own later.blocks later.held later.are later.tell one.0 in
     let has_own_first = still_there objects old first place.gone.dead_list place.after.dead_list apart c.in_ok-dead.ensures.taken own has_own in
     let parts = c.in_ok-merged.ensures.value in
     let empty = emptied objects old first second c.put_list.new.self place.gone.dead_list place.after.dead_list apart c.in_ok-dead.ensures.taken c.in_ok-own.ensures.taken in (

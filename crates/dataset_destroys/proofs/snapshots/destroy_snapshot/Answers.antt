@@ -11,8 +11,8 @@ use Rattle.dataset_destroys.proofs.snapshots.destroy_snapshot.Goals as goal
 
 pub returns-in_err-place-clause-known : goal.returns-in_err-place-clause-known
 returns-in_err-place-clause-known g c =
-    passed_on _ _ _ c.from_residual.ensures.1 (λ stored known group objects own blocks pool readings held are honest spells may.
-    c.in_err-place.ensures.known stored known group objects pool readings (record { own = own; blocks = blocks; held = held; are = are; honest = honest }) spells may)
+    passed_on _ _ _ c.from_residual.ensures.1 (λ stored known group objects own blocks pool readings held are tell spells may.
+    c.in_err-place.ensures.known stored known group objects pool readings (record { own = own; blocks = blocks; held = held; are = are; tell = tell }) spells may)
 
 pub returns-in_err-give_over-clause-reads : goal.returns-in_err-give_over-clause-reads
 returns-in_err-give_over-clause-reads g c = reads_on _ _ _ _ c.in_ok-place.ensures.reads c.in_err-give_over.ensures.reads
@@ -28,8 +28,8 @@ pub returns-in_err-give_over-clause-known : goal.returns-in_err-give_over-clause
 returns-in_err-give_over-clause-known g c =
     let first = c.in_ok-place.ensures.reads in
     let rest = c.in_err-give_over.ensures.reads in
-    passed_on _ _ _ c.from_residual-in_err-give_over.ensures.1 (λ stored known group objects own blocks pool readings held are honest spells may.
-    let told : TellsObjects c.args.store.now c.give_over.new.store c.args.changes.now stored objects = record { own = own; blocks = blocks; held = held; are = are; honest = honest } in
+    passed_on _ _ _ c.from_residual-in_err-give_over.ensures.1 (λ stored known group objects own blocks pool readings held are tell spells may.
+    let told : TellsObjects c.args.store.now c.give_over.new.store c.args.changes.now stored objects = record { own = own; blocks = blocks; held = held; are = are; tell = tell } in
     let it = c.in_ok-place.ensures.value stored objects (tells_first _ _ _ c.args.changes.now stored objects first rest told) spells.over in
     let gone = gone_as known group objects c.args.changes.now pool readings spells c.args.snapshot may c.in_ok-place.place c.in_ok-place.ensures.number it.1 in
     let after = after_as known group objects c.args.changes.now pool readings spells c.args.snapshot may c.in_ok-place.place c.in_ok-place.ensures.number it.1 in
@@ -46,7 +46,7 @@ returns-in_err-link_past-clause-refused g c = passed_on _ _ _ c.from_residual-in
 
 pub returns-in_err-link_past-clause-known : goal.returns-in_err-link_past-clause-known
 returns-in_err-link_past-clause-known g c =
-    passed_on _ _ _ c.from_residual-in_err-link_past.ensures.1 (λ stored known group objects own blocks pool readings held are honest spells may. inl refl)
+    passed_on _ _ _ c.from_residual-in_err-link_past.ensures.1 (λ stored known group objects own blocks pool readings held are tell spells may. inl refl)
 
 pub returns-in_err-free_list-clause-reads : goal.returns-in_err-free_list-clause-reads
 returns-in_err-free_list-clause-reads g c = reads_on _ _ _ _ c.in_ok-place.ensures.reads c.in_ok-give_over.ensures.reads
@@ -60,7 +60,7 @@ returns-in_err-free_list-clause-refused g c =
 
 pub returns-in_err-free_list-clause-known : goal.returns-in_err-free_list-clause-known
 returns-in_err-free_list-clause-known g c =
-    passed_on _ _ _ c.from_residual-in_err-free_list.ensures.1 (λ stored known group objects own blocks pool readings held are honest spells may.
+    passed_on _ _ _ c.from_residual-in_err-free_list.ensures.1 (λ stored known group objects own blocks pool readings held are tell spells may.
     elim c.in_err-free_list.ensures.refused [
       | inl memory ↦ inl memory
       | inr number ↦ absurd (number.1 c.in_ok-give_over.ensures.number)
@@ -70,13 +70,13 @@ pub returns-clause-reads : goal.returns-clause-reads
 returns-clause-reads g c = reads_on _ _ _ _ c.in_ok-place.ensures.reads c.in_ok-give_over.ensures.reads
 
 pub returns-clause-value : goal.returns-clause-value
-returns-clause-value g c = λ stored known group objects own blocks pool readings held are honest spells may.
+returns-clause-value g c = λ stored known group objects own blocks pool readings held are tell spells may.
     let first = c.in_ok-place.ensures.reads in
     let rest = c.in_ok-give_over.ensures.reads in
     let old = c.args.changes.now in
     let place = c.in_ok-place.place in
     let number = c.in_ok-place.ensures.number in
-    let told : TellsObjects c.args.store.now c.give_over.new.store c.args.changes.now stored objects = record { own = own; blocks = blocks; held = held; are = are; honest = honest } in
+    let told : TellsObjects c.args.store.now c.give_over.new.store c.args.changes.now stored objects = record { own = own; blocks = blocks; held = held; are = are; tell = tell } in
     let it = c.in_ok-place.ensures.value stored objects (tells_first _ _ _ old stored objects first rest told) spells.over in
     let gone = gone_as known group objects old pool readings spells c.args.snapshot may place number it.1 in
     let after = after_as known group objects old pool readings spells c.args.snapshot may place number it.1 in
@@ -103,11 +103,11 @@ returns-clause-touched g c =
     c.in_ok-link_past.ensures.lists c.in_ok-free_list.ensures.put c.in_ok-free_list.ensures.records
 
 pub returns-clause-own_lists : goal.returns-clause-own_lists
-returns-clause-own_lists g c = λ stored known group objects own blocks pool readings held are honest spells may.
+returns-clause-own_lists g c = λ stored known group objects own blocks pool readings held are tell spells may.
     let old = c.args.changes.now in
     let place = c.in_ok-place.place in
     let number = c.in_ok-place.ensures.number in
-    let told : TellsObjects c.args.store.now c.give_over.new.store old stored objects = record { own = own; blocks = blocks; held = held; are = are; honest = honest } in
+    let told : TellsObjects c.args.store.now c.give_over.new.store old stored objects = record { own = own; blocks = blocks; held = held; are = are; tell = tell } in
     let it = c.in_ok-place.ensures.value stored objects (tells_first _ _ _ old stored objects c.in_ok-place.ensures.reads c.in_ok-give_over.ensures.reads told) spells.over in
     let gone = gone_as known group objects old pool readings spells c.args.snapshot may place number it.1 in
     let after = after_as known group objects old pool readings spells c.args.snapshot may place number it.1 in

@@ -4,11 +4,11 @@ use Rattle.dataset_destroys.proofs.younger.counted_set.Goals as goal
 
 pub returns-in_err-set-clause-known : goal.returns-in_err-set-clause-known
 returns-in_err-set-clause-known g c =
-    passed_on _ _ _ c.from_residual.ensures.1 (λ stored other held is kind some honest. c.in_err-set.ensures.known stored other held is honest)
+    passed_on _ _ _ c.from_residual.ensures.1 (λ stored other held is kind some tell. c.in_err-set.ensures.known stored other held is tell)
 
 pub returns-then-not-is_of_volume-clause-known : goal.returns-then-not-is_of_volume-clause-known
-returns-then-not-is_of_volume-clause-known g c = λ stored other held is kind some honest.
-    let same : c.in_ok-set.set ≡ other = c.in_ok-set.ensures.value stored other held is honest in
+returns-then-not-is_of_volume-clause-known g c = λ stored other held is kind some tell.
+    let same : c.in_ok-set.set ≡ other = c.in_ok-set.ensures.value stored other held is tell in
     let no : false ≡ true = c.if-not-is_of_volume.ensures.1 (ap (λ set. set.kind) same ∙ kind) in
     absurd (true≢false (sym no))
 

@@ -2,7 +2,7 @@ use Rattle.std.proofs.Common.{◌≡◌, ◌⊎◌, inl, inr, ⊎_elim, List, re
 use Rattle.block_store.proofs.Steps.{reads_on}
 use Rattle.block_store.specs.Spaces.{VdevSpace}
 use Rattle.block_store.specs.declared.refusal.Refusal.{Refusal}
-use Rattle.dnode_tree.proofs.FurtherReads.{true_before, true_after}
+use Rattle.dnode_tree.proofs.FurtherReads.{told_before, told_after}
 use Rattle.dnode_tree.proofs.Refusing.{passed_on}
 use Rattle.object_table.proofs.Tables.{spaces_stay}
 use Rattle.pool_maps.proofs.Staying.{short_maps_there}
@@ -46,7 +46,7 @@ returns-in_err-directory-clause-cause g c =
 
 pub returns-in_err-directory-clause-known : goal.returns-in_err-directory-clause-known
 returns-in_err-directory-clause-known g c =
-    passed_on _ _ _ c.from_residual.ensures.1 (λ stored pool held is mapped once long honest. lossy c.in_err-directory.field-0.0 (c.in_err-directory.ensures.known stored pool held is honest))
+    passed_on _ _ _ c.from_residual.ensures.1 (λ stored pool held is mapped once long tell. lossy c.in_err-directory.field-0.0 (c.in_err-directory.ensures.known stored pool held is tell))
 
 -- ---- the names
 
@@ -73,10 +73,10 @@ pub returns-in_err-names-clause-known : goal.returns-in_err-names-clause-known
 returns-in_err-names-clause-known g c =
     let first = c.in_ok-directory.ensures.reads in
     let rest = c.in_err-names.ensures.reads in
-    passed_on _ _ _ c.from_residual-in_err-names.ensures.1 (λ stored pool held is mapped once long honest.
+    passed_on _ _ _ c.from_residual-in_err-names.ensures.1 (λ stored pool held is mapped once long tell.
     lossy c.in_err-names.field-0.0
-    (c.in_err-names.ensures.known stored pool (first.keeps stored held) is (c.in_ok-directory.ensures.value stored pool held is (true_before _ _ _ _ first rest honest))
-    (true_after _ _ _ _ first rest honest)))
+    (c.in_err-names.ensures.known stored pool (first.keeps stored held) is (c.in_ok-directory.ensures.value stored pool held is (told_before _ _ _ _ first rest tell))
+    (told_after _ _ _ _ first rest tell)))
 
 -- ---- the meta object set
 
@@ -104,8 +104,8 @@ pub returns-in_err-meta-clause-known : goal.returns-in_err-meta-clause-known
 returns-in_err-meta-clause-known g c =
     let both = reads_on _ _ _ _ c.in_ok-directory.ensures.reads c.in_ok-names.ensures.reads in
     let third = c.in_err-meta.ensures.reads in
-    passed_on _ _ _ c.from_residual-in_err-meta.ensures.1 (λ stored pool held is mapped once long honest.
-    lossy c.in_err-meta.field-0.0 (c.in_err-meta.ensures.known stored pool (both.keeps stored held) is once long (true_after _ _ _ _ both third honest)))
+    passed_on _ _ _ c.from_residual-in_err-meta.ensures.1 (λ stored pool held is mapped once long tell.
+    lossy c.in_err-meta.field-0.0 (c.in_err-meta.ensures.known stored pool (both.keeps stored held) is once long (told_after _ _ _ _ both third tell)))
 
 -- ---- the space maps
 
@@ -139,10 +139,10 @@ returns-in_err-maps-clause-known g c =
     let all = reads_on _ _ _ _ both c.in_ok-meta.ensures.reads in
     let last = c.in_err-maps.ensures.reads in
     let unchanged = sym (spaces_stay _ _ _ all) in
-    passed_on _ _ _ c.from_residual-in_err-maps.ensures.1 (λ stored pool held is mapped once long honest.
-    let before = true_before _ _ _ _ all last honest in
-    let same = c.in_ok-meta.ensures.value stored pool (both.keeps stored held) is (true_after _ _ _ _ both c.in_ok-meta.ensures.reads before) in
-    c.in_err-maps.ensures.known stored is.objects is.own is.blocks (all.keeps stored held) (are_of_root stored _ _ pool _ is same.0) (true_after _ _ _ _ all last honest) mapped.maps.maps mapped.maps.table
+    passed_on _ _ _ c.from_residual-in_err-maps.ensures.1 (λ stored pool held is mapped once long tell.
+    let before = told_before _ _ _ _ all last tell in
+    let same = c.in_ok-meta.ensures.value stored pool (both.keeps stored held) is (told_after _ _ _ _ both c.in_ok-meta.ensures.reads before) in
+    c.in_err-maps.ensures.known stored is.objects is.own is.blocks (all.keeps stored held) (are_of_root stored _ _ pool _ is same.0) (told_after _ _ _ _ all last tell) mapped.maps.maps mapped.maps.table
     (subst (λ (spaces : List VdevSpace). AreRowsOf spaces mapped.maps.maps) unchanged mapped.maps.rows)
     (subst (λ (spaces : List VdevSpace). HaveMaps is.objects spaces mapped.maps.maps) unchanged (short_maps_there is.objects _ mapped.maps.maps mapped.maps.short)))
 
@@ -187,12 +187,12 @@ returns-in_err-spans-clause-known g c =
     let all = reads_on _ _ _ _ both third in
     let maps = reads_on _ _ _ _ all c.in_ok-maps.ensures.reads in
     let last = c.in_err-spans.ensures.reads in
-    passed_on _ _ _ c.from_residual-in_err-spans.ensures.1 (λ stored pool held is mapped once long honest.
-    let before_maps = true_before _ _ _ _ all c.in_ok-maps.ensures.reads (true_before _ _ _ _ maps last honest) in
-    let same = c.in_ok-meta.ensures.value stored pool (both.keeps stored held) is (true_after _ _ _ _ both third before_maps) in
+    passed_on _ _ _ c.from_residual-in_err-spans.ensures.1 (λ stored pool held is mapped once long tell.
+    let before_maps = told_before _ _ _ _ all c.in_ok-maps.ensures.reads (told_before _ _ _ _ maps last tell) in
+    let same = c.in_ok-meta.ensures.value stored pool (both.keeps stored held) is (told_after _ _ _ _ both third before_maps) in
     lossy c.in_err-spans.field-0.0
     (⊎_elim (λ loss. loss) (λ none. absurd (none.1 is.stale is.spans))
-    (c.in_err-spans.ensures.known stored is.objects is.own is.blocks (maps.keeps stored held) (are_of_root stored _ _ pool _ is same.0) (true_after _ _ _ _ maps last honest))))
+    (c.in_err-spans.ensures.known stored is.objects is.own is.blocks (maps.keeps stored held) (are_of_root stored _ _ pool _ is same.0) (told_after _ _ _ _ maps last tell))))
 
 -- ---- the numbers that are free
 
@@ -204,7 +204,7 @@ returns-in_err-kept-clause-reads g c =
 
 pub returns-in_err-kept-clause-known : goal.returns-in_err-kept-clause-known
 returns-in_err-kept-clause-known g c =
-    passed_on _ NoMemory _ c.from_residual-in_err-kept.ensures.1 (λ stored pool held is mapped once long honest. inl refl)
+    passed_on _ NoMemory _ c.from_residual-in_err-kept.ensures.1 (λ stored pool held is mapped once long tell. inl refl)
 
 -- ---- all of them
 
@@ -215,7 +215,7 @@ returns-clause-reads g c =
     reads_on _ _ _ _ maps c.in_ok-spans.ensures.reads
 
 pub returns-clause-value : goal.returns-clause-value
-returns-clause-value g c = λ stored pool held is honest.
+returns-clause-value g c = λ stored pool held is tell.
     let first = c.in_ok-directory.ensures.reads in
     let second = c.in_ok-names.ensures.reads in
     let both = reads_on _ _ _ _ first second in
@@ -224,19 +224,19 @@ returns-clause-value g c = λ stored pool held is honest.
     let last = c.in_ok-maps.ensures.reads in
     let maps = reads_on _ _ _ _ all last in
     let spans = c.in_ok-spans.ensures.reads in
-    let before_spans = true_before _ _ _ _ maps spans honest in
-    let before_maps = true_before _ _ _ _ all last before_spans in
-    let before = true_before _ _ _ _ both third before_maps in
-    let rows = c.in_ok-directory.ensures.value stored pool held is (true_before _ _ _ _ first second before) in
-    let meta = c.in_ok-meta.ensures.value stored pool (both.keeps stored held) is (true_after _ _ _ _ both third before_maps) in
+    let before_spans = told_before _ _ _ _ maps spans tell in
+    let before_maps = told_before _ _ _ _ all last before_spans in
+    let before = told_before _ _ _ _ both third before_maps in
+    let rows = c.in_ok-directory.ensures.value stored pool held is (told_before _ _ _ _ first second before) in
+    let meta = c.in_ok-meta.ensures.value stored pool (both.keeps stored held) is (told_after _ _ _ _ both third before_maps) in
     record {
       is = is;
       rows = c.in_ok-kept.ensures ∙ rows;
-      names = c.in_ok-names.ensures.value stored pool (first.keeps stored held) is rows (true_after _ _ _ _ first second before);
+      names = c.in_ok-names.ensures.value stored pool (first.keeps stored held) is rows (told_after _ _ _ _ first second before);
       blocks = meta.1;
       maps = subst (λ (spaces : List VdevSpace). AreReadMaps is.objects spaces c.in_ok-maps.maps.items) (spaces_stay _ _ _ all)
-          (c.in_ok-maps.ensures.value stored is.objects is.own is.blocks (all.keeps stored held) (are_of_root stored _ _ pool _ is meta.0) (true_after _ _ _ _ all last before_spans));
-      spans = c.in_ok-spans.ensures.one stored is.objects is.own is.blocks (maps.keeps stored held) (are_of_root stored _ _ pool _ is meta.0) (true_after _ _ _ _ maps spans honest) is.stale is.spans;
+          (c.in_ok-maps.ensures.value stored is.objects is.own is.blocks (all.keeps stored held) (are_of_root stored _ _ pool _ is meta.0) (told_after _ _ _ _ all last before_spans));
+      spans = c.in_ok-spans.ensures.one stored is.objects is.own is.blocks (maps.keeps stored held) (are_of_root stored _ _ pool _ is meta.0) (told_after _ _ _ _ maps spans tell) is.stale is.spans;
     }
 
 pub returns-clause-found : goal.returns-clause-found

@@ -1,6 +1,6 @@
 use Rattle.std.proofs.Common.{ℕ, Option, List, None, inl, inr, ⊎_elim, subst}
 use Rattle.block_store.proofs.Steps.{reads_none, reads_on}
-use Rattle.dnode_tree.proofs.FurtherReads.{true_before, true_after}
+use Rattle.dnode_tree.proofs.FurtherReads.{told_before, told_after}
 use Rattle.dnode_tree.proofs.Refusing.{passed_on}
 use Rattle.meta_objset.specs.declared.directory.DirectoryRow.{DirectoryRow}
 use Rattle.dataset_snapshots.specs.Finding.{IsNumberIn, IsRowOf}
@@ -11,7 +11,7 @@ pub returns-in_default-clause-reads : goal.returns-in_default-clause-reads
 returns-in_default-clause-reads g c = reads_none c.args.store.now c.args.missing.now
 
 pub returns-in_default-clause-value : goal.returns-in_default-clause-value
-returns-in_default-clause-value g c = λ stored pool held is same honest.
+returns-in_default-clause-value g c = λ stored pool held is same tell.
     let none = subst (λ (found : Option ℕ). IsNumberIn c.args.directory.now c.args.name.now found) c.in_default.is c.number_in.ensures in
     nothing_there stored _ _ pool c.args.name.now is (subst (λ (rows : List DirectoryRow). IsNumberIn rows c.args.name.now None) same none)
 
@@ -25,7 +25,7 @@ returns-in_err-set-clause-refused g c =
 
 pub returns-in_err-set-clause-known : goal.returns-in_err-set-clause-known
 returns-in_err-set-clause-known g c =
-    passed_on _ _ _ c.from_residual.ensures.1 (λ stored pool held is same honest. c.in_err-set.ensures.known stored is.set held is.is_set is.kind honest)
+    passed_on _ _ _ c.from_residual.ensures.1 (λ stored pool held is same tell. c.in_err-set.ensures.known stored is.set held is.is_set is.kind tell)
 
 pub returns-in_err-dataset-clause-reads : goal.returns-in_err-dataset-clause-reads
 returns-in_err-dataset-clause-reads g c = reads_on _ _ _ _ c.in_ok-set.ensures.reads c.in_err-dataset.ensures.reads
@@ -52,23 +52,23 @@ returns-in_err-dataset-clause-known g c =
     let second = c.in_err-dataset.ensures.reads in
     let row = subst (λ (found : Option ℕ). IsNumberIn c.args.directory.now c.args.name.now found) c.in-Some.is c.number_in.ensures in
     passed_on _ _ _ c.from_residual-in_err-dataset.ensures.1
-    (λ stored pool held is same honest.
-    let are = are_of_root stored _ _ pool _ is (c.in_ok-set.ensures.value stored is.set held is.is_set (true_before _ _ _ _ first second honest)) in
+    (λ stored pool held is same tell.
+    let are = are_of_root stored _ _ pool _ is (c.in_ok-set.ensures.value stored is.set held is.is_set (told_before _ _ _ _ first second tell)) in
     let there = record_there stored _ _ pool c.args.name.now c.in-Some.object is (subst (λ (rows : List DirectoryRow). IsRowOf rows c.args.name.now c.in-Some.object) same row) in
-    c.in_err-dataset.ensures.known stored is.objects is.own is.blocks there.0 (first.keeps stored held) are there.1 (true_after _ _ _ _ first second honest))
+    c.in_err-dataset.ensures.known stored is.objects is.own is.blocks there.0 (first.keeps stored held) are there.1 (told_after _ _ _ _ first second tell))
 
 pub returns-clause-reads : goal.returns-clause-reads
 returns-clause-reads g c = reads_on _ _ _ _ c.in_ok-set.ensures.reads c.in_ok-dataset.ensures.reads
 
 pub returns-clause-value : goal.returns-clause-value
-returns-clause-value g c = λ stored pool held is same honest.
+returns-clause-value g c = λ stored pool held is same tell.
     let first = c.in_ok-set.ensures.reads in
     let second = c.in_ok-dataset.ensures.reads in
     let row = subst (λ (found : Option ℕ). IsNumberIn c.args.directory.now c.args.name.now found) c.in-Some.is c.number_in.ensures in
-    let are = are_of_root stored _ _ pool _ is (c.in_ok-set.ensures.value stored is.set held is.is_set (true_before _ _ _ _ first second honest)) in
+    let are = are_of_root stored _ _ pool _ is (c.in_ok-set.ensures.value stored is.set held is.is_set (told_before _ _ _ _ first second tell)) in
     dataset_there stored _ _ pool c.args.name.now c.in_ok-dataset.dataset c.in-Some.object is (subst (λ (rows : List DirectoryRow). IsRowOf rows c.args.name.now c.in-Some.object) same row)
     c.in_ok-dataset.ensures.is
-    (λ r has. c.in_ok-dataset.ensures.value stored is.objects is.own is.blocks r (first.keeps stored held) are has (true_after _ _ _ _ first second honest))
+    (λ r has. c.in_ok-dataset.ensures.value stored is.objects is.own is.blocks r (first.keeps stored held) are has (told_after _ _ _ _ first second tell))
 
 pub returns-clause-found : goal.returns-clause-found
 returns-clause-found g c =

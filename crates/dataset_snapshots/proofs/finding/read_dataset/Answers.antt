@@ -8,11 +8,11 @@ returns-in_err-record-clause-refused g c = passed_on _ _ _ c.from_residual.ensur
 pub returns-in_err-record-clause-known : goal.returns-in_err-record-clause-known
 returns-in_err-record-clause-known g c =
     passed_on _ _ _ c.from_residual.ensures.1
-    (λ stored objects own blocks r held are has honest.
-    ⊎_elim (λ loss. loss) (λ bad. absurd (bad.1 r has)) (c.in_err-record.ensures.known stored objects own blocks held are honest))
+    (λ stored objects own blocks r held are has tell.
+    ⊎_elim (λ loss. loss) (λ bad. absurd (bad.1 r has)) (c.in_err-record.ensures.known stored objects own blocks held are tell))
 
 pub volume_of-requires : goal.volume_of-requires
 volume_of-requires g c = c.in_ok-record.ensures.found.spelled.0.record_is
 
 pub returns-clause-value : goal.returns-clause-value
-returns-clause-value g c = λ stored objects own blocks r held are has honest. c.in_ok-record.ensures.one stored objects own blocks held are honest r has
+returns-clause-value g c = λ stored objects own blocks r held are has tell. c.in_ok-record.ensures.one stored objects own blocks held are tell r has

@@ -1,7 +1,8 @@
 use Rattle.std.proofs.Common.{[], List, All, AllPairs, inl, refl, sym, ap, subst, ◌∙◌, ◌<◌, arith}
 use Rattle.std.specs.Prelude.{fold}
 use Rattle.std.proofs.lemmas.Result.{IfErr-weaker}
-use Rattle.block_store.proofs.Steps.{steps_on, steps_read, true_before, true_after}
+use Rattle.block_store.proofs.Steps.{steps_on, steps_read}
+use Rattle.block_store.proofs.Telling.{tell_before, tell_after}
 use Rattle.block_store.specs.Store.{Store}
 use Rattle.dataset_groups.specs.Groups.{SpellsGroup}
 use Rattle.dataset_groups.specs.NewVolumes.{AreGoodChanges}
@@ -28,8 +29,8 @@ use Rattle.dataset_snapshots.proofs.first_root.first_group.Goals as goal
 
 pub returns-in_err-datasets-clause-known : goal.returns-in_err-datasets-clause-known
 returns-in_err-datasets-clause-known g c =
-    passed_on _ _ _ c.from_residual.ensures.1 (λ stored planned plans unused honest good.
-    c.in_err-datasets.ensures.known stored planned plans honest (subst AreGoodChanges (sym c.made.ensures) good))
+    passed_on _ _ _ c.from_residual.ensures.1 (λ stored planned plans unused tell good.
+    c.in_err-datasets.ensures.known stored planned plans tell (subst AreGoodChanges (sym c.made.ensures) good))
 
 pub returns-in_err-datasets-clause-refused : goal.returns-in_err-datasets-clause-refused
 returns-in_err-datasets-clause-refused g c =
@@ -39,8 +40,8 @@ returns-in_err-datasets-clause-refused g c =
 
 pub returns-in_err-made-clause-known : goal.returns-in_err-made-clause-known
 returns-in_err-made-clause-known g c =
-    passed_on _ _ _ c.from_residual-in_err-made.ensures.1 (λ stored planned plans unused honest good.
-    let volumes = c.in_ok-datasets.ensures.value stored planned plans honest in
+    passed_on _ _ _ c.from_residual-in_err-made.ensures.1 (λ stored planned plans unused tell good.
+    let volumes = c.in_ok-datasets.ensures.value stored planned plans tell in
     first_datasets_known volumes.0 c.args.next.now.number c.in_ok-datasets.datasets volumes.3 volumes.4 _ _ c.in_ok-datasets.ensures.bounds volumes.5 c.in_err-made.ensures.refused)
 
 pub returns-in_err-made-clause-refused : goal.returns-in_err-made-clause-refused
@@ -57,16 +58,16 @@ returns-in_err-changes-clause-steps g c = steps_on _ _ _ _ c.in_ok-datasets.ensu
 pub returns-in_err-changes-clause-known : goal.returns-in_err-changes-clause-known
 returns-in_err-changes-clause-known g c =
     let made = c.in_ok-made.made in
-    passed_on _ _ _ c.from_residual-in_err-changes.ensures.1 (λ stored planned plans unused honest good.
+    passed_on _ _ _ c.from_residual-in_err-changes.ensures.1 (λ stored planned plans unused tell good.
     let steps = c.in_ok-datasets.ensures.steps in
     let volumes = c.in_ok-datasets.ensures.value stored planned plans
-    (true_before c.args.store.now c.first_volumes.new.store c.first_maps.new.store c.in_err-changes.ensures.reads.reads honest) in
+    (tell_before c.args.store.now c.first_volumes.new.store c.first_maps.new.store [] steps (steps_read _ _ _ c.in_err-changes.ensures.reads) tell) in
     let pool = fold (λ p a. pool_changed c.args.next.now.number p a.change) no_volumes c.made.result.now in
     inl (c.in_err-changes.ensures.known
     (first_of_others (config_view c.args.config.now) (stale_after c.args.next.now.spans []) c.in_ok-datasets.datasets made.changes.items c.in_ok-made.ensures.tables made.next
     c.in_ok-made.ensures.next volumes.0 c.args.next.now.number volumes.3 volumes.4 pool volumes.5)
     (unused_still c.args.store.now c.first_volumes.new.store steps unused)
-    (true_after c.args.store.now c.first_volumes.new.store c.first_maps.new.store steps.reads honest)))
+    (tell_after c.args.store.now c.first_volumes.new.store c.first_maps.new.store [] steps (steps_read _ _ _ c.in_err-changes.ensures.reads) tell)))
 
 pub returns-in_err-changes-clause-refused : goal.returns-in_err-changes-clause-refused
 returns-in_err-changes-clause-refused g c =
@@ -91,7 +92,7 @@ pub returns-clause-steps : goal.returns-clause-steps
 returns-clause-steps g c = steps_on _ _ _ _ c.in_ok-datasets.ensures.steps (steps_on _ _ _ _ (steps_read _ _ _ c.in_ok-changes.ensures.reads) c.in_ok-root.ensures.steps)
 
 pub returns-clause-value : goal.returns-clause-value
-returns-clause-value g c = λ stored planned plans unused honest.
+returns-clause-value g c = λ stored planned plans unused tell.
     let first : Store = c.args.store.now in
     let second : Store = c.first_volumes.new.store in
     let third : Store = c.first_maps.new.store in
@@ -103,16 +104,16 @@ returns-clause-value g c = λ stored planned plans unused honest.
     let steps = c.in_ok-datasets.ensures.steps in
     let reads = c.in_ok-changes.ensures.reads in
     let behind = steps_on second third last [] (steps_read second third [] reads) c.in_ok-root.ensures.steps in
-    let later_honest = true_after first second last steps.reads honest in
-    let volumes = c.in_ok-datasets.ensures.value stored planned plans (true_before first second last behind.reads honest) in
+    let later = tell_after first second last [] steps behind tell in
+    let volumes = c.in_ok-datasets.ensures.value stored planned plans (tell_before first second last [] steps behind tell) in
     let spells = subst (λ (pool : PlainPool). SpellsGroup volumes.0 c.args.next.now.number nothing datasets volumes.3 volumes.4 pool)
     (pool_first c.args.next.now.number (with_made c.args.items.now c.args.parted.now) c.made.result.now c.made.ensures) volumes.5 in
     let maps = c.in_ok-changes.ensures.value
     (first_of_others (config_view c.args.config.now) (stale_after c.args.next.now.spans []) datasets made.changes.items c.in_ok-made.ensures.tables made.next
     c.in_ok-made.ensures.next volumes.0 c.args.next.now.number volumes.3 volumes.4 (applied c.args.next.now.number no_volumes (with_made c.args.items.now c.args.parted.now)) spells)
-    (unused_still first second steps unused) (true_before second third last c.in_ok-root.ensures.steps.reads later_honest) in
+    (unused_still first second steps unused) (tell_before second third last [] (steps_read second third [] reads) c.in_ok-root.ensures.steps later) in
     let planned_root = c.in_ok-root.ensures.value stored volumes.0 0 nothing [] (λ number. []) (reads.plans stored volumes.0 volumes.1) (no_objects stored 0 empty_meta refl) (omega arith)
-    (true_after second third last reads.reads later_honest) in
+    (tell_after second third last [] (steps_read second third [] reads) c.in_ok-root.ensures.steps later) in
     let given : IsRootGiven volumes.0 planned_root.0 c.args.next.now.number root sets.Meta (changed whole nothing) (blocks_of_set empty_meta [] (λ number. [])) planned_root.4 =
     subst (λ (cs : List ObjectChange). IsRootGiven volumes.0 planned_root.0 c.args.next.now.number root sets.Meta (changed cs nothing) (blocks_of_set empty_meta [] (λ number. [])) planned_root.4)
     c.deref.ensures.value (planned_root.3, planned_root.6) in
@@ -141,17 +142,17 @@ returns-in_err-root-clause-known g c =
     let made = c.in_ok-made.made in
     let steps = c.in_ok-datasets.ensures.steps in
     let reads = c.in_ok-changes.ensures.reads in
-    passed_on _ _ _ c.from_residual-in_err-root.ensures.1 (λ stored planned plans unused honest good.
+    passed_on _ _ _ c.from_residual-in_err-root.ensures.1 (λ stored planned plans unused tell good.
     let behind = steps_on second third last [] (steps_read second third [] reads) c.in_err-root.ensures.steps in
-    let later_honest = true_after first second last steps.reads honest in
-    let volumes = c.in_ok-datasets.ensures.value stored planned plans (true_before first second last behind.reads honest) in
+    let later = tell_after first second last [] steps behind tell in
+    let volumes = c.in_ok-datasets.ensures.value stored planned plans (tell_before first second last [] steps behind tell) in
     let pool = fold (λ p a. pool_changed c.args.next.now.number p a.change) no_volumes c.made.result.now in
     let maps = c.in_ok-changes.ensures.value
     (first_of_others (config_view c.args.config.now) (stale_after c.args.next.now.spans []) c.in_ok-datasets.datasets made.changes.items c.in_ok-made.ensures.tables made.next
     c.in_ok-made.ensures.next volumes.0 c.args.next.now.number volumes.3 volumes.4 pool volumes.5)
-    (unused_still first second steps unused) (true_before second third last c.in_err-root.ensures.steps.reads later_honest) in
+    (unused_still first second steps unused) (tell_before second third last [] (steps_read second third [] reads) c.in_err-root.ensures.steps later) in
     c.in_err-root.ensures.known stored volumes.0 0 nothing [] (λ number. []) (reads.plans stored volumes.0 volumes.1) (no_objects stored 0 empty_meta refl) (omega arith) (omega arith)
-    (true_after second third last reads.reads later_honest)
+    (tell_after second third last [] (steps_read second third [] reads) c.in_err-root.ensures.steps later)
     (subst (All (λ (change : ObjectChange). MayChange change.change (nothing change.number))) (sym c.deref.ensures.value) maps.0))
 
 pub returns-clause-places : goal.returns-clause-places

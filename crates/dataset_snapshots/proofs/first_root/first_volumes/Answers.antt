@@ -12,13 +12,13 @@ use Rattle.dataset_snapshots.proofs.first_root.first_volumes.Goals as goal
 
 pub returns-in_err-act_all-clause-known : goal.returns-in_err-act_all-clause-known
 returns-in_err-act_all-clause-known g c =
-    passed_on _ _ _ c.from_residual.ensures.1 (λ stored planned plans honest good.
+    passed_on _ _ _ c.from_residual.ensures.1 (λ stored planned plans tell good.
     let group = c.args.group in
     let before = c.new-datasets.ensures in
     let begins = before.value planned group group nothing [] (λ number. []) (no_datasets group) no_readings no_volumes (no_objects planned group empty_meta refl) (chains_none planned group)
     (omega arith) (names_none group c.new.result c.new.ensures) in
     c.in_err-act_all.ensures.known stored planned nothing [] (λ number. []) (no_datasets group) no_readings no_volumes good plans
-    (first_objects stored c.new-datasets.result.changes before.of_set.0) honest begins)
+    (first_objects stored c.new-datasets.result.changes before.of_set.0) tell begins)
 
 pub returns-in_err-act_all-clause-refused : goal.returns-in_err-act_all-clause-refused
 returns-in_err-act_all-clause-refused g c =
@@ -28,14 +28,14 @@ returns-in_err-act_all-clause-refused g c =
     c.in_err-act_all.ensures.refused)
 
 pub returns-clause-value : goal.returns-clause-value
-returns-clause-value g c = λ stored planned plans honest.
+returns-clause-value g c = λ stored planned plans tell.
     let group = c.args.group in
     let before = c.new-datasets.ensures in
     let no_rows = before.directory ∙ c.new.ensures in
     let begins = before.value planned group group nothing [] (λ number. []) (no_datasets group) no_readings no_volumes (no_objects planned group empty_meta refl) (chains_none planned group)
     (omega arith) (names_none group c.new.result c.new.ensures) in
     let made = c.in_ok-act_all.ensures.value stored planned nothing [] (λ number. []) (no_datasets group) no_readings no_volumes plans
-    (first_objects stored c.new-datasets.result.changes before.of_set.0) honest begins in
+    (first_objects stored c.new-datasets.result.changes before.of_set.0) tell begins in
     let acted = made.3 in (
       made.0,
       made.1,

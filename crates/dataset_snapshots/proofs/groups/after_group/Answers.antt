@@ -1,7 +1,8 @@
 use Rattle.std.proofs.Common.{◌-◌, ◌≤◌, ◌++◌, [], List, ap, sym, subst, ◌∙◌, refl, arith, ◌≡◌, ◌∷◌, inl}
 use Rattle.std.specs.Prelude.{All}
 use Rattle.std.proofs.lemmas.Result.{IfErr-weaker}
-use Rattle.block_store.proofs.Steps.{steps_on, steps_read, true_before, true_after}
+use Rattle.block_store.proofs.Steps.{steps_on, steps_read}
+use Rattle.block_store.proofs.Telling.{tell_after, tell_before}
 use Rattle.dnode_tree.proofs.Losses.{loss_in_plan}
 use Rattle.dnode_tree.proofs.Refusing.{passed_on}
 use Rattle.objset.specs.declared.changes.ObjectChange.{ObjectChange}
@@ -36,8 +37,8 @@ returns-in_err-opened-clause-steps g c = steps_read _ _ _ c.in_err-opened.ensure
 
 pub returns-in_err-opened-clause-known : goal.returns-in_err-opened-clause-known
 returns-in_err-opened-clause-known g c =
-    passed_on _ _ _ c.from_residual.ensures.1 (λ stored planned pool plans is same maps stands honest may good.
-    loss_in_plan _ (c.in_err-opened.ensures.known stored pool plans.held is same may (few_blocks c.args.store.now stored planned plans (omega (arith, c.vdev_count-vdevs.ensures.count, c.vdev_count-vdevs.ensures.few)) _ c.args.root.now pool is) honest))
+    passed_on _ _ _ c.from_residual.ensures.1 (λ stored planned pool plans is same maps stands tell may good.
+    loss_in_plan _ (c.in_err-opened.ensures.known stored pool plans.held is same may (few_blocks c.args.store.now stored planned plans (omega (arith, c.vdev_count-vdevs.ensures.count, c.vdev_count-vdevs.ensures.few)) _ c.args.root.now pool is) tell))
 
 pub mapped_changes-requires-clause-opened : goal.mapped_changes-requires-clause-opened
 mapped_changes-requires-clause-opened g c = (c.args.items.now.writes, c.in_ok-opened.ensures.opened)
@@ -52,9 +53,9 @@ returns-in_err-made-clause-known g c =
     let mid : Store = c.mapped_changes.new.store in
     let first = c.in_ok-opened.ensures.reads in
     let unchanged : old.spaces ≡ read.spaces = sym (ap (λ (s : Store). s.spaces) first.rest) in
-    passed_on _ _ _ c.from_residual-in_err-made.ensures.1 (λ stored planned pool plans is same maps stands honest may good.
-    let before = true_before old read mid c.mapped_changes.ensures.steps.reads honest in
-    let after = true_after old read mid first.reads honest in
+    passed_on _ _ _ c.from_residual-in_err-made.ensures.1 (λ stored planned pool plans is same maps stands tell may good.
+    let before = tell_before old read mid [] (steps_read old read [] first) c.mapped_changes.ensures.steps tell in
+    let after = tell_after old read mid [] (steps_read old read [] first) c.mapped_changes.ensures.steps tell in
     let early = c.in_ok-opened.ensures.early in
     c.in_err-made.ensures.known stored planned _ c.args.root.now pool _ (first.plans stored planned plans) is c.args.parted.now.destroyed refl (omega (arith, early)) c.in_ok-opened.ensures.opened
     (c.in_ok-opened.ensures.value stored pool plans.held is same may before) (subst (λ (spaces : List VdevSpace). AreMapsOf is.objects spaces filled) unchanged maps.maps)
@@ -75,17 +76,17 @@ returns-clause-value g c =
     let both = steps_on old read mid [] (steps_read old read [] first) second in
     let root = c.in_ok-root.root in
     let gone : List Block = c.mapped_changes.new.gone.items in
-    λ stored planned pool plans is same maps may honest.
-    let so_far = true_before old mid new c.plan_root.ensures.steps.reads honest in
+    λ stored planned pool plans is same maps may tell.
+    let so_far = tell_before old mid new [] both c.plan_root.ensures.steps tell in
     let early = c.in_ok-opened.ensures.early in
     let below : c.args.root.now.birth < c.args.next.now.number = omega (arith, early) in
     let le : c.args.root.now.birth ≤ c.args.next.now.number = omega (arith, below) in
-    let from = c.in_ok-opened.ensures.value stored pool plans.held is same may (true_before old read mid second.reads so_far) in
+    let from = c.in_ok-opened.ensures.value stored pool plans.held is same may (tell_before old read mid [] (steps_read old read [] first) second so_far) in
     let changes = c.in_ok-made.ensures.value stored planned _ c.args.root.now pool _ (first.plans stored planned plans) is c.args.parted.now.destroyed refl below c.in_ok-opened.ensures.opened from
-    (subst (λ (spaces : List VdevSpace). AreMapsOf is.objects spaces filled) unchanged maps.maps) (true_after old read mid first.reads so_far) in
+    (subst (λ (spaces : List VdevSpace). AreMapsOf is.objects spaces filled) unchanged maps.maps) (tell_after old read mid [] (steps_read old read [] first) second so_far) in
     let are = subst (λ (s : ObjectSet). AreObjects stored c.args.root.now.birth s is.objects is.own is.blocks) (sym from.set) is.are in
     let made = c.in_ok-root.ensures.value stored changes.0 c.args.root.now.birth is.objects is.own is.blocks changes.1 are le
-    (true_after old mid new both.reads honest) in
+    (tell_after old mid new [] both c.plan_root.ensures.steps tell) in
     let list : List ObjectChange = c.in_ok-made.made.changes.items in
     let before : List Block = volume_blocks_of is in
     let after : PlainPool = all_destroyed c.args.parted.now.destroyed pool in
@@ -116,17 +117,17 @@ returns-in_err-root-clause-known g c =
     let second = c.in_ok-made.ensures.steps in
     let unchanged : old.spaces ≡ read.spaces = sym (ap (λ (s : Store). s.spaces) first.rest) in
     let both = steps_on old read mid [] (steps_read old read [] first) second in
-    passed_on _ _ _ c.from_residual-in_err-root.ensures.1 (λ stored planned pool plans is same maps stands honest may good.
-    let so_far = true_before old mid new c.plan_root.ensures.steps.reads honest in
+    passed_on _ _ _ c.from_residual-in_err-root.ensures.1 (λ stored planned pool plans is same maps stands tell may good.
+    let so_far = tell_before old mid new [] both c.plan_root.ensures.steps tell in
     let early = c.in_ok-opened.ensures.early in
     let below : c.args.root.now.birth < c.args.next.now.number = omega (arith, early) in
     let le : c.args.root.now.birth ≤ c.args.next.now.number = omega (arith, below) in
-    let from = c.in_ok-opened.ensures.value stored pool plans.held is same may (true_before old read mid second.reads so_far) in
+    let from = c.in_ok-opened.ensures.value stored pool plans.held is same may (tell_before old read mid [] (steps_read old read [] first) second so_far) in
     let changes = c.in_ok-made.ensures.value stored planned _ c.args.root.now pool _ (first.plans stored planned plans) is c.args.parted.now.destroyed refl below c.in_ok-opened.ensures.opened from
-    (subst (λ (spaces : List VdevSpace). AreMapsOf is.objects spaces filled) unchanged maps.maps) (true_after old read mid first.reads so_far) in
+    (subst (λ (spaces : List VdevSpace). AreMapsOf is.objects spaces filled) unchanged maps.maps) (tell_after old read mid [] (steps_read old read [] first) second so_far) in
     let are = subst (λ (s : ObjectSet). AreObjects stored c.args.root.now.birth s is.objects is.own is.blocks) (sym from.set) is.are in
     c.in_err-root.ensures.known stored changes.0 c.args.root.now.birth is.objects is.own is.blocks changes.1 are (omega arith) le
-    (true_after old mid new both.reads honest)
+    (tell_after old mid new [] both c.plan_root.ensures.steps tell)
     (subst (All (λ (change : ObjectChange). MayChange change.change (is.objects change.number))) (sym c.deref-2.ensures.value) changes.3.may))
 
 pub returns-in_err-opened-clause-refused : goal.returns-in_err-opened-clause-refused
@@ -186,15 +187,15 @@ returns-in_err-extend_from_slice-clause-steps g c = steps_on _ _ _ _ (steps_read
 
 pub returns-in_err-replaced-clause-known : goal.returns-in_err-replaced-clause-known
 returns-in_err-replaced-clause-known g c =
-    passed_on _ NoMemory _ c.from_residual-in_err-replaced.ensures.1 (λ stored planned pool plans is same maps stands honest may good. inl (inl refl))
+    passed_on _ NoMemory _ c.from_residual-in_err-replaced.ensures.1 (λ stored planned pool plans is same maps stands tell may good. inl (inl refl))
 
 pub returns-in_err-extend_from_slice-clause-known : goal.returns-in_err-extend_from_slice-clause-known
 returns-in_err-extend_from_slice-clause-known g c =
-    passed_on _ NoMemory _ c.from_residual-in_err-extend_from_slice.ensures.1 (λ stored planned pool plans is same maps stands honest may good. inl (inl refl))
+    passed_on _ NoMemory _ c.from_residual-in_err-extend_from_slice.ensures.1 (λ stored planned pool plans is same maps stands tell may good. inl (inl refl))
 
 pub returns-in_err-directory-clause-steps : goal.returns-in_err-directory-clause-steps
 returns-in_err-directory-clause-steps g c = steps_on _ _ _ _ (steps_on _ _ _ _ (steps_read _ _ _ c.in_ok-opened.ensures.reads) c.in_ok-made.ensures.steps) c.plan_root.ensures.steps
 
 pub returns-in_err-directory-clause-known : goal.returns-in_err-directory-clause-known
 returns-in_err-directory-clause-known g c =
-    passed_on _ NoMemory _ c.from_residual-in_err-directory.ensures.1 (λ stored planned pool plans is same maps stands honest may good. inl (inl refl))
+    passed_on _ NoMemory _ c.from_residual-in_err-directory.ensures.1 (λ stored planned pool plans is same maps stands tell may good. inl (inl refl))

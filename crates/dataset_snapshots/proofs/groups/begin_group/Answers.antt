@@ -9,7 +9,7 @@ use Rattle.dataset_groups.specs.declared.datasets.NumberBounds.{NumberBounds}
 use Rattle.dataset_groups.specs.Names.{NamesPool}
 use Rattle.dataset_groups.specs.Writing.{numbers_of}
 use Rattle.dnode.specs.declared.object_set.ObjectSet.{ObjectSet}
-use Rattle.dnode_tree.proofs.FurtherReads.{true_before, true_after}
+use Rattle.dnode_tree.proofs.FurtherReads.{told_before, told_after}
 use Rattle.dnode_tree.proofs.Refusing.{passed_on}
 use Rattle.meta_objset.specs.declared.directory.DirectoryRow.{DirectoryRow}
 use Rattle.object_table.proofs.Tables.{spaces_stay}
@@ -27,7 +27,7 @@ use Rattle.dataset_snapshots.proofs.groups.begin_group.Goals as goal
 
 pub returns-in_err-set-clause-known : goal.returns-in_err-set-clause-known
 returns-in_err-set-clause-known g c =
-    passed_on _ _ _ c.from_residual-in_err-set.ensures.1 (λ stored pool held is same honest. c.in_err-set.ensures.known stored is.set held is.is_set is.kind honest)
+    passed_on _ _ _ c.from_residual-in_err-set.ensures.1 (λ stored pool held is same tell. c.in_err-set.ensures.known stored is.set held is.is_set is.kind tell)
 
 pub read_written-requires-clause-rows : goal.read_written-requires-clause-rows
 read_written-requires-clause-rows g c =
@@ -48,13 +48,13 @@ returns-in_err-written-clause-known g c =
     let first = c.in_ok-set.ensures.reads in
     let second = c.in_err-written.ensures.reads in
     passed_on _ _ _ c.from_residual-in_err-written.ensures.1
-    (λ stored pool held is same honest.
+    (λ stored pool held is same tell.
     let birth = c.args.root.now.birth in
-    let set = c.in_ok-set.ensures.value stored is.set held is.is_set (true_before _ _ _ _ first second honest) in
+    let set = c.in_ok-set.ensures.value stored is.set held is.is_set (told_before _ _ _ _ first second tell) in
     c.in_err-written.ensures.known stored is.objects is.own is.blocks pool.volumes (first.keeps stored held)
     (subst (λ (s : ObjectSet). AreObjects stored birth s is.objects is.own is.blocks) (sym (c.new-datasets.ensures.of_set.0 ∙ set)) is.are)
     (subst (λ (rows : List DirectoryRow). AllZip (SpellsDataset stored birth is.objects) rows pool.volumes) (sym (c.new-datasets.ensures.directory ∙ (c.in_ok-directory.ensures ∙ same))) (volumes_of is))
-    (true_after _ _ _ _ first second honest))
+    (told_after _ _ _ _ first second tell))
 
 pub returns-in_err-written-clause-refused : goal.returns-in_err-written-clause-refused
 returns-in_err-written-clause-refused g c =
@@ -90,18 +90,18 @@ returns-clause-begun g c =
     }
 
 pub returns-clause-value : goal.returns-clause-value
-returns-clause-value g c = λ stored pool held is same honest.
+returns-clause-value g c = λ stored pool held is same tell.
     let first = c.in_ok-set.ensures.reads in
     let second = c.in_ok-written.ensures.reads in
     let kept = c.in_ok-written.ensures.kept in
     let birth = c.args.root.now.birth in
     let writes : List Write = c.args.items.now.writes in
     let objects : List ℕ = c.in_ok-objects.objects.items in
-    let set = c.in_ok-set.ensures.value stored is.set held is.is_set (true_before _ _ _ _ first second honest) in
+    let set = c.in_ok-set.ensures.value stored is.set held is.is_set (told_before _ _ _ _ first second tell) in
     let by_rows = c.in_ok-directory.ensures ∙ same in
     let are = subst (λ (s : ObjectSet). AreObjects stored birth s is.objects is.own is.blocks) (sym set) is.are in
     let read = c.in_ok-written.ensures.value stored is.objects is.own is.blocks (first.keeps stored held)
-    (subst (λ (s : ObjectSet). AreObjects stored birth s is.objects is.own is.blocks) (sym c.new-datasets.ensures.of_set.0) are) (true_after _ _ _ _ first second honest) in
+    (subst (λ (s : ObjectSet). AreObjects stored birth s is.objects is.own is.blocks) (sym c.new-datasets.ensures.of_set.0) are) (told_after _ _ _ _ first second tell) in
     record {
       set = set;
       born = kept.one_set.1 ∙ c.new-datasets.ensures.of_set.1;

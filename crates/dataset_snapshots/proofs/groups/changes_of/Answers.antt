@@ -3,7 +3,8 @@ use Rattle.std.proofs.lemmas.List.{append_assoc}
 use Rattle.std.specs.Prelude.{fold}
 use Rattle.std.proofs.lemmas.Result.{IfErr-weaker, IfOk-weaker}
 use Rattle.block_pointer.specs.declared.block.Block.{Block}
-use Rattle.block_store.proofs.Steps.{steps_none, steps_on, true_before, true_after}
+use Rattle.block_store.proofs.Steps.{steps_none, steps_on}
+use Rattle.block_store.proofs.Telling.{tell_after, tell_before}
 use Rattle.dataset_groups.specs.declared.datasets.GroupDatasets.{GroupDatasets}
 use Rattle.dataset_groups.specs.Groups.{next_behind}
 use Rattle.dataset_groups.specs.Leaving.{IsReachExchanged}
@@ -45,10 +46,10 @@ returns-in_err-append-clause-steps g c = steps_none _ _
 pub returns-in_err-write_all-clause-known : goal.returns-in_err-write_all-clause-known
 returns-in_err-write_all-clause-known g c =
     passed_on _ _ _ c.from_residual-in_err-write_all.ensures.1
-    (λ stored planned birth root pool writes plans is destroyed lt opens from honest good.
+    (λ stored planned birth root pool writes plans is destroyed lt opens from tell good.
     let after : PlainPool = all_destroyed destroyed pool in
     let it = begun stored planned birth c.args.group.now.number root pool is destroyed writes c.args.opened (λ block bytes known. plans.kept block bytes known) opens from in
-    c.in_err-write_all.ensures.known stored planned root.birth is.objects is.own is.blocks from.datasets is.readings after writes plans it.0 honest (omega (arith, lt)) it.1 it.2)
+    c.in_err-write_all.ensures.known stored planned root.birth is.objects is.own is.blocks from.datasets is.readings after writes plans it.0 tell (omega (arith, lt)) it.1 it.2)
 
 pub returns-in_err-write_all-clause-refused : goal.returns-in_err-write_all-clause-refused
 returns-in_err-write_all-clause-refused g c = passed_on _ _ _ c.from_residual-in_err-write_all.ensures.1 (inr (inl c.in_err-write_all.ensures.refused))
@@ -59,14 +60,14 @@ returns-in_err-act_all-clause-steps g c = steps_on _ _ _ _ c.write_all.ensures.s
 pub returns-in_err-act_all-clause-known : goal.returns-in_err-act_all-clause-known
 returns-in_err-act_all-clause-known g c =
     passed_on _ _ _ c.from_residual-in_err-act_all.ensures.1
-    (λ stored planned birth root pool writes plans is destroyed lt opens from honest good.
+    (λ stored planned birth root pool writes plans is destroyed lt opens from tell good.
     let after : PlainPool = all_destroyed destroyed pool in
     let it = begun stored planned birth c.args.group.now.number root pool is destroyed writes c.args.opened (λ block bytes known. plans.kept block bytes known) opens from in
     let placed = c.in_ok-write_all.ensures.value stored planned root.birth is.objects is.own is.blocks from.datasets is.readings after writes plans it.0
-    (true_before c.args.store.now c.write_all.new.store c.act_all.new.store c.act_all.ensures.steps.reads honest) (omega (arith, lt)) it.1 it.2 in
+    (tell_before c.args.store.now c.write_all.new.store c.act_all.new.store [] c.write_all.ensures.steps c.act_all.ensures.steps tell) (omega (arith, lt)) it.1 it.2 in
     c.in_err-act_all.ensures.known stored placed.0 is.objects is.own is.blocks placed.3 placed.4 (fold written after writes) good placed.1
     (objects_still stored c.args.opened.datasets.changes c.write_all.new.self.changes is.objects is.own is.blocks c.write_all.ensures.one_set it.0)
-    (true_after c.args.store.now c.write_all.new.store c.act_all.new.store c.write_all.ensures.steps.reads honest) placed.5)
+    (tell_after c.args.store.now c.write_all.new.store c.act_all.new.store [] c.write_all.ensures.steps c.act_all.ensures.steps tell) placed.5)
 
 pub returns-in_err-act_all-clause-refused : goal.returns-in_err-act_all-clause-refused
 returns-in_err-act_all-clause-refused g c =
@@ -86,14 +87,14 @@ returns-clause-value g c =
     let new : GroupDatasets = c.act_all.new.self in
     let group = c.args.group.now.number in
     let freed : List Block = c.args.opened.freed.items in
-    IfOk-weaker c.with_directory.result _ _ (λ all both stored planned birth root pool writes plans is destroyed lt opens from honest.
+    IfOk-weaker c.with_directory.result _ _ (λ all both stored planned birth root pool writes plans is destroyed lt opens from tell.
     let after : PlainPool = all_destroyed destroyed pool in
     let it = begun stored planned birth group root pool is destroyed writes c.args.opened (λ block bytes known. plans.kept block bytes known) opens from in
     let placed = c.in_ok-write_all.ensures.value stored planned root.birth is.objects is.own is.blocks from.datasets is.readings after writes plans it.0
-    (true_before c.args.store.now c.write_all.new.store c.act_all.new.store c.act_all.ensures.steps.reads honest) (omega (arith, lt)) it.1 it.2 in
+    (tell_before c.args.store.now c.write_all.new.store c.act_all.new.store [] c.write_all.ensures.steps c.act_all.ensures.steps tell) (omega (arith, lt)) it.1 it.2 in
     let made = c.in_ok-act_all.ensures.value stored placed.0 is.objects is.own is.blocks placed.3 placed.4 (fold written after writes) placed.1
     (objects_still stored old.changes mid.changes is.objects is.own is.blocks c.write_all.ensures.one_set it.0)
-    (true_after c.args.store.now c.write_all.new.store c.act_all.new.store c.write_all.ensures.steps.reads honest) placed.5 in
+    (tell_after c.args.store.now c.write_all.new.store c.act_all.new.store [] c.write_all.ensures.steps c.act_all.ensures.steps tell) placed.5 in
     let makes = c.in_ok-act_all.ensures.places in
     let renamed : c.if-renamed.renamed ≡ are_renamed c.args.opened.renamed makes.made = renamed_is g c in
     let acted = made.3 in
@@ -123,14 +124,14 @@ returns-clause-known g c =
     let mid : GroupDatasets = c.write_all.new.self in
     let new : GroupDatasets = c.act_all.new.self in
     let group = c.args.group.now.number in
-    IfErr-weaker c.with_directory.result _ _ (λ refusal why stored planned birth root pool writes plans is destroyed lt opens from honest good.
+    IfErr-weaker c.with_directory.result _ _ (λ refusal why stored planned birth root pool writes plans is destroyed lt opens from tell good.
     let after : PlainPool = all_destroyed destroyed pool in
     let it = begun stored planned birth group root pool is destroyed writes c.args.opened (λ block bytes known. plans.kept block bytes known) opens from in
     let placed = c.in_ok-write_all.ensures.value stored planned root.birth is.objects is.own is.blocks from.datasets is.readings after writes plans it.0
-    (true_before c.args.store.now c.write_all.new.store c.act_all.new.store c.act_all.ensures.steps.reads honest) (omega (arith, lt)) it.1 it.2 in
+    (tell_before c.args.store.now c.write_all.new.store c.act_all.new.store [] c.write_all.ensures.steps c.act_all.ensures.steps tell) (omega (arith, lt)) it.1 it.2 in
     let made = c.in_ok-act_all.ensures.value stored placed.0 is.objects is.own is.blocks placed.3 placed.4 (fold written after writes) placed.1
     (objects_still stored old.changes mid.changes is.objects is.own is.blocks c.write_all.ensures.one_set it.0)
-    (true_after c.args.store.now c.write_all.new.store c.act_all.new.store c.write_all.ensures.steps.reads honest) placed.5 in
+    (tell_after c.args.store.now c.write_all.new.store c.act_all.new.store [] c.write_all.ensures.steps c.act_all.ensures.steps tell) placed.5 in
     ⊎_elim (λ memory. inl (inl memory))
     (λ mis.
     absurd (not_misnumbered made.0 group is.objects new made.3.after made.3.readings (fold (λ p a. pool_changed group p a.change) (fold written after writes) c.args.actions.now) (next_behind new)

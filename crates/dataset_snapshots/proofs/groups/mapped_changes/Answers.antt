@@ -1,6 +1,7 @@
 use Rattle.std.proofs.Common.{◌++◌, List, [], inl, inr, sym, ap, subst, ◌∙◌, ⊎_elim, arith}
 use Rattle.block_pointer.specs.declared.block.Block.{Block}
-use Rattle.block_store.proofs.Steps.{steps_on, steps_read, true_before, true_after}
+use Rattle.block_store.proofs.Steps.{steps_on, steps_read}
+use Rattle.block_store.proofs.Telling.{tell_after, tell_before}
 use Rattle.block_store.specs.Spaces.{VdevSpace}
 use Rattle.dnode_tree.proofs.Losses.{loss_in_plan}
 use Rattle.dnode_tree.proofs.Refusing.{passed_on}
@@ -18,8 +19,8 @@ use Rattle.dataset_snapshots.proofs.groups.mapped_changes.Goals as goal
 
 pub returns-in_err-made-clause-known : goal.returns-in_err-made-clause-known
 returns-in_err-made-clause-known g c =
-    passed_on _ _ _ c.from_residual.ensures.1 (λ stored planned birth root pool writes plans is destroyed born le opens from maps stands honest good.
-    c.in_err-made.ensures.known stored planned birth root pool writes plans is destroyed (omega (arith, born, le)) opens from honest good)
+    passed_on _ _ _ c.from_residual.ensures.1 (λ stored planned birth root pool writes plans is destroyed born le opens from maps stands tell good.
+    c.in_err-made.ensures.known stored planned birth root pool writes plans is destroyed (omega (arith, born, le)) opens from tell good)
 
 pub returns-in_err-made-clause-refused : goal.returns-in_err-made-clause-refused
 returns-in_err-made-clause-refused g c = passed_on _ _ _ c.from_residual.ensures.1 (inl c.in_err-made.ensures.refused)
@@ -72,8 +73,8 @@ returns-in_err-changes-clause-known g c =
     let next = c.in_ok-made.made.next in
     let volumes = c.in_ok-made.ensures.places in
     let gone_is = c.deref.ensures.value in
-    passed_on _ _ _ c.from_residual-in_err-changes.ensures.1 (λ stored planned birth root pool writes plans is destroyed born le opens from maps stands honest good.
-    let before = true_before old mid new c.plan_maps.ensures.reads.reads honest in
+    passed_on _ _ _ c.from_residual-in_err-changes.ensures.1 (λ stored planned birth root pool writes plans is destroyed born le opens from maps stands tell good.
+    let before = tell_before old mid new [] steps (steps_read _ _ _ c.plan_maps.ensures.reads) tell in
     let made = c.in_ok-made.ensures.value stored planned birth root pool writes plans is destroyed (omega (arith, born, le)) opens from before in
     let Given : List Block → Type 0 =
     λ them. IsReachExchanged c.args.group.now.number planned made.0 (volume_blocks_of is) (reach_by made.3.datasets made.3.rows) them in
@@ -85,10 +86,10 @@ returns-in_err-changes-clause-known g c =
     (gone_once stored birth root pool is c.args.group.now.number planned made.0 _ _ given old mid stands) (gone_in_use stored birth root pool is c.args.group.now.number planned made.0 _ _ given old mid stands steps) c.are_sized.ensures in
     let are = subst (λ n. AreObjects stored n c.args.opened.set is.objects is.own is.blocks) born (subst (λ (s : ObjectSet). AreObjects stored root.birth s is.objects is.own is.blocks) (sym from.set) is.are) in
     ⊎_elim (λ loss. loss_in_plan _ loss) (λ space. inl (inr space))
-    (c.in_err-changes.ensures.known stored is.objects is.own is.blocks made.1.held are (true_after old mid new steps.reads honest) now others released.0 c.args.group.now.number released.1))
+    (c.in_err-changes.ensures.known stored is.objects is.own is.blocks made.1.held are (tell_after old mid new [] steps (steps_read _ _ _ c.plan_maps.ensures.reads) tell) now others released.0 c.args.group.now.number released.1))
 
 pub returns-clause-value : goal.returns-clause-value
-returns-clause-value g c = λ stored planned birth root pool writes plans is destroyed born le opens from maps honest.
+returns-clause-value g c = λ stored planned birth root pool writes plans is destroyed born le opens from maps tell.
     let old = c.args.store.now in
     let mid = c.changes_of.new.store in
     let new = c.plan_maps.new.store in
@@ -97,7 +98,7 @@ returns-clause-value g c = λ stored planned birth root pool writes plans is des
     let next = c.in_ok-made.made.next in
     let all = c.in_ok-changes.changes.items in
     let volumes = c.in_ok-made.ensures.places in
-    let before = true_before old mid new c.plan_maps.ensures.reads.reads honest in
+    let before = tell_before old mid new [] steps (steps_read _ _ _ c.plan_maps.ensures.reads) tell in
     let made = c.in_ok-made.ensures.value stored planned birth root pool writes plans is destroyed (omega (arith, born, le)) opens from before in
     let Given : List Block → Type 0 =
     λ them. IsReachExchanged c.args.group.now.number planned made.0 (volume_blocks_of is) (reach_by made.3.datasets made.3.rows) them in
@@ -105,7 +106,7 @@ returns-clause-value g c = λ stored planned birth root pool writes plans is des
     let unmade = unmade_from stored birth root pool is c.args.opened.set next _ from.set volumes.next_is in
     let others = others_are is.objects mid.spaces now changes next c.in_ok-made.ensures.next unmade made.9 made.3.may in
     let are = subst (λ n. AreObjects stored n c.args.opened.set is.objects is.own is.blocks) born (subst (λ (s : ObjectSet). AreObjects stored root.birth s is.objects is.own is.blocks) (sym from.set) is.are) in
-    let planned_maps = c.in_ok-changes.ensures.value stored is.objects is.own is.blocks made.1.held are (true_after old mid new steps.reads honest) now others in
+    let planned_maps = c.in_ok-changes.ensures.value stored is.objects is.own is.blocks made.1.held are (tell_after old mid new [] steps (steps_read _ _ _ c.plan_maps.ensures.reads) tell) now others in
     let replaced = c.changes_of.new.replaced.items in
     let spells = spells_with_maps is.objects mid.spaces now changes next c.in_ok-made.ensures.next unmade made.9 all planned_maps.2 planned_maps.3 planned_maps.0 made.0 c.args.group.now.number c.args.group.now.spans _ made.3 in
     let given : Given replaced = subst Given (sym (made.5 ∙ ap (λ (front : List Block). front ++ made.4) c.requires.none)) made.6 in

@@ -2,7 +2,7 @@ use Rattle.std.proofs.Common.{◌<◌, ◌≤◌, ◌-◌, ◌++◌, ℕ, List, 
 use Rattle.block_pointer.specs.declared.block.Block.{Block}
 use Rattle.block_store.proofs.Steps.{reads_on}
 use Rattle.dataset_groups.specs.declared.datasets.GroupDatasets.{GroupDatasets}
-use Rattle.dnode_tree.proofs.FurtherReads.{true_before, true_after}
+use Rattle.dnode_tree.proofs.FurtherReads.{told_before, told_after}
 use Rattle.dnode_tree.proofs.Refusing.{passed_on}
 use Rattle.meta_objset.specs.declared.directory.DirectoryRow.{DirectoryRow}
 use Rattle.pool_model.specs.declared.item.Write.{Write}
@@ -20,7 +20,7 @@ use Rattle.dataset_snapshots.proofs.groups.open_group.Goals as goal
 
 pub returns-in_err-begun-clause-known : goal.returns-in_err-begun-clause-known
 returns-in_err-begun-clause-known g c =
-    passed_on _ _ _ c.from_residual.ensures.1 (λ stored pool held is same may few honest. c.in_err-begun.ensures.known stored pool held is same honest)
+    passed_on _ _ _ c.from_residual.ensures.1 (λ stored pool held is same may few tell. c.in_err-begun.ensures.known stored pool held is same tell)
 
 pub returns-in_err-begun-clause-refused : goal.returns-in_err-begun-clause-refused
 returns-in_err-begun-clause-refused g c =
@@ -49,17 +49,17 @@ returns-in_err-renamed-clause-known g c =
     let is_new = c.reuse_numbers.ensures in
     let found = c.in_ok-begun.ensures.found in
     passed_on _ _ _ c.from_residual-in_err-renamed.ensures.1
-    (λ stored pool held is same may few honest.
-    let so_far = true_before _ _ _ _ both third honest in
-    let begins = c.in_ok-begun.ensures.value stored pool held is same (true_before _ _ _ _ first second so_far) in
+    (λ stored pool held is same may few tell.
+    let so_far = told_before _ _ _ _ both third tell in
+    let begins = c.in_ok-begun.ensures.value stored pool held is same (told_before _ _ _ _ first second so_far) in
     let from = from_so c.begin_group.new.store c.reuse_numbers.new.store _ root rows names writes begun new found.begins c.in_ok-begun.ensures.numbers is_new.directory is_new.changes is_new.numbers
-    is_new.unused stored pool is (first.keeps stored held) (true_after _ _ _ _ first second so_far) begins in
+    is_new.unused stored pool is (first.keeps stored held) (told_after _ _ _ _ first second so_far) begins in
     let early = c.in_ok-begun.ensures.early in
     let le : root.birth ≤ group = omega (arith, early) in
     c.in_err-renamed.ensures.known stored is.objects is.own is.blocks (record is.datasets { group = group }) is.readings pool (both.keeps stored held)
     (objects_begun c.args.store.now.spaces _ root rows names writes (numbered begun new)
     (found_so c.args.store.now.spaces _ root rows names writes begun new is_new.directory is_new.changes is_new.numbers found) stored group pool is from)
-    (true_after _ _ _ _ both third honest) (from.begins group le) (subst (λ (list : List (List ℕ)). MayBeDestroyed list pool) (sym c.destroyed-destroyed.ensures) may) few)
+    (told_after _ _ _ _ both third tell) (from.begins group le) (subst (λ (list : List (List ℕ)). MayBeDestroyed list pool) (sym c.destroyed-destroyed.ensures) may) few)
 
 pub returns-in_err-renamed-clause-refused : goal.returns-in_err-renamed-clause-refused
 returns-in_err-renamed-clause-refused g c =
@@ -112,7 +112,7 @@ returns-clause-room g c =
     (subst (HasRoomFor mid) (ap length c.made-made.ensures) c.reuse_numbers.ensures.room)
 
 pub returns-clause-value : goal.returns-clause-value
-returns-clause-value g c = λ stored pool held is same may honest.
+returns-clause-value g c = λ stored pool held is same may tell.
     let first = c.in_ok-begun.ensures.reads in
     let second = c.reuse_numbers.ensures.reads in
     let both = reads_on _ _ _ _ first second in
@@ -129,17 +129,17 @@ returns-clause-value g c = λ stored pool held is same may honest.
     let is_new = c.reuse_numbers.ensures in
     let found = found_so c.args.store.now.spaces _ root rows names writes was mid is_new.directory is_new.changes is_new.numbers c.in_ok-begun.ensures.found in
     let which = c.in_ok-renamed.ensures.which in
-    let so_far = true_before _ _ _ _ both third honest in
+    let so_far = told_before _ _ _ _ both third tell in
     let from = from_so c.begin_group.new.store c.reuse_numbers.new.store _ root rows names writes was mid c.in_ok-begun.ensures.found.begins c.in_ok-begun.ensures.numbers is_new.directory is_new.changes
-    is_new.numbers is_new.unused stored pool is (first.keeps stored held) (true_after _ _ _ _ first second so_far)
-    (c.in_ok-begun.ensures.value stored pool held is same (true_before _ _ _ _ first second so_far)) in
+    is_new.numbers is_new.unused stored pool is (first.keeps stored held) (told_after _ _ _ _ first second so_far)
+    (c.in_ok-begun.ensures.value stored pool held is same (told_before _ _ _ _ first second so_far)) in
     let early = c.in_ok-begun.ensures.early in
     let born = c.requires.born in
     let le : root.birth ≤ group = omega (arith, early) in
     let lt : root.birth < group = omega (arith, early, born) in
     let may_too = subst (λ (list : List (List ℕ)). MayBeDestroyed list pool) (sym c.destroyed-destroyed.ensures) may in
     let done = c.in_ok-renamed.ensures.value stored is.objects is.own is.blocks (record is.datasets { group = group }) is.readings pool (both.keeps stored held)
-    (objects_begun c.args.store.now.spaces _ root rows names writes begun found stored group pool is from) (true_after _ _ _ _ both third honest) (from.begins group le) may_too in
+    (objects_begun c.args.store.now.spaces _ root rows names writes begun found stored group pool is from) (told_after _ _ _ _ both third tell) (from.begins group le) may_too in
     let freed_is = done.1 ∙ ap (λ (front : List Block). front ++ done.0) c.new-freed.ensures.items in
     let opened : Opened = record {
       set = was.set;

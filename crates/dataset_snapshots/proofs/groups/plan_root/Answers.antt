@@ -2,7 +2,8 @@ use Rattle.std.proofs.Common.{◌≡◌, ◌∙◌, ◌++◌, ℕ, [], List, All
 use Rattle.std.specs.Prelude.{Any}
 use Rattle.std.proofs.lemmas.Result.{IfOk-weaker, IfErr-weaker}
 use Rattle.dataset_snapshots.proofs.GroupDemands.{err_both, objects_refused, ok_so, on_ok, root_places, root_refused}
-use Rattle.block_store.proofs.Steps.{no_room_now, no_room_on, steps_on, true_before}
+use Rattle.block_store.proofs.Steps.{no_room_now, no_room_on, steps_on}
+use Rattle.block_store.proofs.Telling.{tell_before}
 use Rattle.dnode_tree.proofs.Refusing.{ok_both, passed_on}
 use Rattle.objset.proofs.Kept.{objects_stand}
 use Rattle.block_pointer.specs.declared.block.Block.{Block}
@@ -38,8 +39,8 @@ all_or_none P xs all (k, x, within, at, none) = none (subst P at (all k x within
 
 pub returns-in_err-rewrite-clause-known : goal.returns-in_err-rewrite-clause-known
 returns-in_err-rewrite-clause-known g c =
-    passed_on _ _ _ c.from_residual.ensures.1 (λ stored planned bound objects own blocks plans are early le honest may.
-    ⊎_elim (λ why. why) (λ bad. absurd (all_or_none _ _ may bad.1)) (c.in_err-rewrite.ensures.known stored planned bound objects own blocks plans are early le honest))
+    passed_on _ _ _ c.from_residual.ensures.1 (λ stored planned bound objects own blocks plans are early le tell may.
+    ⊎_elim (λ why. why) (λ bad. absurd (all_or_none _ _ may bad.1)) (c.in_err-rewrite.ensures.known stored planned bound objects own blocks plans are early le tell))
 
 pub returns-clause-steps : goal.returns-clause-steps
 returns-clause-steps g c = steps_on _ _ _ _ c.in_ok-rewrite.ensures.steps c.plan_set.ensures.steps
@@ -47,10 +48,10 @@ returns-clause-steps g c = steps_on _ _ _ _ c.in_ok-rewrite.ensures.steps c.plan
 pub returns-clause-value : goal.returns-clause-value
 returns-clause-value g c =
     IfOk-weaker c.plan_set.result _ _
-    (λ root all stored planned bound objects own blocks plans are le honest.
+    (λ root all stored planned bound objects own blocks plans are le tell.
     let both = all.0 in
     let one = c.in_ok-rewrite.ensures.changed stored planned bound objects own blocks plans are le
-    (true_before c.args.store.now c.change.new.store c.plan_set.new.store c.plan_set.ensures.steps.reads honest) in
+    (tell_before c.args.store.now c.change.new.store c.plan_set.new.store [] c.in_ok-rewrite.ensures.steps c.plan_set.ensures.steps tell) in
     let two = both.0 stored one.1 one.2 in (
       two.0,
       two.1,
@@ -82,7 +83,7 @@ returns-clause-no_room g c =
     c.plan_set.ensures.no_room
 
 pub returns-clause-known : goal.returns-clause-known
-returns-clause-known g c = IfErr-weaker c.plan_set.result _ _ (λ refusal room stored planned bound objects own blocks plans are early le honest may. inl room) c.plan_set.ensures.refused
+returns-clause-known g c = IfErr-weaker c.plan_set.result _ _ (λ refusal room stored planned bound objects own blocks plans are early le tell may. inl room) c.plan_set.ensures.refused
 
 pub returns-in_err-rewrite-clause-refused : goal.returns-in_err-rewrite-clause-refused
 returns-in_err-rewrite-clause-refused g c = passed_on _ _ _ c.from_residual.ensures.1 (objects_refused _ _ _ _ _ _ _ _ (ap copies_of c.requires.kind) c.in_err-rewrite.ensures.refused)

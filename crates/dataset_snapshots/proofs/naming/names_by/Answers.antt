@@ -5,7 +5,7 @@ use Rattle.std.proofs.lemmas.Result.{IfOk-weaker, IfErr-weaker}
 use Rattle.block_store.proofs.Steps.{reads_on}
 use Rattle.block_store.specs.Spaces.{VdevSpace}
 use Rattle.dataset_groups.specs.Names.{NamesPool}
-use Rattle.dnode_tree.proofs.FurtherReads.{true_before, true_after}
+use Rattle.dnode_tree.proofs.FurtherReads.{told_before, told_after}
 use Rattle.dnode_tree.proofs.Refusing.{passed_on}
 use Rattle.meta_objset.specs.declared.directory.DirectoryRow.{DirectoryRow}
 use Rattle.object_table.proofs.Tables.{spaces_stay}
@@ -24,7 +24,7 @@ returns-in_err-set-clause-refused g c = passed_on _ _ _ c.from_residual.ensures.
 
 pub returns-in_err-set-clause-known : goal.returns-in_err-set-clause-known
 returns-in_err-set-clause-known g c =
-    passed_on _ _ _ c.from_residual.ensures.1 (λ stored pool held is same honest. c.in_err-set.ensures.known stored is.set held is.is_set is.kind honest)
+    passed_on _ _ _ c.from_residual.ensures.1 (λ stored pool held is same tell. c.in_err-set.ensures.known stored is.set held is.is_set is.kind tell)
 
 pub returns-clause-reads : goal.returns-clause-reads
 returns-clause-reads g c = reads_on _ _ _ _ c.in_ok-set.ensures.reads c.names_of.ensures.reads
@@ -34,12 +34,12 @@ returns-clause-value g c =
     let first = c.in_ok-set.ensures.reads in
     let rest = c.names_of.ensures.reads in
     IfOk-weaker c.names_of.result _ _
-    (λ names told stored pool held is same honest.
-    let are = are_of_root stored _ _ pool _ is (c.in_ok-set.ensures.value stored is.set held is.is_set (true_before _ _ _ _ first rest honest)) in
+    (λ names told stored pool held is same tell.
+    let are = are_of_root stored _ _ pool _ is (c.in_ok-set.ensures.value stored is.set held is.is_set (told_before _ _ _ _ first rest tell)) in
     let rows_are : c.rows.result.now ≡ is.rows = c.rows.ensures.value ∙ same in
     told stored is.objects is.own is.blocks pool.volumes is.datasets is.readings (first.keeps stored held) are
     (subst (λ (rows : List DirectoryRow). AllZip (SpellsDataset stored c.args.root.now.birth is.objects) rows pool.volumes) (sym rows_are) (volumes_of is)) is.chains
-    (subst (λ (rows : List DirectoryRow). NamesPool is.datasets is.readings rows pool) (sym rows_are) is.names) (true_after _ _ _ _ first rest honest))
+    (subst (λ (rows : List DirectoryRow). NamesPool is.datasets is.readings rows pool) (sym rows_are) is.names) (told_after _ _ _ _ first rest tell))
     c.names_of.ensures.value
 
 -- by the rows of the directory, and the spaces before the root was read
@@ -80,10 +80,10 @@ returns-clause-known g c =
     let first = c.in_ok-set.ensures.reads in
     let rest = c.names_of.ensures.reads in
     IfErr-weaker c.names_of.result _ _
-    (λ refusal known stored pool held is same honest.
-    let are = are_of_root stored _ _ pool _ is (c.in_ok-set.ensures.value stored is.set held is.is_set (true_before _ _ _ _ first rest honest)) in
+    (λ refusal known stored pool held is same tell.
+    let are = are_of_root stored _ _ pool _ is (c.in_ok-set.ensures.value stored is.set held is.is_set (told_before _ _ _ _ first rest tell)) in
     let rows_are : c.rows.result.now ≡ is.rows = c.rows.ensures.value ∙ same in
     known stored is.objects is.own is.blocks pool.volumes is.datasets is.readings (first.keeps stored held) are
     (subst (λ (rows : List DirectoryRow). AllZip (SpellsDataset stored c.args.root.now.birth is.objects) rows pool.volumes) (sym rows_are) (volumes_of is)) is.chains
-    (subst (λ (rows : List DirectoryRow). NamesPool is.datasets is.readings rows pool) (sym rows_are) is.names) (true_after _ _ _ _ first rest honest))
+    (subst (λ (rows : List DirectoryRow). NamesPool is.datasets is.readings rows pool) (sym rows_are) is.names) (told_after _ _ _ _ first rest tell))
     c.names_of.ensures.known

@@ -12,5 +12,5 @@ not_there (Some object) None test is told has = absurd has
 not_there (Some object) (Some shape) test is told has = let clash : true ≡ false = is ∙ ap not told in absurd cc
 
 pub returns-in-Ok-clause-unused : goal.returns-in-Ok-clause-unused
-returns-in-Ok-clause-unused g c = λ told stored objects own blocks held are honest.
-    not_there (objects c.args.number) c.in-Ok.found c.is_none.result c.is_none.ensures told (c.in-Ok.ensures.value stored objects own blocks held are honest)
+returns-in-Ok-clause-unused g c = λ told stored objects own blocks held are tell.
+    not_there (objects c.args.number) c.in-Ok.found c.is_none.result c.is_none.ensures told (c.in-Ok.ensures.value stored objects own blocks held are tell)

@@ -7,4 +7,4 @@ returns-clause-refused g c = IfErr-weaker c.read_meta.result _ _ (λ refusal why
 
 pub returns-clause-known : goal.returns-clause-known
 returns-clause-known g c =
-    IfErr-weaker c.read_meta.result _ _ (λ refusal known stored set held is kind some honest. known stored set held is kind honest) c.read_meta.ensures.known
+    IfErr-weaker c.read_meta.result _ _ (λ refusal known stored set held is kind some tell. known stored set held is kind tell) c.read_meta.ensures.known

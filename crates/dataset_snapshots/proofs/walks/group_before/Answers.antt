@@ -11,13 +11,13 @@ returns-in_err-before-clause-refused g c =
 
 pub returns-in_err-before-clause-known : goal.returns-in_err-before-clause-known
 returns-in_err-before-clause-known g c =
-    passed_on _ _ _ c.from_residual.ensures.1 (λ stored objects own blocks pool readings object held are chains at honest.
+    passed_on _ _ _ c.from_residual.ensures.1 (λ stored objects own blocks pool readings object held are chains at tell.
     let stands = some_before stored c.args.birth objects pool readings chains object (λ first. c.if-record-eq0.false (sym at ∙ first)) in
-    c.in_err-before.ensures.known stored objects own blocks stands.r held are (subst (λ n. HasRecord (objects n) stands.r) at stands.has) honest)
+    c.in_err-before.ensures.known stored objects own blocks stands.r held are (subst (λ n. HasRecord (objects n) stands.r) at stands.has) tell)
 
 pub returns-clause-value : goal.returns-clause-value
-returns-clause-value g c = λ stored objects own blocks pool readings object held are chains at honest.
+returns-clause-value g c = λ stored objects own blocks pool readings object held are chains at tell.
     let stands = some_before stored c.args.birth objects pool readings chains object (λ first. c.if-record-eq0.false (sym at ∙ first)) in
     ap (λ (r : DatasetRecord). r.created)
-    (c.in_ok-before.ensures.value stored objects own blocks stands.r held are (subst (λ n. HasRecord (objects n) stands.r) at stands.has) honest)
+    (c.in_ok-before.ensures.value stored objects own blocks stands.r held are (subst (λ n. HasRecord (objects n) stands.r) at stands.has) tell)
     ∙ sym stands.is.created

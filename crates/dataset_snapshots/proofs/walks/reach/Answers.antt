@@ -6,7 +6,7 @@ use Rattle.block_store.proofs.Steps.{reads_on}
 use Rattle.block_store.specs.Spaces.{VdevSpace}
 use Rattle.block_store.specs.Store.{Store}
 use Rattle.dnode.specs.declared.object_set.ObjectSet.{ObjectSet}
-use Rattle.dnode_tree.proofs.FurtherReads.{true_before, true_after}
+use Rattle.dnode_tree.proofs.FurtherReads.{told_before, told_after}
 use Rattle.dnode_tree.proofs.Refusing.{passed_on}
 use Rattle.dnode_tree.specs.Rewriting.{AreDistinct}
 use Rattle.objset.specs.Within.{blocks_of_objects, blocks_of_set, reads_of, IsSetWalked}
@@ -23,8 +23,8 @@ returns-in_err-set-clause-refused g c = passed_on _ _ _ c.from_residual.ensures.
 
 pub returns-in_err-set-clause-known : goal.returns-in_err-set-clause-known
 returns-in_err-set-clause-known g c =
-    passed_on _ _ _ c.from_residual.ensures.1 (λ stored pool held is once long honest.
-    c.in_err-set.ensures.known stored is.set held is.is_set is.kind (omega (arith, long)) honest)
+    passed_on _ _ _ c.from_residual.ensures.1 (λ stored pool held is once long tell.
+    c.in_err-set.ensures.known stored is.set held is.is_set is.kind (omega (arith, long)) tell)
 
 pub returns-in_err-own-clause-reads : goal.returns-in_err-own-clause-reads
 returns-in_err-own-clause-reads g c = reads_on _ _ _ _ c.in_ok-set.ensures.reads c.in_err-own.ensures.reads
@@ -45,8 +45,8 @@ pub returns-in_err-own-clause-known : goal.returns-in_err-own-clause-known
 returns-in_err-own-clause-known g c =
     let first = c.in_ok-set.ensures.reads in
     let rest = c.in_err-own.ensures.reads in
-    passed_on _ _ _ c.from_residual-in_err-own.ensures.1 (λ stored pool held is once long honest.
-    let same : c.in_ok-set.set ≡ is.set = c.in_ok-set.ensures.value stored is.set held is.is_set (true_before _ _ _ _ first rest honest) in
+    passed_on _ _ _ c.from_residual-in_err-own.ensures.1 (λ stored pool held is once long tell.
+    let same : c.in_ok-set.set ≡ is.set = c.in_ok-set.ensures.value stored is.set held is.is_set (told_before _ _ _ _ first rest tell) in
     let own : List Block = blocks_of_set is.set is.own is.blocks in
     let below : List Block = volume_blocks_of is in
     let each = set_once stored c.args.root.now.birth is.set is.objects is.own is.blocks is.are (front_once own below (back_once (c.args.root.now ∷ []) (own ++ below) once)) in
@@ -54,7 +54,7 @@ returns-in_err-own-clause-known g c =
     c.in_err-own.ensures.known stored is.objects is.own is.blocks (first.keeps stored held) (are_of_root stored _ _ pool _ is same) each
     (subst (λ (set : ObjectSet). reads_of is.own (blocks_of_objects set is.blocks) ≤ c.count_meta.new.left) (sym same)
     (omega (arith, few, length-append own below, c.in_ok-set.ensures.count, long)))
-    (true_after _ _ _ _ first rest honest))
+    (told_after _ _ _ _ first rest tell))
 
 pub returns-in_err-below-clause-reads : goal.returns-in_err-below-clause-reads
 returns-in_err-below-clause-reads g c =
@@ -82,20 +82,20 @@ returns-in_err-below-clause-known g c =
     let second = c.in_ok-own.ensures.reads in
     let both = reads_on _ _ _ _ first second in
     let third = c.in_err-below.ensures.reads in
-    passed_on _ _ _ c.from_residual-in_err-below.ensures.1 (λ stored pool held is once long honest.
-    let before = true_before _ _ _ _ both third honest in
-    let same : c.in_ok-set.set ≡ is.set = c.in_ok-set.ensures.value stored is.set held is.is_set (true_before _ _ _ _ first second before) in
+    passed_on _ _ _ c.from_residual-in_err-below.ensures.1 (λ stored pool held is once long tell.
+    let before = told_before _ _ _ _ both third tell in
+    let same : c.in_ok-set.set ≡ is.set = c.in_ok-set.ensures.value stored is.set held is.is_set (told_before _ _ _ _ first second before) in
     let are = are_of_root stored _ _ pool _ is same in
     let own : List Block = blocks_of_set is.set is.own is.blocks in
     let below : List Block = volume_blocks_of is in
     let own_is : c.in_ok-own.own.items ≡ own =
-    c.in_ok-own.ensures.blocks stored is.objects is.own is.blocks (first.keeps stored held) are (true_after _ _ _ _ first second before)
+    c.in_ok-own.ensures.blocks stored is.objects is.own is.blocks (first.keeps stored held) are (told_after _ _ _ _ first second before)
     ∙ ap (λ (set : ObjectSet). blocks_of_set set is.own is.blocks) same in
     let few = set_few _ _ _ _ _ _ c.in_ok-own.ensures.count in
     c.in_err-below.ensures.known stored is.objects is.own is.blocks is.datasets is.readings is.rows (both.keeps stored held) are is.directory is.chains
     (rows_some is.datasets is.readings is.rows pool.volumes is.names.volumes)
     (omega (arith, few, ap length own_is, length-append own below, c.in_ok-set.ensures.count, long))
-    (true_after _ _ _ _ both third honest))
+    (told_after _ _ _ _ both third tell))
 
 pub returns-in_err-found-clause-reads : goal.returns-in_err-found-clause-reads
 returns-in_err-found-clause-reads g c =
@@ -105,7 +105,7 @@ pub returns-in_err-found-clause-refused : goal.returns-in_err-found-clause-refus
 returns-in_err-found-clause-refused g c = passed_on _ _ _ c.from_residual-in_err-found.ensures.1 (inl refl)
 
 pub returns-in_err-found-clause-known : goal.returns-in_err-found-clause-known
-returns-in_err-found-clause-known g c = passed_on _ _ _ c.from_residual-in_err-found.ensures.1 (λ stored pool held is once long honest. inl refl)
+returns-in_err-found-clause-known g c = passed_on _ _ _ c.from_residual-in_err-found.ensures.1 (λ stored pool held is once long tell. inl refl)
 
 pub returns-clause-reads : goal.returns-clause-reads
 returns-clause-reads g c =
@@ -118,17 +118,17 @@ returns-clause-reach g c =
     let both = reads_on _ _ _ _ first second in
     let third = c.in_ok-below.ensures.reads in
     IfOk-weaker c.whole.result _ _
-    (λ found same_blocks stored pool held is honest.
-    let before = true_before _ _ _ _ both third honest in
-    let same : c.in_ok-set.set ≡ is.set = c.in_ok-set.ensures.value stored is.set held is.is_set (true_before _ _ _ _ first second before) in
+    (λ found same_blocks stored pool held is tell.
+    let before = told_before _ _ _ _ both third tell in
+    let same : c.in_ok-set.set ≡ is.set = c.in_ok-set.ensures.value stored is.set held is.is_set (told_before _ _ _ _ first second before) in
     let are = are_of_root stored _ _ pool _ is same in
     same_blocks ∙ (c.in_ok-found.ensures
     ∙ parts_are c.args.root.now c.in_ok-own.own.items (blocks_of_set is.set is.own is.blocks) c.deref.result.now (volume_blocks_of is)
-    (c.in_ok-own.ensures.blocks stored is.objects is.own is.blocks (first.keeps stored held) are (true_after _ _ _ _ first second before)
+    (c.in_ok-own.ensures.blocks stored is.objects is.own is.blocks (first.keeps stored held) are (told_after _ _ _ _ first second before)
     ∙ ap (λ (set : ObjectSet). blocks_of_set set is.own is.blocks) same)
     (c.deref.ensures.value
     ∙ c.in_ok-below.ensures.blocks stored is.objects is.own is.blocks is.datasets is.readings is.rows (both.keeps stored held) are is.directory is.chains
-    (rows_some is.datasets is.readings is.rows pool.volumes is.names.volumes) (true_after _ _ _ _ both third honest))))
+    (rows_some is.datasets is.readings is.rows pool.volumes is.names.volumes) (told_after _ _ _ _ both third tell))))
     c.whole.ensures.same
 
 pub returns-clause-count : goal.returns-clause-count
@@ -165,16 +165,16 @@ returns-clause-known g c =
     let both = reads_on _ _ _ _ first second in
     let third = c.in_ok-below.ensures.reads in
     IfErr-weaker c.whole.result _ _
-    (λ refusal why stored pool held is once long honest.
-    let before = true_before _ _ _ _ both third honest in
-    let same : c.in_ok-set.set ≡ is.set = c.in_ok-set.ensures.value stored is.set held is.is_set (true_before _ _ _ _ first second before) in
+    (λ refusal why stored pool held is once long tell.
+    let before = told_before _ _ _ _ both third tell in
+    let same : c.in_ok-set.set ≡ is.set = c.in_ok-set.ensures.value stored is.set held is.is_set (told_before _ _ _ _ first second before) in
     let are = are_of_root stored _ _ pool _ is same in
     let found_is : c.in_ok-found.found.items ≡ reach_of is =
     c.in_ok-found.ensures ∙ parts_are c.args.root.now c.in_ok-own.own.items (blocks_of_set is.set is.own is.blocks) c.deref.result.now (volume_blocks_of is)
-    (c.in_ok-own.ensures.blocks stored is.objects is.own is.blocks (first.keeps stored held) are (true_after _ _ _ _ first second before)
+    (c.in_ok-own.ensures.blocks stored is.objects is.own is.blocks (first.keeps stored held) are (told_after _ _ _ _ first second before)
     ∙ ap (λ (set : ObjectSet). blocks_of_set set is.own is.blocks) same)
     (c.deref.ensures.value
     ∙ c.in_ok-below.ensures.blocks stored is.objects is.own is.blocks is.datasets is.readings is.rows (both.keeps stored held) are is.directory is.chains
-    (rows_some is.datasets is.readings is.rows pool.volumes is.names.volumes) (true_after _ _ _ _ both third honest)) in
+    (rows_some is.datasets is.readings is.rows pool.volumes is.names.volumes) (told_after _ _ _ _ both third tell)) in
     ⊎_elim (λ memory. inl memory) (λ bad. absurd (bad.1 (subst (λ blocks. AreDistinct blocks) (sym found_is) once))) why)
     c.whole.ensures.refused

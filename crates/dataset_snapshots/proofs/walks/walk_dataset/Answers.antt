@@ -3,7 +3,7 @@ use Rattle.std.proofs.lemmas.Result.{IfOk-weaker, IfErr-weaker}
 use Rattle.block_store.proofs.Steps.{reads_on}
 use Rattle.block_store.specs.Losses.{IsForLoss}
 use Rattle.block_store.specs.Spaces.{VdevSpace}
-use Rattle.dnode_tree.proofs.FurtherReads.{true_before, true_after}
+use Rattle.dnode_tree.proofs.FurtherReads.{told_before, told_after}
 use Rattle.dnode_tree.proofs.Refusing.{passed_on}
 use Rattle.meta_objset.specs.declared.record.DatasetRecord.{DatasetRecord}
 use Rattle.object_table.proofs.Tables.{spaces_stay}
@@ -17,9 +17,9 @@ returns-in_err-dataset-clause-refused g c = passed_on _ _ _ c.from_residual.ensu
 
 pub returns-in_err-dataset-clause-known : goal.returns-in_err-dataset-clause-known
 returns-in_err-dataset-clause-known g c =
-    passed_on _ _ _ c.from_residual.ensures.1 (λ stored objects own blocks pool readings held are chains some long honest.
+    passed_on _ _ _ c.from_residual.ensures.1 (λ stored objects own blocks pool readings held are chains some long tell.
     let stands = chains.each c.args.object some in
-    c.in_err-dataset.ensures.known stored objects own blocks stands.r held are stands.has honest)
+    c.in_err-dataset.ensures.known stored objects own blocks stands.r held are stands.has tell)
 
 pub returns-in_err-since-clause-reads : goal.returns-in_err-since-clause-reads
 returns-in_err-since-clause-reads g c = reads_on _ _ _ _ c.in_ok-dataset.ensures.reads c.in_err-since.ensures.reads
@@ -39,12 +39,12 @@ pub returns-in_err-since-clause-known : goal.returns-in_err-since-clause-known
 returns-in_err-since-clause-known g c =
     let first = c.in_ok-dataset.ensures.reads in
     let rest = c.in_err-since.ensures.reads in
-    passed_on _ _ _ c.from_residual-in_err-since.ensures.1 (λ stored objects own blocks pool readings held are chains some long honest.
+    passed_on _ _ _ c.from_residual-in_err-since.ensures.1 (λ stored objects own blocks pool readings held are chains some long tell.
     let stands = chains.each c.args.object some in
     let is_record : c.in_ok-dataset.dataset.record ≡ stands.r =
-    c.in_ok-dataset.ensures.value stored objects own blocks stands.r held are stands.has (true_before _ _ _ _ first rest honest) in
+    c.in_ok-dataset.ensures.value stored objects own blocks stands.r held are stands.has (told_before _ _ _ _ first rest tell) in
     c.in_err-since.ensures.known stored objects own blocks pool readings c.args.object (first.keeps stored held) are chains
-    (stands.is.previous ∙ ap (λ (r : DatasetRecord). r.previous) (sym is_record)) (true_after _ _ _ _ first rest honest))
+    (stands.is.previous ∙ ap (λ (r : DatasetRecord). r.previous) (sym is_record)) (told_after _ _ _ _ first rest tell))
 
 pub returns-clause-reads : goal.returns-clause-reads
 returns-clause-reads g c = reads_on _ _ _ _ (reads_on _ _ _ _ c.in_ok-dataset.ensures.reads c.in_ok-since.ensures.reads) c.walk_younger.ensures.reads
@@ -56,15 +56,15 @@ returns-clause-blocks g c =
     let both = reads_on _ _ _ _ first second in
     let rest = c.walk_younger.ensures.reads in
     IfOk-weaker c.walk_younger.result _ _
-    (λ found told stored objects own blocks pool readings held are chains some honest.
-    let before = true_before _ _ _ _ both rest honest in
+    (λ found told stored objects own blocks pool readings held are chains some tell.
+    let before = told_before _ _ _ _ both rest tell in
     let stands = chains.each c.args.object some in
     let is_record : c.in_ok-dataset.dataset.record ≡ stands.r =
-    c.in_ok-dataset.ensures.value stored objects own blocks stands.r held are stands.has (true_before _ _ _ _ first second before) in
+    c.in_ok-dataset.ensures.value stored objects own blocks stands.r held are stands.has (told_before _ _ _ _ first second before) in
     let since_is = c.in_ok-since.ensures.value stored objects own blocks pool readings c.args.object (first.keeps stored held) are chains
-    (stands.is.previous ∙ ap (λ (r : DatasetRecord). r.previous) (sym is_record)) (true_after _ _ _ _ first second before) in
+    (stands.is.previous ∙ ap (λ (r : DatasetRecord). r.previous) (sym is_record)) (told_after _ _ _ _ first second before) in
     own_walked stored c.args.birth objects pool readings c.args.object stands c.in_ok-dataset.dataset is_record c.in_ok-dataset.ensures.is c.in_ok-since.since since_is found.items
-    (λ is. told stored c.args.birth _ (both.keeps stored held) is (omega arith) (true_after _ _ _ _ both rest honest)))
+    (λ is. told stored c.args.birth _ (both.keeps stored held) is (omega arith) (told_after _ _ _ _ both rest tell)))
     c.walk_younger.ensures.blocks
 
 pub returns-clause-count : goal.returns-clause-count
@@ -108,14 +108,14 @@ returns-clause-known g c =
     let both = reads_on _ _ _ _ first second in
     let rest = c.walk_younger.ensures.reads in
     IfErr-weaker c.walk_younger.result _ _
-    (λ refusal known stored objects own blocks pool readings held are chains some long honest.
-    let before = true_before _ _ _ _ both rest honest in
+    (λ refusal known stored objects own blocks pool readings held are chains some long tell.
+    let before = told_before _ _ _ _ both rest tell in
     let stands = chains.each c.args.object some in
     let is_record : c.in_ok-dataset.dataset.record ≡ stands.r =
-    c.in_ok-dataset.ensures.value stored objects own blocks stands.r held are stands.has (true_before _ _ _ _ first second before) in
+    c.in_ok-dataset.ensures.value stored objects own blocks stands.r held are stands.has (told_before _ _ _ _ first second before) in
     let since_is = c.in_ok-since.ensures.value stored objects own blocks pool readings c.args.object (first.keeps stored held) are chains
-    (stands.is.previous ∙ ap (λ (r : DatasetRecord). r.previous) (sym is_record)) (true_after _ _ _ _ first second before) in
+    (stands.is.previous ∙ ap (λ (r : DatasetRecord). r.previous) (sym is_record)) (told_after _ _ _ _ first second before) in
     own_enough stored c.args.birth objects pool readings c.args.object stands c.in_ok-dataset.dataset is_record c.in_ok-dataset.ensures.is c.in_ok-since.since since_is c.args.left.now
     (IsForLoss refusal)
-    (λ is once enough. known stored c.args.birth _ (both.keeps stored held) is (omega arith) once enough (true_after _ _ _ _ both rest honest)) chains.sound long)
+    (λ is once enough. known stored c.args.birth _ (both.keeps stored held) is (omega arith) once enough (told_after _ _ _ _ both rest tell)) chains.sound long)
     c.walk_younger.ensures.known

@@ -4,7 +4,7 @@ use Rattle.block_pointer.specs.declared.block.Block.{Block}
 use Rattle.block_store.proofs.Steps.{reads_on}
 use Rattle.block_store.specs.Spaces.{VdevSpace}
 use Rattle.dnode.specs.declared.object_set.ObjectSet.{ObjectSet}
-use Rattle.dnode_tree.proofs.FurtherReads.{true_before, true_after}
+use Rattle.dnode_tree.proofs.FurtherReads.{told_before, told_after}
 use Rattle.dnode_tree.proofs.Refusing.{passed_on}
 use Rattle.dnode_tree.specs.Rewriting.{AreDistinct}
 use Rattle.object_table.proofs.Tables.{spaces_stay}
@@ -20,8 +20,8 @@ returns-in_err-set-clause-refused g c = passed_on _ _ _ c.from_residual.ensures.
 
 pub returns-in_err-set-clause-known : goal.returns-in_err-set-clause-known
 returns-in_err-set-clause-known g c =
-    passed_on _ _ _ c.from_residual.ensures.1 (λ stored pool held is once long honest.
-    c.in_err-set.ensures.known stored is.set held is.is_set is.kind (omega (arith, long)) honest)
+    passed_on _ _ _ c.from_residual.ensures.1 (λ stored pool held is once long tell.
+    c.in_err-set.ensures.known stored is.set held is.is_set is.kind (omega (arith, long)) tell)
 
 pub returns-in_err-own-clause-reads : goal.returns-in_err-own-clause-reads
 returns-in_err-own-clause-reads g c = reads_on _ _ _ _ c.in_ok-set.ensures.reads c.in_err-own.ensures.reads
@@ -42,14 +42,14 @@ pub returns-in_err-own-clause-known : goal.returns-in_err-own-clause-known
 returns-in_err-own-clause-known g c =
     let first = c.in_ok-set.ensures.reads in
     let rest = c.in_err-own.ensures.reads in
-    passed_on _ _ _ c.from_residual-in_err-own.ensures.1 (λ stored pool held is once long honest.
-    let same : c.in_ok-set.set ≡ is.set = c.in_ok-set.ensures.value stored is.set held is.is_set (true_before _ _ _ _ first rest honest) in
+    passed_on _ _ _ c.from_residual-in_err-own.ensures.1 (λ stored pool held is once long tell.
+    let same : c.in_ok-set.set ≡ is.set = c.in_ok-set.ensures.value stored is.set held is.is_set (told_before _ _ _ _ first rest tell) in
     let own : List Block = blocks_of_set is.set is.own is.blocks in
     let each = set_once stored c.args.root.now.birth is.set is.objects is.own is.blocks is.are (back_once (c.args.root.now ∷ []) own once) in
     let few = reads_few is.own (blocks_of_objects is.set is.blocks) in
     c.in_err-own.ensures.known stored is.objects is.own is.blocks (first.keeps stored held) (are_of_root stored _ _ pool _ is same) each
     (subst (λ (set : ObjectSet). reads_of is.own (blocks_of_objects set is.blocks) ≤ c.count_meta.new.left) (sym same) (omega (arith, few, c.in_ok-set.ensures.count, long)))
-    (true_after _ _ _ _ first rest honest))
+    (told_after _ _ _ _ first rest tell))
 
 pub returns-in_err-found-clause-reads : goal.returns-in_err-found-clause-reads
 returns-in_err-found-clause-reads g c = reads_on _ _ _ _ c.in_ok-set.ensures.reads c.in_ok-own.ensures.reads
@@ -58,7 +58,7 @@ pub returns-in_err-found-clause-refused : goal.returns-in_err-found-clause-refus
 returns-in_err-found-clause-refused g c = passed_on _ _ _ c.from_residual-in_err-found.ensures.1 (inl refl)
 
 pub returns-in_err-found-clause-known : goal.returns-in_err-found-clause-known
-returns-in_err-found-clause-known g c = passed_on _ _ _ c.from_residual-in_err-found.ensures.1 (λ stored pool held is once long honest. inl refl)
+returns-in_err-found-clause-known g c = passed_on _ _ _ c.from_residual-in_err-found.ensures.1 (λ stored pool held is once long tell. inl refl)
 
 pub returns-in_err-blocks-clause-reads : goal.returns-in_err-blocks-clause-reads
 returns-in_err-blocks-clause-reads g c = reads_on _ _ _ _ c.in_ok-set.ensures.reads c.in_ok-own.ensures.reads
@@ -88,12 +88,12 @@ pub returns-in_err-blocks-clause-known : goal.returns-in_err-blocks-clause-known
 returns-in_err-blocks-clause-known g c =
     let first = c.in_ok-set.ensures.reads in
     let second = c.in_ok-own.ensures.reads in
-    passed_on _ _ _ c.from_residual-in_err-blocks.ensures.1 (λ stored pool held is once long honest.
-    let same : c.in_ok-set.set ≡ is.set = c.in_ok-set.ensures.value stored is.set held is.is_set (true_before _ _ _ _ first second honest) in
+    passed_on _ _ _ c.from_residual-in_err-blocks.ensures.1 (λ stored pool held is once long tell.
+    let same : c.in_ok-set.set ≡ is.set = c.in_ok-set.ensures.value stored is.set held is.is_set (told_before _ _ _ _ first second tell) in
     let are = are_of_root stored _ _ pool _ is same in
     let found_is : c.in_ok-found.found.items ≡ meta_blocks_of is =
     c.in_ok-found.ensures ∙ ap (λ (bs : List Block). c.args.root.now ∷ bs) (append-nil c.in_ok-own.own.items
-    ∙ (c.in_ok-own.ensures.blocks stored is.objects is.own is.blocks (first.keeps stored held) are (true_after _ _ _ _ first second honest)
+    ∙ (c.in_ok-own.ensures.blocks stored is.objects is.own is.blocks (first.keeps stored held) are (told_after _ _ _ _ first second tell)
     ∙ ap (λ (set : ObjectSet). blocks_of_set set is.own is.blocks) same)) in
     ⊎_elim (λ memory. inl memory) (λ bad. absurd (bad.1 (subst (λ blocks. AreDistinct blocks) (sym found_is) once))) c.in_err-blocks.ensures.refused)
 
@@ -101,14 +101,14 @@ pub returns-clause-reads : goal.returns-clause-reads
 returns-clause-reads g c = reads_on _ _ _ _ c.in_ok-set.ensures.reads c.in_ok-own.ensures.reads
 
 pub returns-clause-value : goal.returns-clause-value
-returns-clause-value g c = λ stored pool held is honest.
+returns-clause-value g c = λ stored pool held is tell.
     let first = c.in_ok-set.ensures.reads in
     let second = c.in_ok-own.ensures.reads in
-    let same : c.in_ok-set.set ≡ is.set = c.in_ok-set.ensures.value stored is.set held is.is_set (true_before _ _ _ _ first second honest) in
+    let same : c.in_ok-set.set ≡ is.set = c.in_ok-set.ensures.value stored is.set held is.is_set (told_before _ _ _ _ first second tell) in
     let are = are_of_root stored _ _ pool _ is same in (
       same,
       c.in_ok-blocks.ensures.same ∙ (c.in_ok-found.ensures ∙ ap (λ (bs : List Block). c.args.root.now ∷ bs) (append-nil c.in_ok-own.own.items
-          ∙ (c.in_ok-own.ensures.blocks stored is.objects is.own is.blocks (first.keeps stored held) are (true_after _ _ _ _ first second honest)
+          ∙ (c.in_ok-own.ensures.blocks stored is.objects is.own is.blocks (first.keeps stored held) are (told_after _ _ _ _ first second tell)
           ∙ ap (λ (set : ObjectSet). blocks_of_set set is.own is.blocks) same))),
     )
 

@@ -6,7 +6,7 @@ use Rattle.block_store.specs.Losses.{IsForLoss}
 use Rattle.block_store.specs.Store.{Store}
 use Rattle.dataset_groups.specs.Names.{reach_by}
 use Rattle.dead_list.specs.Datasets.{Free}
-use Rattle.dnode_tree.proofs.FurtherReads.{true_before, true_after}
+use Rattle.dnode_tree.proofs.FurtherReads.{told_before, told_after}
 use Rattle.dnode_tree.proofs.Refusing.{passed_on}
 use Rattle.meta_objset.specs.declared.directory.DirectoryRow.{DirectoryRow}
 use Rattle.dataset_snapshots.specs.Reach.{AreRowsWalked, IsRowUnwalked}
@@ -18,8 +18,8 @@ returns-in_err-directory-clause-refused g c =
 
 pub returns-in_err-directory-clause-known : goal.returns-in_err-directory-clause-known
 returns-in_err-directory-clause-known g c =
-    passed_on _ _ _ c.from_residual.ensures.1 (λ stored objects own blocks pool readings rows held are has chains some long honest.
-    ⊎_elim (λ loss. loss) (λ bad. absurd (bad.1 rows has)) (c.in_err-directory.ensures.known stored objects own blocks held are honest))
+    passed_on _ _ _ c.from_residual.ensures.1 (λ stored objects own blocks pool readings rows held are has chains some long tell.
+    ⊎_elim (λ loss. loss) (λ bad. absurd (bad.1 rows has)) (c.in_err-directory.ensures.known stored objects own blocks held are tell))
 
 pub returns-clause-reads : goal.returns-clause-reads
 returns-clause-reads g c = reads_on _ _ _ _ c.in_ok-directory.ensures.reads c.walk_rows.ensures.reads
@@ -29,10 +29,10 @@ returns-clause-blocks g c =
     let first = c.in_ok-directory.ensures.reads in
     let rest = c.walk_rows.ensures.reads in
     IfOk-weaker c.walk_rows.result _ _
-    (λ found told stored objects own blocks pool readings rows held are has chains some honest.
-    let rows_are : c.rows.result.now ≡ rows = c.rows.ensures.value ∙ c.in_ok-directory.ensures.one stored objects own blocks held are (true_before _ _ _ _ first rest honest) rows has in
+    (λ found told stored objects own blocks pool readings rows held are has chains some tell.
+    let rows_are : c.rows.result.now ≡ rows = c.rows.ensures.value ∙ c.in_ok-directory.ensures.one stored objects own blocks held are (told_before _ _ _ _ first rest tell) rows has in
     subst (λ (rs : List DirectoryRow). All (λ row. (pool.datasets row.object).kind ≢ Free) rs → found.items ≡ reach_by pool rs) rows_are
-    (λ each. told stored objects own blocks pool readings (first.keeps stored held) are chains each (true_after _ _ _ _ first rest honest)) some)
+    (λ each. told stored objects own blocks pool readings (first.keeps stored held) are chains each (told_after _ _ _ _ first rest tell)) some)
     c.walk_rows.ensures.blocks
 
 pub returns-clause-count : goal.returns-clause-count
@@ -65,8 +65,8 @@ returns-clause-known g c =
     let first = c.in_ok-directory.ensures.reads in
     let rest = c.walk_rows.ensures.reads in
     IfErr-weaker c.walk_rows.result _ _
-    (λ refusal known stored objects own blocks pool readings rows held are has chains some long honest.
-    let rows_are : c.rows.result.now ≡ rows = c.rows.ensures.value ∙ c.in_ok-directory.ensures.one stored objects own blocks held are (true_before _ _ _ _ first rest honest) rows has in
+    (λ refusal known stored objects own blocks pool readings rows held are has chains some long tell.
+    let rows_are : c.rows.result.now ≡ rows = c.rows.ensures.value ∙ c.in_ok-directory.ensures.one stored objects own blocks held are (told_before _ _ _ _ first rest tell) rows has in
     subst (λ (rs : List DirectoryRow). All (λ row. (pool.datasets row.object).kind ≢ Free) rs → length (reach_by pool rs) ≤ c.args.left.now → IsForLoss refusal) rows_are
-    (λ each enough. known stored objects own blocks pool readings (first.keeps stored held) are chains each enough (true_after _ _ _ _ first rest honest)) some long)
+    (λ each enough. known stored objects own blocks pool readings (first.keeps stored held) are chains each enough (told_after _ _ _ _ first rest tell)) some long)
     c.walk_rows.ensures.known

@@ -5,8 +5,8 @@ use Rattle.dataset_snapshots.proofs.writing.changed_blocks.Goals as goal
 
 pub returns-clause-value : goal.returns-clause-value
 returns-clause-value g c =
-    IfOk-weaker c.changed_blocks.result _ _ (λ blocks laid stored plain held named is_volume spells honest.
-    laid stored plain held (names_same c.args.row.now.name plain.name c.in_ok-name.name named c.in_ok-name.ensures) is_volume spells honest)
+    IfOk-weaker c.changed_blocks.result _ _ (λ blocks laid stored plain held named is_volume spells tell.
+    laid stored plain held (names_same c.args.row.now.name plain.name c.in_ok-name.name named c.in_ok-name.ensures) is_volume spells tell)
     c.changed_blocks.ensures.value
 
 pub returns-clause-found : goal.returns-clause-found

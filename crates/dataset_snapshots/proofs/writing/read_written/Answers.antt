@@ -8,7 +8,7 @@ use Rattle.dataset_groups.specs.States.{set_of}
 use Rattle.dataset_groups.specs.declared.datasets.GroupDatasets.{GroupDatasets}
 use Rattle.dataset_groups.specs.declared.writing.WrittenHead.{WrittenHead}
 use Rattle.dataset_groups.specs.Writing.{FitsHead}
-use Rattle.dnode_tree.proofs.FurtherReads.{true_before, true_after}
+use Rattle.dnode_tree.proofs.FurtherReads.{told_before, told_after}
 use Rattle.dnode_tree.proofs.Refusing.{passed_on}
 use Rattle.meta_objset.specs.declared.directory.DirectoryRow.{DirectoryRow}
 use Rattle.dataset_snapshots.specs.Opening.{IsWrittenOf}
@@ -40,10 +40,10 @@ returns-in_err-head-clause-known g c =
     let mid : GroupDatasets = c.loop-object.datasets in
     let kept = c.loop-object.invariant.kept in
     passed_on _ _ _ c.from_residual.ensures.1
-    (λ stored there own blocks volumes held are spelled honest.
-    let so_far = c.loop-object.invariant.value stored there own blocks held are (true_before _ _ _ _ first second honest) in
+    (λ stored there own blocks volumes held are spelled tell.
+    let so_far = c.loop-object.invariant.value stored there own blocks held are (told_before _ _ _ _ first second tell) in
     c.in_err-head.ensures.known stored there own blocks volumes (first.keeps stored held) (objects_kept old mid kept stored c.args.birth there own blocks are)
-    (rows_kept old mid kept (λ (rows : List DirectoryRow). AllZip (SpellsDataset stored c.args.birth there) rows volumes) spelled) (true_after _ _ _ _ first second honest) so_far.2)
+    (rows_kept old mid kept (λ (rows : List DirectoryRow). AllZip (SpellsDataset stored c.args.birth there) rows volumes) spelled) (told_after _ _ _ _ first second tell) so_far.2)
 
 pub returns-in_err-head-clause-refused : goal.returns-in_err-head-clause-refused
 returns-in_err-head-clause-refused g c =
@@ -77,10 +77,10 @@ loop-object-preserved g c =
       numbers = mapped_more (λ (head : WrittenHead). head.number) so_far now one objects index 0 c.in_ok-push.ensures c.in_ok-head.ensures.number c.loop-object-test.true
           c.loop-object.invariant.numbers;
       fits = all_more FitsHead so_far now one c.in_ok-push.ensures c.loop-object.invariant.fits c.in_ok-head.ensures.fits;
-      value = λ stored there own blocks held are honest.
-          let before = c.loop-object.invariant.value stored there own blocks held are (true_before _ _ _ _ first second honest) in
+      value = λ stored there own blocks held are tell.
+          let before = c.loop-object.invariant.value stored there own blocks held are (told_before _ _ _ _ first second tell) in
           let more = c.in_ok-head.ensures.value stored there own blocks (first.keeps stored held) (objects_kept old mid kept stored c.args.birth there own blocks are)
-          (true_after _ _ _ _ first second honest) before.2 in (
+          (told_after _ _ _ _ first second tell) before.2 in (
             all_more (IsReadFrom stored c.args.birth there c.args.items.now.writes old.directory) so_far now one c.in_ok-push.ensures before.0
                 (from_kept old mid kept (λ (rows : List DirectoryRow). IsReadFrom stored c.args.birth there c.args.items.now.writes rows one) more.0),
             λ known group pool readings plain spells. more.1 known group pool readings plain (before.1 known group pool readings plain spells),
@@ -97,8 +97,8 @@ pub returns-clause-numbers : goal.returns-clause-numbers
 returns-clause-numbers g c = c.loop-object.invariant.numbers ∙ take_all c.loop-object.object-index c.args.objects.now c.loop-object-test.false
 
 pub returns-clause-value : goal.returns-clause-value
-returns-clause-value g c = λ stored there own blocks held are honest.
-    let so_far = c.loop-object.invariant.value stored there own blocks held are honest in
+returns-clause-value g c = λ stored there own blocks held are tell.
+    let so_far = c.loop-object.invariant.value stored there own blocks held are tell in
     (so_far.0, so_far.1)
 
 pub returns-clause-found : goal.returns-clause-found

@@ -2,7 +2,7 @@ use Rattle.std.proofs.Common.{◌≡◌, ◌≤◌, ◌<◌, [], ℕ, List, Opti
 use Rattle.std.specs.Prelude.{All}
 use Rattle.block_pointer.specs.declared.block.Block.{Block}
 use Rattle.block_store.specs.Blocks.{Contents}
-use Rattle.block_store.specs.Steps.{OnlyReadsBlocks, AnswersAreTrue}
+use Rattle.block_store.specs.Steps.{OnlyReadsBlocks, AnswersTell}
 use Rattle.block_store.specs.Store.{Holds}
 use Rattle.dataset_groups.specs.Over.{AreOver}
 use Rattle.dataset_groups.specs.States.{record_at, set_of}
@@ -21,7 +21,7 @@ invariant-loop-object g l = record {
   numbers : numbers_of l.read.items ≡ take l.object-index l.objects;
   fits : All FitsHead l.read.items;
   value : (stored : Contents) (there : ℕ → Option Object) (own : List Block) (blocks : ℕ → List Block) → Holds l.fn.store stored
-      → AreObjects stored l.birth (set_of l.fn.datasets.changes) there own blocks → AnswersAreTrue l.fn.store l.store
+      → AreObjects stored l.birth (set_of l.fn.datasets.changes) there own blocks → AnswersTell l.fn.store l.store []
       → All (IsReadFrom stored l.birth there l.items.writes l.fn.datasets.directory) l.read.items × KeepsGroup there l.fn.datasets l.datasets
       × AreOver there l.datasets.changes;
   found : All (IsWrittenOf l.fn.store.spaces (set_of l.fn.datasets.changes) l.birth l.items.writes l.fn.datasets.directory) l.read.items;

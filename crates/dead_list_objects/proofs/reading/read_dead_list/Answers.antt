@@ -14,9 +14,9 @@ ok_given (Err e) P known = tt
 pub returns-in_err-rows-clause-known : goal.returns-in_err-rows-clause-known
 returns-in_err-rows-clause-known g c =
     passed_on _ _ _ c.from_residual.ensures.1
-    (λ stored objects own blocks held are honest.
+    (λ stored objects own blocks held are tell.
     ⊎_elim (λ loss. inl (lossy _ loss)) (λ bad. inr (λ some. bad.1 some.1.0 some.1.1))
-    (c.in_err-rows.ensures.known stored objects own blocks held are honest))
+    (c.in_err-rows.ensures.known stored objects own blocks held are tell))
 
 pub returns-in_err-rows-clause-refused : goal.returns-in_err-rows-clause-refused
 returns-in_err-rows-clause-refused g c =
@@ -25,9 +25,9 @@ returns-in_err-rows-clause-refused g c =
 pub returns-clause-value : goal.returns-clause-value
 returns-clause-value g c =
     IfOk-weaker c.list_of.result _ _
-    (λ list spells stored objects own blocks held are honest. (
+    (λ list spells stored objects own blocks held are tell. (
       c.in_ok-rows.rows.items,
-      c.in_ok-rows.ensures.value stored objects own blocks held are honest,
+      c.in_ok-rows.ensures.value stored objects own blocks held are tell,
       subst (λ (bytes : List ℕ). SpellsList bytes list) c.deref.ensures.value spells,
     ))
     c.list_of.ensures.found
@@ -59,10 +59,10 @@ returns-clause-refused g c =
 pub returns-clause-known : goal.returns-clause-known
 returns-clause-known g c =
     IfErr-weaker c.list_of.result _ _
-    (λ refusal why stored objects own blocks held are honest.
+    (λ refusal why stored objects own blocks held are tell.
     ⊎_elim (λ memory. inl (inl memory))
     (λ bad. inr (λ some.
-    let same = c.deref.ensures.value ∙ c.in_ok-rows.ensures.one stored objects own blocks held are honest some.1.0 some.1.1 in
+    let same = c.deref.ensures.value ∙ c.in_ok-rows.ensures.one stored objects own blocks held are tell some.1.0 some.1.1 in
     subst (λ (bytes : List ℕ). SpellsNoList bytes) same bad.1 some.1.2.0 some.1.2.2))
     why)
     c.list_of.ensures.refused
@@ -70,8 +70,8 @@ returns-clause-known g c =
 pub returns-clause-one : goal.returns-clause-one
 returns-clause-one g c =
     IfOk-weaker c.list_of.result _ _
-    (λ list one stored objects own blocks held are honest other there.
-    let same = c.deref.ensures.value ∙ c.in_ok-rows.ensures.one stored objects own blocks held are honest there.0 there.1 in
+    (λ list one stored objects own blocks held are tell other there.
+    let same = c.deref.ensures.value ∙ c.in_ok-rows.ensures.one stored objects own blocks held are tell there.0 there.1 in
     one (other, subst (λ (bytes : List ℕ). SpellsList bytes other) (sym same) there.2))
     (ok_given {G = (other : List Block) × SpellsList c.deref.result.now other} c.list_of.result (λ given list. IsPermutation given.0 list) (λ given. c.list_of.ensures.only given.0 given.1))
 

@@ -1,7 +1,7 @@
 use Rattle.std.proofs.Common.{◌∙◌, ◌-◌, inl, inr, subst}
 use Rattle.dnode.specs.Levels.{levels_of}
 use Rattle.block_store.proofs.Steps.{reads_on}
-use Rattle.dnode_tree.proofs.FurtherReads.{true_before, true_after}
+use Rattle.dnode_tree.proofs.FurtherReads.{told_before, told_after}
 use Rattle.dnode_tree.proofs.Refusing.{passed_on}
 use Rattle.dnode_tree.proofs.FreeRefused.{walk_refused_on}
 use Rattle.dnode_tree.proofs.Walks.{refused_for_memory}
@@ -15,7 +15,7 @@ use Rattle.dnode_tree.proofs.freeing.free_blocks.Goals as goal
 pub returns-in_err-others-clause-known : goal.returns-in_err-others-clause-known
 returns-in_err-others-clause-known g c =
     passed_on _ _ _ c.from_residual.ensures.1
-    (λ stored bound array later blocks others held tree le after honest. c.in_err-others.ensures.known stored later others held after honest)
+    (λ stored bound array later blocks others held tree le after tell. c.in_err-others.ensures.known stored later others held after tell)
 
 pub returns-in_err-blocks-clause-reads : goal.returns-in_err-blocks-clause-reads
 returns-in_err-blocks-clause-reads g c = reads_on _ _ _ _ c.in_ok-others.ensures.reads c.in_err-blocks.ensures.reads
@@ -23,9 +23,9 @@ returns-in_err-blocks-clause-reads g c = reads_on _ _ _ _ c.in_ok-others.ensures
 pub returns-in_err-blocks-clause-known : goal.returns-in_err-blocks-clause-known
 returns-in_err-blocks-clause-known g c =
     passed_on _ _ _ c.from_residual-in_err-blocks.ensures.1
-    (λ stored bound array later blocks others held tree le after honest.
+    (λ stored bound array later blocks others held tree le after tell.
     c.in_err-blocks.ensures.known stored array blocks (c.in_ok-others.ensures.reads.keeps stored held) (tree_later stored bound c.args.birth c.args.before.now array blocks le tree)
-    (true_after _ _ _ _ c.in_ok-others.ensures.reads c.in_err-blocks.ensures.reads honest))
+    (told_after _ _ _ _ c.in_ok-others.ensures.reads c.in_err-blocks.ensures.reads tell))
 
 pub returns-in_err-blocks_without-clause-reads : goal.returns-in_err-blocks_without-clause-reads
 returns-in_err-blocks_without-clause-reads g c = reads_on _ _ _ _ c.in_ok-others.ensures.reads c.in_ok-blocks.ensures.reads
@@ -34,10 +34,10 @@ pub returns-clause-reads : goal.returns-clause-reads
 returns-clause-reads g c = reads_on _ _ _ _ c.in_ok-others.ensures.reads c.in_ok-blocks.ensures.reads
 
 pub returns-clause-freed : goal.returns-clause-freed
-returns-clause-freed g c = λ stored bound array later blocks others held tree le after honest.
-    let first = c.in_ok-others.ensures.blocks stored later others held after (true_before _ _ _ _ c.in_ok-others.ensures.reads c.in_ok-blocks.ensures.reads honest) in
+returns-clause-freed g c = λ stored bound array later blocks others held tree le after tell.
+    let first = c.in_ok-others.ensures.blocks stored later others held after (told_before _ _ _ _ c.in_ok-others.ensures.reads c.in_ok-blocks.ensures.reads tell) in
     let second = c.in_ok-blocks.ensures.blocks stored array blocks (c.in_ok-others.ensures.reads.keeps stored held) (tree_later stored bound c.args.birth c.args.before.now array blocks le tree)
-    (true_after _ _ _ _ c.in_ok-others.ensures.reads c.in_ok-blocks.ensures.reads honest) in
+    (told_after _ _ _ _ c.in_ok-others.ensures.reads c.in_ok-blocks.ensures.reads tell) in
     subst (λ bs. AreOnlyIn bs others c.in_ok-blocks_without.field-0.items) (c.deref.ensures.value ∙ second)
     (subst (λ os. AreOnlyIn c.deref.result.now os c.in_ok-blocks_without.field-0.items) (c.deref-2.ensures.value ∙ first) c.in_ok-blocks_without.ensures)
 

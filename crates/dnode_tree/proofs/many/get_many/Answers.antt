@@ -43,9 +43,9 @@ pub returns-in_err-add_below-clause-known : goal.returns-in_err-add_below-clause
 returns-in_err-add_below-clause-known g c =
     let level_is : c.levels_of.result - 1 ≡ levels_of c.args.node.now.highest - 1 = ap (λ n. n - 1) c.levels_of.ensures.value in
     passed_on _ _ _ c.from_residual.ensures.1
-    (λ stored array blocks held tree honest.
+    (λ stored array blocks held tree tell.
     c.in_err-add_below.ensures.known stored array blocks held
-    (subst (λ l. IsSubtree stored (property_of c.args.node.now) l 0 c.args.birth c.args.node.now.pointer array blocks) (sym level_is) tree.root) honest)
+    (subst (λ l. IsSubtree stored (property_of c.args.node.now) l 0 c.args.birth c.args.node.now.pointer array blocks) (sym level_is) tree.root) tell)
 
 pub returns-in_err-add_nothing-clause-idle : goal.returns-in_err-add_nothing-clause-idle
 returns-in_err-add_nothing-clause-idle g c = λ either. c.add_below.ensures.idle (elim either [
@@ -64,7 +64,7 @@ returns-clause-value g c =
     let level_is : c.levels_of.result - 1 ≡ levels_of c.args.node.now.highest - 1 = ap (λ n. n - 1) c.levels_of.ensures.value in
     let far = behind_highest c.args.ids.now c.split_at.result.0.now c.split_at.result.1.now c.count_before.result c.args.node.now.highest c.split_at.ensures.front c.split_at.ensures.back c.requires.once c.count_before.ensures.behind in
     many_as_in c.args.ids.now c.split_at.result.0.now c.split_at.result.1.now c.count_before.result c.args.node.now.highest c.split_at.ensures.front c.split_at.ensures.back
-    c.args.store.now c.add_below.new.store c.args.node.now c.args.birth (c.levels_of.result - 1)
+    c.args.store.now c.add_below.new.store c.args.missing.now c.args.node.now c.args.birth (c.levels_of.result - 1)
     c.new-found.result.items c.add_below.new.found.items c.add_nothing.new.found.items level_is refl c.new-found.ensures.items c.in_ok-add_below.ensures.added
     c.in_ok-add_nothing.ensures.ok far
 
@@ -74,6 +74,6 @@ returns-clause-found g c =
     let far = behind_highest c.args.ids.now c.split_at.result.0.now c.split_at.result.1.now c.count_before.result c.args.node.now.highest c.split_at.ensures.front c.split_at.ensures.back c.requires.once c.count_before.ensures.behind in
     let low = within_highest c.args.ids.now c.split_at.result.0.now c.split_at.result.1.now c.count_before.result c.args.node.now.highest c.split_at.ensures.front c.split_at.ensures.back c.count_before.ensures.before in
     many_found c.args.ids.now c.split_at.result.0.now c.split_at.result.1.now c.count_before.result c.args.node.now.highest c.split_at.ensures.front c.split_at.ensures.back
-    c.args.store.now c.add_below.new.store c.args.node.now c.args.birth (c.levels_of.result - 1)
+    c.args.store.now c.add_below.new.store c.args.missing.now c.args.node.now c.args.birth (c.levels_of.result - 1)
     c.new-found.result.items c.add_below.new.found.items c.add_nothing.new.found.items level_is refl c.new-found.ensures.items c.in_ok-add_below.ensures.added
     c.in_ok-add_nothing.ensures.ok low far

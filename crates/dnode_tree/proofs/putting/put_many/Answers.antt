@@ -18,8 +18,8 @@ use Rattle.dnode_tree.proofs.putting.put_many.Goals as goal
 pub returns-in_err-pointer-clause-known : goal.returns-in_err-pointer-clause-known
 returns-in_err-pointer-clause-known g c =
     passed_on _ _ _ c.from_residual.ensures.1
-    (λ stored planned bound array blocks plans tree le honest.
-    c.in_err-pointer.ensures.known stored planned array blocks plans (root_of stored bound c.args.birth c.args.node.now array blocks le tree) honest)
+    (λ stored planned bound array blocks plans tree le tell.
+    c.in_err-pointer.ensures.known stored planned array blocks plans (root_of stored bound c.args.birth c.args.node.now array blocks le tree) tell)
 
 pub loop-level-init : goal.loop-level-init
 loop-level-init g c =

@@ -2,7 +2,7 @@ use Rattle.std.proofs.Common.{◌≡◌, inl, suc, ◌+◌, ◌-◌, ◌*◌, �
 use Rattle.std.proofs.lemmas.Result.{IfOk-weaker, IfErr-weaker}
 use Rattle.block_store.specs.Reading.{Asks, IsReadAs}
 use Rattle.block_store.proofs.Steps.{reads_on}
-use Rattle.dnode_tree.proofs.FurtherReads.{true_before, true_after}
+use Rattle.dnode_tree.proofs.FurtherReads.{told_before, told_after}
 use Rattle.std.specs.Prelude.{IfSome}
 use Rattle.dnode_tree.specs.declared.reading.DataBlock.{DataBlock}
 use Rattle.dnode_tree.proofs.Births.{births_below, child_births}
@@ -18,18 +18,18 @@ use Rattle.dnode_tree.proofs.reading.+get_below.Goals as goal
 pub returns-in_err-bytes-clause-known : goal.returns-in_err-bytes-clause-known
 returns-in_err-bytes-clause-known g t c =
     passed_on _ _ _ c.from_residual.ensures.1
-    (λ stored first array blocks held part honest.
+    (λ stored first array blocks held part tell.
     let there = data_part stored (property_of c.args.node.now) c.args.part.level 0 first c.args.part.birth c.args.part.pointer c.in-Block.block array blocks c.if-part-eq0.true c.in-Block.is part in
-    c.in_err-bytes.ensures.known stored there.0 held there.1.known (subst (λ asked. Asks asked c.in-Block.block) (sym c.asked_at-asked.ensures) there.1.asks) (inl honest))
+    c.in_err-bytes.ensures.known stored there.0 held there.1.known (subst (λ asked. Asks asked c.in-Block.block) (sym c.asked_at-asked.ensures) there.1.asks) tell)
 
 pub returns-in_err-children-clause-known : goal.returns-in_err-children-clause-known
 returns-in_err-children-clause-known g t c =
     let e : c.args.part.level ≡ suc (c.args.part.level - 1) = omega arith in
     passed_on _ _ _ c.from_residual-in_err-children.ensures.1
-    (λ stored first array blocks held part honest.
+    (λ stored first array blocks held part tell.
     let there = indirect_part stored (property_of c.args.node.now) c.args.part.level _ first c.args.part.birth c.args.part.pointer c.in-Block.block array blocks e c.in-Block.is part in
     c.in_err-children.ensures.known stored there.bytes there.pointers held there.known there.spelled
-    (subst (λ asked. Asks asked c.in-Block.block) (sym c.asked_at-asked.ensures) there.asks) honest)
+    (subst (λ asked. Asks asked c.in-Block.block) (sym c.asked_at-asked.ensures) there.asks) tell)
 
 pub returns-clause-reads : goal.returns-clause-reads
 returns-clause-reads g t c = reads_on _ _ _ _ c.in_ok-children.ensures.reads c.get_below.ensures.reads
@@ -39,13 +39,13 @@ returns-clause-value g t c =
     let e : c.args.part.level ≡ suc (c.args.part.level - 1) = omega arith in
     let low : c.args.place / c.span-span.result < 128 = child_low _ _ _ _ e c.span-span.ensures.value c.span-span.ensures.some c.requires.within in
     IfOk-weaker c.get_below.result _ _
-    (λ found is stored first array blocks held part honest.
+    (λ found is stored first array blocks held part tell.
     let there = indirect_part stored (property_of c.args.node.now) c.args.part.level (c.args.part.level - 1) first c.args.part.birth c.args.part.pointer c.in-Block.block array blocks e c.in-Block.is part in
-    let before = true_before _ _ _ _ c.in_ok-children.ensures.reads c.get_below.ensures.reads honest in
+    let before = told_before _ _ _ _ c.in_ok-children.ensures.reads c.get_below.ensures.reads tell in
     let child = child_part stored (property_of c.args.node.now) c.args.part.level (c.args.part.level - 1) first c.args.part.birth c.args.part.pointer c.in-Block.block array blocks
     _ c.get.result _ e c.in-Block.is part (c.in_ok-children.ensures.value stored there.bytes there.pointers held there.known there.spelled before) c.get.ensures.value low in
     is stored (first + c.args.place / c.span-span.result * 128 ^ (c.args.part.level - 1)) array child.0 (c.in_ok-children.ensures.reads.keeps stored held) child.1
-    (true_after _ _ _ _ c.in_ok-children.ensures.reads c.get_below.ensures.reads honest)
+    (told_after _ _ _ _ c.in_ok-children.ensures.reads c.get_below.ensures.reads tell)
     ∙ ap array (child_place first _ _ _ c.span-span.ensures.value c.span-span.ensures.some))
     c.get_below.ensures.value
 
@@ -54,13 +54,13 @@ returns-clause-known g t c =
     let e : c.args.part.level ≡ suc (c.args.part.level - 1) = omega arith in
     let low : c.args.place / c.span-span.result < 128 = child_low _ _ _ _ e c.span-span.ensures.value c.span-span.ensures.some c.requires.within in
     IfErr-weaker c.get_below.result _ _
-    (λ refusal is stored first array blocks held part honest.
+    (λ refusal is stored first array blocks held part tell.
     let there = indirect_part stored (property_of c.args.node.now) c.args.part.level (c.args.part.level - 1) first c.args.part.birth c.args.part.pointer c.in-Block.block array blocks e c.in-Block.is part in
-    let before = true_before _ _ _ _ c.in_ok-children.ensures.reads c.get_below.ensures.reads honest in
+    let before = told_before _ _ _ _ c.in_ok-children.ensures.reads c.get_below.ensures.reads tell in
     let child = child_part stored (property_of c.args.node.now) c.args.part.level (c.args.part.level - 1) first c.args.part.birth c.args.part.pointer c.in-Block.block array blocks
     _ c.get.result _ e c.in-Block.is part (c.in_ok-children.ensures.value stored there.bytes there.pointers held there.known there.spelled before) c.get.ensures.value low in
     is stored (first + c.args.place / c.span-span.result * 128 ^ (c.args.part.level - 1)) array child.0 (c.in_ok-children.ensures.reads.keeps stored held) child.1
-    (true_after _ _ _ _ c.in_ok-children.ensures.reads c.get_below.ensures.reads honest))
+    (told_after _ _ _ _ c.in_ok-children.ensures.reads c.get_below.ensures.reads tell))
     c.get_below.ensures.known
 
 pub returns-in_default-clause-found : goal.returns-in_default-clause-found
@@ -119,14 +119,14 @@ returns-clause-born g t c =
     let e : c.args.part.level ≡ suc (c.args.part.level - 1) = omega arith in
     let low : c.args.place / c.span-span.result < 128 = child_low _ _ _ _ e c.span-span.ensures.value c.span-span.ensures.some c.requires.within in
     IfOk-weaker c.get_below.result _ _
-    (λ found is stored first births held were honest.
+    (λ found is stored first births held were tell.
     let there = births_below stored c.args.part.level (c.args.part.level - 1) first c.args.part.pointer c.in-Block.block births e c.in-Block.is were in
-    let before = true_before _ _ _ _ c.in_ok-children.ensures.reads c.get_below.ensures.reads honest in
+    let before = told_before _ _ _ _ c.in_ok-children.ensures.reads c.get_below.ensures.reads tell in
     let read = c.in_ok-children.ensures.value stored there.bytes there.pointers held there.known there.spelled before in
     let below = child_births stored (c.args.part.level - 1) first c.in-Block.block births _ c.get.result (c.args.place / c.span-span.result) there read c.get.ensures.value low in
     subst (λ id. IfSome found (λ (block : DataBlock). block.birth ≡ births 0 id)) (child_place first _ _ _ c.span-span.ensures.value c.span-span.ensures.some)
     (is stored (first + c.args.place / c.span-span.result * 128 ^ (c.args.part.level - 1)) births (c.in_ok-children.ensures.reads.keeps stored held) below
-    (true_after _ _ _ _ c.in_ok-children.ensures.reads c.get_below.ensures.reads honest)))
+    (told_after _ _ _ _ c.in_ok-children.ensures.reads c.get_below.ensures.reads tell)))
     c.get_below.ensures.born
 
 pub returns-clause-caused : goal.returns-clause-caused

@@ -1,7 +1,7 @@
 use Rattle.std.proofs.Common.{◌≡◌, ap, [], ◌∷◌, List, inl, inr, IsTrue, append-nil, suc, ◌-◌, refl, subst, sym, ◌∙◌, arith}
 use Rattle.block_store.specs.Reading.{Asks}
 use Rattle.block_store.proofs.Steps.{reads_on}
-use Rattle.dnode_tree.proofs.FurtherReads.{true_before, true_after}
+use Rattle.dnode_tree.proofs.FurtherReads.{told_before, told_after}
 use Rattle.dnode_tree.proofs.Parts.{data_part, indirect_part}
 use Rattle.dnode_tree.proofs.Collecting.{parts_below, part_at, collecting_begins, collecting_goes_on, collected_all}
 use Rattle.dnode_tree.proofs.Refusing.{passed_on}
@@ -21,10 +21,10 @@ pub returns-in_err-children-clause-known : goal.returns-in_err-children-clause-k
 returns-in_err-children-clause-known g t c =
     let e : c.args.part.level ≡ suc (c.args.part.level - 1) = omega arith in
     passed_on _ _ _ c.from_residual-in_err-children.ensures.1
-    (λ stored first array blocks held part honest.
+    (λ stored first array blocks held part tell.
     let there = indirect_part stored (property_of c.args.node.now) c.args.part.level _ first c.args.part.birth c.args.part.pointer c.in-Block.block array blocks e c.in-Block.is part in
     c.in_err-children.ensures.known stored there.bytes there.pointers held there.known there.spelled
-    (subst (λ asked. Asks asked c.in-Block.block) (sym c.asked_at-asked.ensures) there.asks) honest)
+    (subst (λ asked. Asks asked c.in-Block.block) (sym c.asked_at-asked.ensures) there.asks) tell)
 
 pub loop-pointer-init : goal.loop-pointer-init
 loop-pointer-init g t c = (collecting_begins _ _ _ _ _ _ _, none_walked _ _ _ _ _ _)
@@ -50,14 +50,14 @@ returns-in_err-collect_below-clause-known g t c =
     let later = reads_on _ _ _ _ c.loop-pointer.invariant.0.reads c.in_err-collect_below.ensures.reads in
     let sooner = reads_on _ _ _ _ c.in_ok-children.ensures.reads c.loop-pointer.invariant.0.reads in
     passed_on _ _ _ c.from_residual-in_err-collect_below.ensures.1
-    (λ stored first array blocks held part honest.
+    (λ stored first array blocks held part tell.
     let there = indirect_part stored (property_of c.args.node.now) c.args.part.level (c.args.part.level - 1) first c.args.part.birth c.args.part.pointer c.in-Block.block array blocks e c.in-Block.is part in
-    let before = true_before _ _ _ _ c.in_ok-children.ensures.reads later honest in
+    let before = told_before _ _ _ _ c.in_ok-children.ensures.reads later tell in
     let read = c.pointers-pointer-items.ensures.value ∙ c.in_ok-children.ensures.value stored there.bytes there.pointers held there.known there.spelled before in
     let are = parts_below stored (property_of c.args.node.now) c.args.part.level (c.args.part.level - 1) first c.args.part.birth c.args.part.pointer c.in-Block.block array blocks _ e c.in-Block.is part read in
     c.in_err-collect_below.ensures.known stored _ array _ (sooner.keeps stored held)
     (part_at stored (property_of c.args.node.now) (c.args.part.level - 1) first _ _ array _ c.loop-pointer.pointer-index _ _ are c.loop-pointer-test.true refl)
-    (true_after _ _ _ _ sooner c.in_err-collect_below.ensures.reads honest))
+    (told_after _ _ _ _ sooner c.in_err-collect_below.ensures.reads tell))
 
 pub returns-clause-reads : goal.returns-clause-reads
 returns-clause-reads g t c = reads_on _ _ _ _ c.in_ok-children.ensures.reads c.loop-pointer.invariant.0.reads
@@ -65,14 +65,14 @@ returns-clause-reads g t c = reads_on _ _ _ _ c.in_ok-children.ensures.reads c.l
 pub returns-clause-blocks : goal.returns-clause-blocks
 returns-clause-blocks g t c =
     let e : c.args.part.level ≡ suc (c.args.part.level - 1) = omega arith in
-    λ stored first array blocks held part honest.
+    λ stored first array blocks held part tell.
     let there = indirect_part stored (property_of c.args.node.now) c.args.part.level (c.args.part.level - 1) first c.args.part.birth c.args.part.pointer c.in-Block.block array blocks e c.in-Block.is part in
-    let before = true_before _ _ _ _ c.in_ok-children.ensures.reads c.loop-pointer.invariant.0.reads honest in
+    let before = told_before _ _ _ _ c.in_ok-children.ensures.reads c.loop-pointer.invariant.0.reads tell in
     let read = c.pointers-pointer-items.ensures.value ∙ c.in_ok-children.ensures.value stored there.bytes there.pointers held there.known there.spelled before in
     let are = parts_below stored (property_of c.args.node.now) c.args.part.level (c.args.part.level - 1) first c.args.part.birth c.args.part.pointer c.in-Block.block array blocks _ e c.in-Block.is part read in
     collected_all _ _ _ _ _ _ _ _ _ _ _ _ _ c.loop-pointer.invariant.0 c.loop-pointer-test.false c.in_ok-push.ensures.ok stored first array _
     (c.in_ok-children.ensures.reads.keeps stored held) are
-    (true_after _ _ _ _ c.in_ok-children.ensures.reads c.loop-pointer.invariant.0.reads honest) there.blocks_are
+    (told_after _ _ _ _ c.in_ok-children.ensures.reads c.loop-pointer.invariant.0.reads tell) there.blocks_are
 
 pub returns-in_default-clause-found : goal.returns-in_default-clause-found
 returns-in_default-clause-found g t c =
@@ -124,7 +124,7 @@ returns-clause-found g t c =
     (blocks, added, are)
 
 pub returns-then-not-asks-clause-known : goal.returns-then-not-asks-clause-known
-returns-then-not-asks-clause-known g t c = λ stored first array blocks held part honest.
+returns-then-not-asks-clause-known g t c = λ stored first array blocks held part tell.
     let there = data_part stored (property_of c.args.node.now) c.args.part.level 0 first c.args.part.birth c.args.part.pointer c.in-Block.block array blocks c.if-part-eq0.true c.in-Block.is part in
     let test : IsTrue c.asks.result = c.asks.ensures.1 (subst (λ asked. Asks asked c.in-Block.block) (sym c.asked_at-asked.ensures) there.1.asks) in
     absurd cc

@@ -11,7 +11,7 @@ use Rattle.dnode_tree.proofs.within.walk_within.Goals as goal
 pub returns-clause-blocks : goal.returns-clause-blocks
 returns-clause-blocks g c =
     IfOk-weaker c.walk.result _ _
-    (λ found told stored array blocks held tree honest. told stored array blocks held tree honest ∙ all_picked (is_picked None) blocks (λ block is. refl))
+    (λ found told stored array blocks held tree tell. told stored array blocks held tree tell ∙ all_picked (is_picked None) blocks (λ block is. refl))
     c.walk.ensures.blocks
 
 pub returns-clause-found : goal.returns-clause-found
@@ -29,7 +29,7 @@ returns-clause-refused g c =
 pub returns-clause-known : goal.returns-clause-known
 returns-clause-known g c =
     IfErr-weaker c.walk.result _ _
-    (λ refusal told stored array blocks held tree once enough honest.
+    (λ refusal told stored array blocks held tree once enough tell.
     let same : blocks ≡ filter (is_picked None) blocks = sym (all_picked (is_picked None) blocks (λ block is. refl)) in
-    told stored array blocks held tree (subst (λ bs. AreDistinct bs) same once) (subst (λ bs. indirect_count bs ≤ c.args.left.now) same enough) honest)
+    told stored array blocks held tree (subst (λ bs. AreDistinct bs) same once) (subst (λ bs. indirect_count bs ≤ c.args.left.now) same enough) tell)
     c.walk.ensures.known

@@ -8,17 +8,17 @@ use Rattle.meta_objset.proofs.datasets.expect_record.Goals as goal
 
 pub returns-in_err-found-clause-known : goal.returns-in_err-found-clause-known
 returns-in_err-found-clause-known g c =
-    passed_on _ _ _ c.from_residual.ensures.1 (λ stored objects own blocks held are honest. inl (c.in_err-found.ensures.known stored objects own blocks held are honest))
+    passed_on _ _ _ c.from_residual.ensures.1 (λ stored objects own blocks held are tell. inl (c.in_err-found.ensures.known stored objects own blocks held are tell))
 
 pub returns-in_default-clause-known : goal.returns-in_default-clause-known
-returns-in_default-clause-known g c = λ stored objects own blocks held are honest.
-    let known = c.in_ok-found.ensures.value stored objects own blocks held are honest in
+returns-in_default-clause-known g c = λ stored objects own blocks held are tell.
+    let known = c.in_ok-found.ensures.value stored objects own blocks held are tell in
     let none = subst (λ (found : Option ObjectShape). HasShape (objects c.args.number) found) c.in_default.is known in
     inr (refl, λ r has. unshaped (objects c.args.number) has.there none has.is)
 
 pub returns-then-not-is_of_record-clause-known : goal.returns-then-not-is_of_record-clause-known
-returns-then-not-is_of_record-clause-known g c = λ stored objects own blocks held are honest.
-    let known = c.in_ok-found.ensures.value stored objects own blocks held are honest in
+returns-then-not-is_of_record-clause-known g c = λ stored objects own blocks held are tell.
+    let known = c.in_ok-found.ensures.value stored objects own blocks held are tell in
     let there = shaped (objects c.args.number) c.in-Some.shape (subst (λ (found : Option ObjectShape). HasShape (objects c.args.number) found) c.in-Some.is known) in
     inr (
       refl,
@@ -29,8 +29,8 @@ returns-then-not-is_of_record-clause-known g c = λ stored objects own blocks he
     )
 
 pub returns-clause-value : goal.returns-clause-value
-returns-clause-value g c = λ stored objects own blocks held are honest.
-    let known = c.in_ok-found.ensures.value stored objects own blocks held are honest in
+returns-clause-value g c = λ stored objects own blocks held are tell.
+    let known = c.in_ok-found.ensures.value stored objects own blocks held are tell in
     let there = shaped (objects c.args.number) c.in-Some.shape (subst (λ (found : Option ObjectShape). HasShape (objects c.args.number) found) c.in-Some.is known) in
     let is = c.is_of_record.ensures.0 c.if-not-is_of_record.false in
     (there.there, there.is, record { object_type = there.object_type ∙ is.0; sectors = there.sectors ∙ is.1; highest = there.highest ∙ is.2; ends = there.ends })

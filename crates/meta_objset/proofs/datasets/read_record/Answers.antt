@@ -4,7 +4,7 @@ use Rattle.std.specs.declared.alloc.Global.{Global}
 use Rattle.std.proofs.lemmas.Result.{IfOk-weaker, IfErr-weaker}
 use Rattle.block_store.proofs.Steps.{reads_on}
 use Rattle.block_store.proofs.Causes.{caused_behind_reads}
-use Rattle.dnode_tree.proofs.FurtherReads.{true_before, true_after}
+use Rattle.dnode_tree.proofs.FurtherReads.{told_before, told_after}
 use Rattle.dnode_tree.proofs.Refusing.{passed_on, ok_both}
 use Rattle.dnode_tree.specs.Ways.{bytes_of}
 use Rattle.objset.specs.Found.{IsDataFound}
@@ -16,7 +16,7 @@ use Rattle.meta_objset.proofs.datasets.read_record.Goals as goal
 
 pub returns-in_err-expect_record-clause-known : goal.returns-in_err-expect_record-clause-known
 returns-in_err-expect_record-clause-known g c =
-    passed_on _ _ _ c.from_residual.ensures.1 (λ stored objects own blocks held are honest. c.in_err-expect_record.ensures.known stored objects own blocks held are honest)
+    passed_on _ _ _ c.from_residual.ensures.1 (λ stored objects own blocks held are tell. c.in_err-expect_record.ensures.known stored objects own blocks held are tell)
 
 pub returns-in_err-bytes-clause-reads : goal.returns-in_err-bytes-clause-reads
 returns-in_err-bytes-clause-reads g c = reads_on _ _ _ _ c.in_ok-expect_record.ensures.reads c.in_err-bytes.ensures.reads
@@ -26,21 +26,21 @@ returns-in_err-bytes-clause-known g c =
     let first = c.in_ok-expect_record.ensures.reads in
     let rest = c.in_err-bytes.ensures.reads in
     passed_on _ _ _ c.from_residual-in_err-bytes.ensures.1
-    (λ stored objects own blocks held are honest.
-    let there = c.in_ok-expect_record.ensures.value stored objects own blocks held are (true_before _ _ _ _ first rest honest) in
+    (λ stored objects own blocks held are tell.
+    let there = c.in_ok-expect_record.ensures.value stored objects own blocks held are (told_before _ _ _ _ first rest tell) in
     ⊎_elim (λ memory. inl memory) (λ bad. let clash : Some there.0 ≡ None = sym there.1 ∙ bad.1 in absurd cc)
-    (c.in_err-bytes.ensures.known stored objects own blocks (first.keeps stored held) are (true_after _ _ _ _ first rest honest)))
+    (c.in_err-bytes.ensures.known stored objects own blocks (first.keeps stored held) are (told_after _ _ _ _ first rest tell)))
 
 pub returns-in_default-clause-reads : goal.returns-in_default-clause-reads
 returns-in_default-clause-reads g c = reads_on _ _ _ _ c.in_ok-expect_record.ensures.reads c.in_ok-bytes.ensures.reads
 
 pub returns-in_default-clause-known : goal.returns-in_default-clause-known
-returns-in_default-clause-known g c = λ stored objects own blocks held are honest.
+returns-in_default-clause-known g c = λ stored objects own blocks held are tell.
     let first = c.in_ok-expect_record.ensures.reads in
     let rest = c.in_ok-bytes.ensures.reads in
-    let there = c.in_ok-expect_record.ensures.value stored objects own blocks held are (true_before _ _ _ _ first rest honest) in
+    let there = c.in_ok-expect_record.ensures.value stored objects own blocks held are (told_before _ _ _ _ first rest tell) in
     let hole = some_is (objects c.args.number) there.0 (λ object. bytes_of c.in_ok-bytes.field-0 ≡ object.array 0)
-    (c.in_ok-bytes.ensures.value stored objects own blocks (first.keeps stored held) are (true_after _ _ _ _ first rest honest)) there.1 in
+    (c.in_ok-bytes.ensures.value stored objects own blocks (first.keeps stored held) are (told_after _ _ _ _ first rest tell)) there.1 in
     inr (
       refl,
       λ r has.
@@ -57,11 +57,11 @@ returns-clause-value g c =
     let first = c.in_ok-expect_record.ensures.reads in
     let rest = c.in_ok-bytes.ensures.reads in
     IfOk-weaker c.record_of.result _ _
-    (λ found is stored objects own blocks held are honest.
-    let there = c.in_ok-expect_record.ensures.value stored objects own blocks held are (true_before _ _ _ _ first rest honest) in
+    (λ found is stored objects own blocks held are tell.
+    let there = c.in_ok-expect_record.ensures.value stored objects own blocks held are (told_before _ _ _ _ first rest tell) in
     let block = some_is (objects c.args.number) there.0 (λ object. Some c.in-Some.bytes.items ≡ object.array 0)
     (subst (λ (found : Option (Vec ℕ Global)). IsSomeAnd (objects c.args.number) (λ object. bytes_of found ≡ object.array 0)) c.in-Some.is
-    (c.in_ok-bytes.ensures.value stored objects own blocks (first.keeps stored held) are (true_after _ _ _ _ first rest honest))) there.1 in
+    (c.in_ok-bytes.ensures.value stored objects own blocks (first.keeps stored held) are (told_after _ _ _ _ first rest tell))) there.1 in
     record {
       there = there.0;
       is = there.1;
@@ -78,11 +78,11 @@ returns-clause-known g c =
     let first = c.in_ok-expect_record.ensures.reads in
     let rest = c.in_ok-bytes.ensures.reads in
     IfErr-weaker c.record_of.result _ _
-    (λ refusal why stored objects own blocks held are honest.
-    let there = c.in_ok-expect_record.ensures.value stored objects own blocks held are (true_before _ _ _ _ first rest honest) in
+    (λ refusal why stored objects own blocks held are tell.
+    let there = c.in_ok-expect_record.ensures.value stored objects own blocks held are (told_before _ _ _ _ first rest tell) in
     let block = some_is (objects c.args.number) there.0 (λ object. Some c.in-Some.bytes.items ≡ object.array 0)
     (subst (λ (found : Option (Vec ℕ Global)). IsSomeAnd (objects c.args.number) (λ object. bytes_of found ≡ object.array 0)) c.in-Some.is
-    (c.in_ok-bytes.ensures.value stored objects own blocks (first.keeps stored held) are (true_after _ _ _ _ first rest honest))) there.1 in
+    (c.in_ok-bytes.ensures.value stored objects own blocks (first.keeps stored held) are (told_after _ _ _ _ first rest tell))) there.1 in
     inr (
       why.0,
       λ r has.
@@ -146,11 +146,11 @@ returns-clause-one g c =
     let first = c.in_ok-expect_record.ensures.reads in
     let rest = c.in_ok-bytes.ensures.reads in
     IfOk-weaker c.record_of.result _ _
-    (λ found one stored objects own blocks held are honest other has.
-    let there = c.in_ok-expect_record.ensures.value stored objects own blocks held are (true_before _ _ _ _ first rest honest) in
+    (λ found one stored objects own blocks held are tell other has.
+    let there = c.in_ok-expect_record.ensures.value stored objects own blocks held are (told_before _ _ _ _ first rest tell) in
     let block = some_is (objects c.args.number) there.0 (λ object. Some c.in-Some.bytes.items ≡ object.array 0)
     (subst (λ (found : Option (Vec ℕ Global)). IsSomeAnd (objects c.args.number) (λ object. bytes_of found ≡ object.array 0)) c.in-Some.is
-    (c.in_ok-bytes.ensures.value stored objects own blocks (first.keeps stored held) are (true_after _ _ _ _ first rest honest))) there.1 in
+    (c.in_ok-bytes.ensures.value stored objects own blocks (first.keeps stored held) are (told_after _ _ _ _ first rest tell))) there.1 in
     let both : Some c.in-Some.bytes.items ≡ Some has.bytes = block ∙ (record_there (objects c.args.number) there.0 other there.1 has).0 in
     let same : has.bytes ≡ c.deref.result.now = let e : has.bytes ≡ c.in-Some.bytes.items = cc in e ∙ sym c.deref.ensures.value in
     one other (subst (λ (bytes : List ℕ). SpellsRecord bytes other) same has.spelled))

@@ -10,23 +10,23 @@ use Rattle.meta_objset.proofs.reading.read_config.Goals as goal
 pub returns-in_err-rows-clause-known : goal.returns-in_err-rows-clause-known
 returns-in_err-rows-clause-known g c =
     passed_on _ _ _ c.from_residual.ensures.1
-    (λ stored objects own blocks held are honest.
-    ⊎_elim (λ memory. inl memory) (λ bad. inr (bad.0, λ vdevs has. bad.1 _ has.1)) (c.in_err-rows.ensures.known stored objects own blocks held are honest))
+    (λ stored objects own blocks held are tell.
+    ⊎_elim (λ memory. inl memory) (λ bad. inr (bad.0, λ vdevs has. bad.1 _ has.1)) (c.in_err-rows.ensures.known stored objects own blocks held are tell))
 
 pub returns-clause-value : goal.returns-clause-value
 returns-clause-value g c =
     IfOk-weaker c.config_of.result _ _
-    (λ config is stored objects own blocks held are honest.
-    let rows = c.in_ok-rows.ensures.value stored objects own blocks held are honest in
+    (λ config is stored objects own blocks held are tell.
+    let rows = c.in_ok-rows.ensures.value stored objects own blocks held are tell in
     (is.0, subst (λ (bytes : List ℕ). HasTable config_kind (objects 2) bytes) (sym c.deref.ensures.value ∙ is.1) rows))
     c.config_of.ensures.found
 
 pub returns-clause-known : goal.returns-clause-known
 returns-clause-known g c =
     IfErr-weaker c.config_of.result _ _
-    (λ refusal why stored objects own blocks held are honest.
+    (λ refusal why stored objects own blocks held are tell.
     ⊎_elim (λ memory. inl (inl memory))
-    (λ bad. inr (bad.0, λ vdevs has. bad.1 vdevs (has.0, c.deref.ensures.value ∙ c.in_ok-rows.ensures.one stored objects own blocks held are honest _ has.1)))
+    (λ bad. inr (bad.0, λ vdevs has. bad.1 vdevs (has.0, c.deref.ensures.value ∙ c.in_ok-rows.ensures.one stored objects own blocks held are tell _ has.1)))
     why)
     c.config_of.ensures.refused
 

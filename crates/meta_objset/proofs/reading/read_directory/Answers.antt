@@ -13,23 +13,23 @@ use Rattle.meta_objset.proofs.reading.read_directory.Goals as goal
 pub returns-in_err-rows-clause-known : goal.returns-in_err-rows-clause-known
 returns-in_err-rows-clause-known g c =
     passed_on _ _ _ c.from_residual.ensures.1
-    (λ stored objects own blocks held are honest.
-    ⊎_elim (λ memory. inl memory) (λ bad. inr (bad.0, λ rows has. bad.1 _ has.1)) (c.in_err-rows.ensures.known stored objects own blocks held are honest))
+    (λ stored objects own blocks held are tell.
+    ⊎_elim (λ memory. inl memory) (λ bad. inr (bad.0, λ rows has. bad.1 _ has.1)) (c.in_err-rows.ensures.known stored objects own blocks held are tell))
 
 pub returns-clause-value : goal.returns-clause-value
 returns-clause-value g c =
     IfOk-weaker c.directory_of.result _ _
-    (λ directory is stored objects own blocks held are honest.
-    let rows = c.in_ok-rows.ensures.value stored objects own blocks held are honest in
+    (λ directory is stored objects own blocks held are tell.
+    let rows = c.in_ok-rows.ensures.value stored objects own blocks held are tell in
     (is.0, subst (λ (bytes : List ℕ). HasTable directory_kind (objects 1) bytes) (sym c.deref.ensures.value ∙ is.1) rows))
     c.directory_of.ensures.found
 
 pub returns-clause-known : goal.returns-clause-known
 returns-clause-known g c =
     IfErr-weaker c.directory_of.result _ _
-    (λ refusal why stored objects own blocks held are honest.
+    (λ refusal why stored objects own blocks held are tell.
     ⊎_elim (λ memory. inl (inl memory))
-    (λ bad. inr (bad.0, λ rows has. bad.1 rows has.0 (c.deref.ensures.value ∙ c.in_ok-rows.ensures.one stored objects own blocks held are honest _ has.1)))
+    (λ bad. inr (bad.0, λ rows has. bad.1 rows has.0 (c.deref.ensures.value ∙ c.in_ok-rows.ensures.one stored objects own blocks held are tell _ has.1)))
     why)
     c.directory_of.ensures.refused
 
@@ -61,8 +61,8 @@ returns-clause-refused g c =
 pub returns-clause-one : goal.returns-clause-one
 returns-clause-one g c =
     IfOk-weaker c.directory_of.result _ _
-    (λ found one stored objects own blocks held are honest other has.
-    one other (has.0, c.deref.ensures.value ∙ c.in_ok-rows.ensures.one stored objects own blocks held are honest _ has.1))
+    (λ found one stored objects own blocks held are tell other has.
+    one other (has.0, c.deref.ensures.value ∙ c.in_ok-rows.ensures.one stored objects own blocks held are tell _ has.1))
     (ok_for_all c.directory_of.result (λ (rows : List DirectoryRow). IsDirectory rows × (c.deref.result.now ≡ rows_bytes rows)) (λ found rows. found ≡ rows) (λ rows is. c.directory_of.ensures.only rows is.0 is.1))
 
 pub returns-clause-caused : goal.returns-clause-caused

@@ -12,23 +12,23 @@ use Rattle.meta_objset.proofs.reading.read_space_maps.Goals as goal
 pub returns-in_err-rows-clause-known : goal.returns-in_err-rows-clause-known
 returns-in_err-rows-clause-known g c =
     passed_on _ _ _ c.from_residual.ensures.1
-    (λ stored objects own blocks held are honest.
-    ⊎_elim (λ memory. inl memory) (λ bad. inr (bad.0, λ rows has. bad.1 _ has.1)) (c.in_err-rows.ensures.known stored objects own blocks held are honest))
+    (λ stored objects own blocks held are tell.
+    ⊎_elim (λ memory. inl memory) (λ bad. inr (bad.0, λ rows has. bad.1 _ has.1)) (c.in_err-rows.ensures.known stored objects own blocks held are tell))
 
 pub returns-clause-value : goal.returns-clause-value
 returns-clause-value g c =
     IfOk-weaker c.maps_of.result _ _
-    (λ maps is stored objects own blocks held are honest.
-    let rows = c.in_ok-rows.ensures.value stored objects own blocks held are honest in
+    (λ maps is stored objects own blocks held are tell.
+    let rows = c.in_ok-rows.ensures.value stored objects own blocks held are tell in
     (is.0, subst (λ (bytes : List ℕ). HasTable maps_kind (objects 4) bytes) (sym c.deref.ensures.value ∙ is.1) rows))
     c.maps_of.ensures.found
 
 pub returns-clause-known : goal.returns-clause-known
 returns-clause-known g c =
     IfErr-weaker c.maps_of.result _ _
-    (λ refusal why stored objects own blocks held are honest.
+    (λ refusal why stored objects own blocks held are tell.
     ⊎_elim (λ memory. inl (inl memory))
-    (λ bad. inr (bad.0, λ rows has. bad.1 rows has.0 (c.deref.ensures.value ∙ c.in_ok-rows.ensures.one stored objects own blocks held are honest _ has.1)))
+    (λ bad. inr (bad.0, λ rows has. bad.1 rows has.0 (c.deref.ensures.value ∙ c.in_ok-rows.ensures.one stored objects own blocks held are tell _ has.1)))
     why)
     c.maps_of.ensures.refused
 
@@ -60,8 +60,8 @@ returns-clause-refused g c =
 pub returns-clause-one : goal.returns-clause-one
 returns-clause-one g c =
     IfOk-weaker c.maps_of.result _ _
-    (λ found one stored objects own blocks held are honest other has.
-    one other (has.0, c.deref.ensures.value ∙ c.in_ok-rows.ensures.one stored objects own blocks held are honest _ has.1))
+    (λ found one stored objects own blocks held are tell other has.
+    one other (has.0, c.deref.ensures.value ∙ c.in_ok-rows.ensures.one stored objects own blocks held are tell _ has.1))
     (ok_for_all c.maps_of.result (λ (rows : List MetaslabMap). AreSpaceMaps rows × (c.deref.result.now ≡ maps_bytes rows)) (λ found rows. found ≡ rows) (λ rows is. c.maps_of.ensures.only rows is.0 is.1))
 
 pub returns-clause-caused : goal.returns-clause-caused

@@ -45,7 +45,7 @@ returns-in-Ok g c =
     done steps (Some commands.Write) old new (exchange head bytes c.plain-in-Ok.result) c.plain-in-Ok.ensures.error c.plain-in-Ok.ensures.bytes refl
     (laws.came_further (core_of old) (core_of mid) (core_of new) c.write.ensures.follows c.flush.ensures.follows) (c.flush.ensures.name ∙ c.write.ensures.name)
     (subst (λ (b : Bool). Leads steps old new (IsDone b (name_of old) head.offset bytes)) (sym forced)
-    (leads_on steps laws.parts_are_true old mid new (IsWritten (name_of old) head.offset bytes) IsFlushed c.write.ensures.follows c.flush.ensures.follows c.in_default.ensures.written c.in-Ok.ensures.flushed))
+    (leads_on steps laws.parts_tell old mid new (IsWritten (name_of old) head.offset bytes) IsFlushed c.write.ensures.follows c.flush.ensures.follows c.in_default.ensures.written c.in-Ok.ensures.flushed))
 
 pub returns-in-Err-flush : goal.returns-in-Err-flush
 returns-in-Err-flush g c =
@@ -58,7 +58,7 @@ returns-in-Err-flush g c =
     let bytes = c.args.payload.now in
     let forced : is_forced head ≡ true = sym c.is_forced.ensures ∙ c.if-not-is_forced.false in
     let here : List ℕ = name_of old in
-    let written = leads_on steps laws.parts_are_true old mid new (IsWritten here head.offset bytes) IsSame c.write.ensures.follows c.flush.ensures.follows c.in_default.ensures.written c.in-Err-flush.ensures.refused in
+    let written = leads_on steps laws.parts_tell old mid new (IsWritten here head.offset bytes) IsSame c.write.ensures.follows c.flush.ensures.follows c.in_default.ensures.written c.in-Err-flush.ensures.refused in
     failed steps (Some commands.Write) old new (exchange head bytes c.plain-in-Err-flush.result) c.error_of.result c.plain-in-Err-flush.ensures.error c.plain-in-Err-flush.ensures.bytes
     (laws.came_further (core_of old) (core_of mid) (core_of new) c.write.ensures.follows c.flush.ensures.follows) (c.flush.ensures.name ∙ c.write.ensures.name)
     (leads_also steps old new (λ c d. (m : Contents) × IsWritten here head.offset bytes c m × IsSame m d) (IsNotDone (is_forced head) here head.offset bytes)

@@ -10,18 +10,18 @@ returns-in_err-found-clause-refused g c = passed_on _ _ _ c.from_residual.ensure
 pub returns-in_err-found-clause-known : goal.returns-in_err-found-clause-known
 returns-in_err-found-clause-known g c =
     passed_on _ _ _ c.from_residual.ensures.1
-    (λ stored objects own blocks held are honest there is.
+    (λ stored objects own blocks held are tell there is.
     ⊎_elim (λ loss. inl loss) (λ bad. let clash : Some there ≡ None = sym is ∙ bad.1 in absurd cc)
-    (c.in_err-found.ensures.known stored objects own blocks held are honest))
+    (c.in_err-found.ensures.known stored objects own blocks held are tell))
 
 pub returns-in_default-clause-known : goal.returns-in_default-clause-known
-returns-in_default-clause-known g c = λ stored objects own blocks held are honest there is.
+returns-in_default-clause-known g c = λ stored objects own blocks held are tell there is.
     let hole = some_is (objects c.args.number) there (λ object. bytes_of c.in_ok-found.found ≡ object.array c.args.id)
-    (c.in_ok-found.ensures.value stored objects own blocks held are honest) is in
+    (c.in_ok-found.ensures.value stored objects own blocks held are tell) is in
     inr (refl, sym hole ∙ ap bytes_of c.in_default.is)
 
 pub returns-clause-value : goal.returns-clause-value
-returns-clause-value g c = λ stored objects own blocks held are honest there is.
+returns-clause-value g c = λ stored objects own blocks held are tell there is.
     let has = some_is (objects c.args.number) there (λ object. bytes_of c.in_ok-found.found ≡ object.array c.args.id)
-    (c.in_ok-found.ensures.value stored objects own blocks held are honest) is in
+    (c.in_ok-found.ensures.value stored objects own blocks held are tell) is in
     sym has ∙ ap bytes_of c.in-Some.is

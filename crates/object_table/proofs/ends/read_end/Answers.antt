@@ -2,7 +2,7 @@ use Rattle.std.proofs.Common.{◌≡◌, ℕ, ◌+◌, ◌-◌, List, inl, inr, 
 use Rattle.std.proofs.lemmas.Result.{IfOk-weaker, IfErr-weaker}
 use Rattle.block_store.proofs.Steps.{reads_on}
 use Rattle.block_store.proofs.Causes.{caused_behind_reads}
-use Rattle.dnode_tree.proofs.FurtherReads.{true_before, true_after}
+use Rattle.dnode_tree.proofs.FurtherReads.{told_before, told_after}
 use Rattle.dnode_tree.proofs.Refusing.{ok_both, passed_on}
 use Rattle.object_table.specs.Ends.{AreEndsOfSome}
 use Rattle.object_table.proofs.EndsRead.{ends_at, end_is, ends_read, ends_refused}
@@ -26,8 +26,8 @@ returns-in_err-first-clause-known g c =
     let first = c.in_ok-count.ensures.reads in
     let rest = c.in_err-first.ensures.reads in
     passed_on _ _ _ c.from_residual-in_err-first.ensures.1
-    (λ stored objects own blocks held are honest.
-    let object = c.in_ok-count.ensures.value stored objects own blocks held are (true_before _ _ _ _ first rest honest) in
+    (λ stored objects own blocks held are tell.
+    let object = c.in_ok-count.ensures.value stored objects own blocks held are (told_before _ _ _ _ first rest tell) in
     ⊎_elim (λ loss. inl loss)
     (λ bad. inr (
       bad.0,
@@ -35,7 +35,7 @@ returns-in_err-first-clause-known g c =
           let table = (table_of _ _ object.0 rows object.1 has).1 in
           ⊎_elim (λ hole. table.no_hole 0 (omega arith) hole) (λ hole. table.no_hole (c.in_ok-count.count - 1) (omega (arith, object.4)) hole) bad.1,
     ))
-    (c.in_err-first.ensures.known stored objects own blocks (first.keeps stored held) are (true_after _ _ _ _ first rest honest) object.0 object.1))
+    (c.in_err-first.ensures.known stored objects own blocks (first.keeps stored held) are (told_after _ _ _ _ first rest tell) object.0 object.1))
 
 pub returns-clause-reads : goal.returns-clause-reads
 returns-clause-reads g c = reads_on _ _ _ _ c.in_ok-count.ensures.reads c.in_ok-first.ensures.reads
@@ -47,9 +47,9 @@ returns-clause-value g c =
     let only = ok_for_all c.end_of.result (λ (count : ℕ). AreEndsOfSome c.args.kind.rows (c.in_ok-count.count - 1) count c.in_ok-first.first.items c.in_ok-first.last.items)
     (λ end count. end.rows ≡ count) c.end_of.ensures.only in
     IfOk-weaker c.end_of.result _ _
-    (λ end both stored objects own blocks held are honest rows has.
-    let object = c.in_ok-count.ensures.value stored objects own blocks held are (true_before _ _ _ _ first rest honest) in
-    let ends = c.in_ok-first.ensures.value stored objects own blocks (first.keeps stored held) are (true_after _ _ _ _ first rest honest) object.0 object.1 in
+    (λ end both stored objects own blocks held are tell rows has.
+    let object = c.in_ok-count.ensures.value stored objects own blocks held are (told_before _ _ _ _ first rest tell) in
+    let ends = c.in_ok-first.ensures.value stored objects own blocks (first.keeps stored held) are (told_after _ _ _ _ first rest tell) object.0 object.1 in
     let whole = whole_blocks c.args.store.now stored c.args.birth c.args.set.now objects own blocks c.args.number object.0 held are object.1 object.2.1 in
     end_is c.args.kind (objects c.args.number) rows object.0 end c.in_ok-first.first.items c.in_ok-first.last.items (c.in_ok-count.count - 1) has object.1 whole (omega (arith, object.4))
     ends.0 ends.1 both.0.0 both.0.1 both.1)
@@ -79,11 +79,11 @@ returns-clause-known g c =
     let first = c.in_ok-count.ensures.reads in
     let rest = c.in_ok-first.ensures.reads in
     IfErr-weaker c.end_of.result _ _
-    (λ refusal bad stored objects own blocks held are honest. inr (
+    (λ refusal bad stored objects own blocks held are tell. inr (
       bad.0,
       λ rows has.
-          let object = c.in_ok-count.ensures.value stored objects own blocks held are (true_before _ _ _ _ first rest honest) in
-          let ends = c.in_ok-first.ensures.value stored objects own blocks (first.keeps stored held) are (true_after _ _ _ _ first rest honest) object.0 object.1 in
+          let object = c.in_ok-count.ensures.value stored objects own blocks held are (told_before _ _ _ _ first rest tell) in
+          let ends = c.in_ok-first.ensures.value stored objects own blocks (first.keeps stored held) are (told_after _ _ _ _ first rest tell) object.0 object.1 in
           let whole = whole_blocks c.args.store.now stored c.args.birth c.args.set.now objects own blocks c.args.number object.0 held are object.1 object.2.1 in
           bad.1 has.table.spelled.count
           (ends_at c.args.kind (objects c.args.number) rows object.0 c.in_ok-first.first.items c.in_ok-first.last.items (c.in_ok-count.count - 1) has object.1 whole

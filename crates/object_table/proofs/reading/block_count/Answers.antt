@@ -9,17 +9,17 @@ use Rattle.object_table.proofs.reading.block_count.Goals as goal
 
 pub returns-in_err-found-clause-known : goal.returns-in_err-found-clause-known
 returns-in_err-found-clause-known g c =
-    passed_on _ _ _ c.from_residual.ensures.1 (λ stored objects own blocks held are honest. inl (c.in_err-found.ensures.known stored objects own blocks held are honest))
+    passed_on _ _ _ c.from_residual.ensures.1 (λ stored objects own blocks held are tell. inl (c.in_err-found.ensures.known stored objects own blocks held are tell))
 
 pub returns-in_default-clause-known : goal.returns-in_default-clause-known
-returns-in_default-clause-known g c = λ stored objects own blocks held are honest.
-    let known = c.in_ok-found.ensures.value stored objects own blocks held are honest in
+returns-in_default-clause-known g c = λ stored objects own blocks held are tell.
+    let known = c.in_ok-found.ensures.value stored objects own blocks held are tell in
     let none = subst (λ (found : Option ObjectShape). HasShape (objects c.args.number) found) c.in_default.is known in
     inr (refl, λ rows has. unshaped (objects c.args.number) has.there none has.is)
 
 pub returns-then-not-is_of_kind-clause-known : goal.returns-then-not-is_of_kind-clause-known
-returns-then-not-is_of_kind-clause-known g c = λ stored objects own blocks held are honest.
-    let known = c.in_ok-found.ensures.value stored objects own blocks held are honest in
+returns-then-not-is_of_kind-clause-known g c = λ stored objects own blocks held are tell.
+    let known = c.in_ok-found.ensures.value stored objects own blocks held are tell in
     let there = shaped (objects c.args.number) c.in-Some.shape (subst (λ (found : Option ObjectShape). HasShape (objects c.args.number) found) c.in-Some.is known) in
     inr (
       refl,
@@ -35,8 +35,8 @@ overflow_add-result g c =
     omega (arith, low)
 
 pub returns-clause-value : goal.returns-clause-value
-returns-clause-value g c = λ stored objects own blocks held are honest.
-    let known = c.in_ok-found.ensures.value stored objects own blocks held are honest in
+returns-clause-value g c = λ stored objects own blocks held are tell.
+    let known = c.in_ok-found.ensures.value stored objects own blocks held are tell in
     let there = shaped (objects c.args.number) c.in-Some.shape (subst (λ (found : Option ObjectShape). HasShape (objects c.args.number) found) c.in-Some.is known) in
     let kind = c.is_of_kind.ensures.0 c.if-not-is_of_kind.false in
     (there.there, there.is, (there.object_type ∙ kind.0, there.sectors ∙ kind.1), there.ends, ap (λ n. n + 1) there.highest)

@@ -2,7 +2,7 @@ use Rattle.std.proofs.Common.{◌≡◌, ℕ, List, inl, inr, ⊎_elim, sym, ap,
 use Rattle.std.proofs.lemmas.Result.{IfOk-weaker, IfErr-weaker}
 use Rattle.block_store.proofs.Steps.{reads_on}
 use Rattle.block_store.proofs.Causes.{caused_behind_reads}
-use Rattle.dnode_tree.proofs.FurtherReads.{true_before, true_after}
+use Rattle.dnode_tree.proofs.FurtherReads.{told_before, told_after}
 use Rattle.dnode_tree.proofs.Refusing.{passed_on}
 use Rattle.object_table.specs.Rows.{SpellsRows}
 use Rattle.object_table.specs.Tables.{bytes_to}
@@ -12,7 +12,7 @@ use Rattle.object_table.proofs.reading.read.Goals as goal
 
 pub returns-in_err-count-clause-known : goal.returns-in_err-count-clause-known
 returns-in_err-count-clause-known g c =
-    passed_on _ _ _ c.from_residual.ensures.1 (λ stored objects own blocks held are honest. c.in_err-count.ensures.known stored objects own blocks held are honest)
+    passed_on _ _ _ c.from_residual.ensures.1 (λ stored objects own blocks held are tell. c.in_err-count.ensures.known stored objects own blocks held are tell)
 
 pub returns-in_err-bytes-clause-reads : goal.returns-in_err-bytes-clause-reads
 returns-in_err-bytes-clause-reads g c = reads_on _ _ _ _ c.in_ok-count.ensures.reads c.in_err-bytes.ensures.reads
@@ -22,11 +22,11 @@ returns-in_err-bytes-clause-known g c =
     let first = c.in_ok-count.ensures.reads in
     let rest = c.in_err-bytes.ensures.reads in
     passed_on _ _ _ c.from_residual-in_err-bytes.ensures.1
-    (λ stored objects own blocks held are honest.
-    let object = c.in_ok-count.ensures.value stored objects own blocks held are (true_before _ _ _ _ first rest honest) in
+    (λ stored objects own blocks held are tell.
+    let object = c.in_ok-count.ensures.value stored objects own blocks held are (told_before _ _ _ _ first rest tell) in
     ⊎_elim (λ memory. inl memory)
     (λ bad. inr (bad.0, λ rows has. (table_of _ _ object.0 rows object.1 has).1.no_hole bad.1.0 (omega (arith, bad.1.1, object.4)) bad.1.2))
-    (c.in_err-bytes.ensures.known stored objects own blocks (first.keeps stored held) are (true_after _ _ _ _ first rest honest) object.0 object.1))
+    (c.in_err-bytes.ensures.known stored objects own blocks (first.keeps stored held) are (told_after _ _ _ _ first rest tell) object.0 object.1))
 
 pub returns-clause-reads : goal.returns-clause-reads
 returns-clause-reads g c = reads_on _ _ _ _ c.in_ok-count.ensures.reads c.in_ok-bytes.ensures.reads
@@ -36,9 +36,9 @@ returns-clause-value g c =
     let first = c.in_ok-count.ensures.reads in
     let rest = c.in_ok-bytes.ensures.reads in
     IfOk-weaker c.rows_of.result _ _
-    (λ rows spells stored objects own blocks held are honest.
-    let object = c.in_ok-count.ensures.value stored objects own blocks held are (true_before _ _ _ _ first rest honest) in
-    let front = c.in_ok-bytes.ensures.value stored objects own blocks (first.keeps stored held) are (true_after _ _ _ _ first rest honest) object.0 object.1 in
+    (λ rows spells stored objects own blocks held are tell.
+    let object = c.in_ok-count.ensures.value stored objects own blocks held are (told_before _ _ _ _ first rest tell) in
+    let front = c.in_ok-bytes.ensures.value stored objects own blocks (first.keeps stored held) are (told_after _ _ _ _ first rest tell) object.0 object.1 in
     record {
       there = object.0;
       is = object.1;
@@ -56,9 +56,9 @@ returns-clause-known g c =
     let first = c.in_ok-count.ensures.reads in
     let rest = c.in_ok-bytes.ensures.reads in
     IfErr-weaker c.rows_of.result _ _
-    (λ refusal why stored objects own blocks held are honest.
-    let object = c.in_ok-count.ensures.value stored objects own blocks held are (true_before _ _ _ _ first rest honest) in
-    let front = c.in_ok-bytes.ensures.value stored objects own blocks (first.keeps stored held) are (true_after _ _ _ _ first rest honest) object.0 object.1 in
+    (λ refusal why stored objects own blocks held are tell.
+    let object = c.in_ok-count.ensures.value stored objects own blocks held are (told_before _ _ _ _ first rest tell) in
+    let front = c.in_ok-bytes.ensures.value stored objects own blocks (first.keeps stored held) are (told_after _ _ _ _ first rest tell) object.0 object.1 in
     ⊎_elim (λ memory. inl (inl memory))
     (λ bad. inr (
       bad.0,
@@ -72,9 +72,9 @@ returns-clause-one g c =
     let first = c.in_ok-count.ensures.reads in
     let rest = c.in_ok-bytes.ensures.reads in
     IfOk-weaker c.rows_of.result _ _
-    (λ rows one stored objects own blocks held are honest other has.
-    let object = c.in_ok-count.ensures.value stored objects own blocks held are (true_before _ _ _ _ first rest honest) in
-    let front = c.in_ok-bytes.ensures.value stored objects own blocks (first.keeps stored held) are (true_after _ _ _ _ first rest honest) object.0 object.1 in
+    (λ rows one stored objects own blocks held are tell other has.
+    let object = c.in_ok-count.ensures.value stored objects own blocks held are (told_before _ _ _ _ first rest tell) in
+    let front = c.in_ok-bytes.ensures.value stored objects own blocks (first.keeps stored held) are (told_after _ _ _ _ first rest tell) object.0 object.1 in
     one other (subst (λ (bytes : List ℕ). SpellsRows c.args.kind.rows bytes other) (sym (c.deref.ensures.value ∙ front.1 ∙ ap (bytes_to object.0.array) (sym object.4))) (table_of _ _ object.0 other object.1 has).1.spelled))
     (ok_for_all c.rows_of.result (λ (rows : List ℕ). SpellsRows c.args.kind.rows c.deref.result.now rows) (λ found rows. found.items ≡ rows) c.rows_of.ensures.only)
 

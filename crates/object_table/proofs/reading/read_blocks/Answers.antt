@@ -3,7 +3,7 @@ use Rattle.std.specs.Prelude.{Vec, IsSomeAnd}
 use Rattle.std.specs.declared.alloc.Global.{Global}
 use Rattle.block_store.proofs.Steps.{reads_on}
 use Rattle.block_store.proofs.Causes.{caused_behind_reads}
-use Rattle.dnode_tree.proofs.FurtherReads.{true_after}
+use Rattle.dnode_tree.proofs.FurtherReads.{told_after}
 use Rattle.dnode_tree.proofs.Refusing.{passed_on}
 use Rattle.dnode_tree.specs.Ways.{bytes_of}
 use Rattle.objset.specs.Found.{IsDataFound}
@@ -25,19 +25,19 @@ returns-in_err-found-clause-known g c =
     let before = c.loop-id.invariant.reads in
     let step = c.in_err-found.ensures.reads in
     passed_on _ _ _ c.from_residual.ensures.1
-    (λ stored objects own blocks held are honest there is.
+    (λ stored objects own blocks held are tell there is.
     ⊎_elim (λ memory. inl memory) (λ bad. let clash : Some there ≡ None = sym is ∙ bad.1 in absurd cc)
-    (c.in_err-found.ensures.known stored objects own blocks (before.keeps stored held) are (true_after _ _ _ _ before step honest)))
+    (c.in_err-found.ensures.known stored objects own blocks (before.keeps stored held) are (told_after _ _ _ _ before step tell)))
 
 pub returns-in_default-clause-reads : goal.returns-in_default-clause-reads
 returns-in_default-clause-reads g c = reads_on _ _ _ _ c.loop-id.invariant.reads c.in_ok-found.ensures.reads
 
 pub returns-in_default-clause-known : goal.returns-in_default-clause-known
-returns-in_default-clause-known g c = λ stored objects own blocks held are honest there is.
+returns-in_default-clause-known g c = λ stored objects own blocks held are tell there is.
     let before = c.loop-id.invariant.reads in
     let step = c.in_ok-found.ensures.reads in
     let hole = some_is (objects c.args.number) there (λ object. bytes_of c.in_ok-found.found ≡ object.array c.loop-id.id)
-    (c.in_ok-found.ensures.value stored objects own blocks (before.keeps stored held) are (true_after _ _ _ _ before step honest)) is in
+    (c.in_ok-found.ensures.value stored objects own blocks (before.keeps stored held) are (told_after _ _ _ _ before step tell)) is in
     inr (refl, (c.loop-id.id, c.loop-id-test.true, sym hole ∙ ap bytes_of c.in_default.is))
 
 pub loop-id-preserved : goal.loop-id-preserved
@@ -46,16 +46,16 @@ loop-id-preserved g c =
     (sym (c.in_ok-extend_from_slice.ensures.items ∙ ap (λ (block : List ℕ). c.loop-id.bytes.items ++ block) c.deref.ensures.value))
     (underway_goes_on c.args.store.now c.loop-id.store c.get.new.store c.args.missing.now c.args.set.now c.args.birth c.args.number c.loop-id.id c.loop-id.bytes.items c.in-Some.block.items c.loop-id.invariant
     c.in_ok-found.ensures.reads
-    (λ stored objects own blocks held are honest.
+    (λ stored objects own blocks held are tell.
     subst (λ (found : Option (Vec ℕ Global)). IsSomeAnd (objects c.args.number) (λ object. bytes_of found ≡ object.array c.loop-id.id)) c.in-Some.is
-    (c.in_ok-found.ensures.value stored objects own blocks held are honest))
+    (c.in_ok-found.ensures.value stored objects own blocks held are tell))
     (subst (λ (found : Option (Vec ℕ Global)). IsDataFound c.loop-id.store.spaces c.args.set.now c.args.birth c.args.number c.loop-id.id (bytes_of found)) c.in-Some.is c.in_ok-found.ensures.found))
 
 pub returns-clause-value : goal.returns-clause-value
 returns-clause-value g c =
     let at : c.loop-id.id ≡ c.args.count = omega (arith, c.loop-id-test.false, c.loop-id.auto.id-end) in
-    λ stored objects own blocks held are honest there is.
-    subst (λ count. IsFront there.array count c.loop-id.bytes.items) at (c.loop-id.invariant.read stored objects own blocks held are honest there is)
+    λ stored objects own blocks held are tell there is.
+    subst (λ count. IsFront there.array count c.loop-id.bytes.items) at (c.loop-id.invariant.read stored objects own blocks held are tell there is)
 
 pub returns-in_err-extend_from_slice-clause-reads : goal.returns-in_err-extend_from_slice-clause-reads
 returns-in_err-extend_from_slice-clause-reads g c = reads_on _ _ _ _ c.loop-id.invariant.reads c.in_ok-found.ensures.reads

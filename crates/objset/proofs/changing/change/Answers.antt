@@ -4,7 +4,7 @@ use Rattle.objset.specs.declared.node_writes.NodeWrite.{NodeWrite}
 use Rattle.objset.specs.NodeWrites.{AreNodesRewritten, IsGrownSet, numbers_of, written_nodes, births_written}
 use Rattle.dnode_tree.proofs.Refusing.{passed_on}
 use Rattle.block_store.proofs.Steps.{steps_none, steps_on}
-use Rattle.dnode_tree.proofs.Steps.{true_sooner, true_later}
+use Rattle.dnode_tree.proofs.Steps.{told_sooner, told_later}
 use Rattle.dnode_tree.specs.Writes.{HasNoRoom}
 use Rattle.objset.proofs.Exchanged.{appended}
 use Rattle.objset.proofs.Room.{no_room_for_dnodes, no_room_sooner}
@@ -31,9 +31,9 @@ returns-in_err-rewrite-clause-no_room g c = rw (sym c.of_kind-copies.ensures.are
 pub returns-in_err-rewrite-clause-known : goal.returns-in_err-rewrite-clause-known
 returns-in_err-rewrite-clause-known g c =
     passed_on _ _ _ c.from_residual-in_err-rewrite.ensures.1
-    (λ stored planned bound objects own before plans are early le honest.
-    let there = c.in_ok-writes.ensures.changed stored planned bound objects own before plans are le (true_sooner _ _ _ _ c.in_ok-writes.ensures.steps c.in_err-rewrite.ensures.steps honest) in
-    inl (c.in_err-rewrite.ensures.known stored there.1 bound are.nodes own there.2 are.dnodes le (true_later _ _ _ _ c.in_ok-writes.ensures.steps c.in_err-rewrite.ensures.steps honest)))
+    (λ stored planned bound objects own before plans are early le tell.
+    let there = c.in_ok-writes.ensures.changed stored planned bound objects own before plans are le (told_sooner _ _ _ _ c.in_ok-writes.ensures.steps c.in_err-rewrite.ensures.steps tell) in
+    inl (c.in_err-rewrite.ensures.known stored there.1 bound are.nodes own there.2 are.dnodes le (told_later _ _ _ _ c.in_ok-writes.ensures.steps c.in_err-rewrite.ensures.steps tell)))
 
 pub returns-in_err-extend_from_slice-clause-steps : goal.returns-in_err-extend_from_slice-clause-steps
 returns-in_err-extend_from_slice-clause-steps g c = steps_on _ _ _ _ c.in_ok-writes.ensures.steps c.in_ok-rewrite.ensures.steps
@@ -48,9 +48,9 @@ returns-clause-grown g c =
 
 pub returns-clause-changed : goal.returns-clause-changed
 returns-clause-changed g c = rw (sym c.of_kind-copies.ensures.are) (
-    λ stored planned bound objects own before plans are le honest.
-    let there = c.in_ok-writes.ensures.changed stored planned bound objects own before plans are le (true_sooner _ _ _ _ c.in_ok-writes.ensures.steps c.in_ok-rewrite.ensures.steps honest) in
-    let next = c.in_ok-rewrite.ensures.rewritten stored there.1 bound are.nodes own there.2 are.dnodes le (true_later _ _ _ _ c.in_ok-writes.ensures.steps c.in_ok-rewrite.ensures.steps honest) in (
+    λ stored planned bound objects own before plans are le tell.
+    let there = c.in_ok-writes.ensures.changed stored planned bound objects own before plans are le (told_sooner _ _ _ _ c.in_ok-writes.ensures.steps c.in_ok-rewrite.ensures.steps tell) in
+    let next = c.in_ok-rewrite.ensures.rewritten stored there.1 bound are.nodes own there.2 are.dnodes le (told_later _ _ _ _ c.in_ok-writes.ensures.steps c.in_ok-rewrite.ensures.steps tell) in (
       there.0,
       next.0,
       next.1,
@@ -88,7 +88,7 @@ returns-in_err-writes-clause-no_room g c = rw (sym c.of_kind-copies.ensures.are)
 pub returns-in_err-check_root-clause-known : goal.returns-in_err-check_root-clause-known
 returns-in_err-check_root-clause-known g c =
     passed_on _ _ _ c.from_residual.ensures.1
-    (λ stored planned bound objects own before plans are early le honest.
+    (λ stored planned bound objects own before plans are early le tell.
     absurd (c.in_err-check_root.ensures.late.1 (set_born stored bound c.args.before c.args.set.now objects own before are early)))
 
 pub returns-in_err-check_root-clause-steps : goal.returns-in_err-check_root-clause-steps
@@ -97,7 +97,7 @@ returns-in_err-check_root-clause-steps g c = steps_none _ _
 pub returns-in_err-writes-clause-known : goal.returns-in_err-writes-clause-known
 returns-in_err-writes-clause-known g c =
     passed_on _ _ _ c.from_residual-in_err-writes.ensures.1
-    (λ stored planned bound objects own before plans are early le honest. c.in_err-writes.ensures.known stored planned bound objects own before plans are le honest)
+    (λ stored planned bound objects own before plans are early le tell. c.in_err-writes.ensures.known stored planned bound objects own before plans are le tell)
 
 pub returns-in_err-rewrite-clause-caused : goal.returns-in_err-rewrite-clause-caused
 returns-in_err-rewrite-clause-caused g c =

@@ -8,14 +8,14 @@ use Rattle.objset.proofs.changing.free_object.Goals as goal
 pub returns-in_err-blocks-clause-known : goal.returns-in_err-blocks-clause-known
 returns-in_err-blocks-clause-known g c =
     passed_on _ _ _ c.from_residual.ensures.1
-    (λ stored planned bound array blocks plans tree le honest.
-    c.in_err-blocks.ensures.known stored array blocks plans.held (tree_later stored bound c.args.birth c.args.node.now array blocks le tree) honest)
+    (λ stored planned bound array blocks plans tree le tell.
+    c.in_err-blocks.ensures.known stored array blocks plans.held (tree_later stored bound c.args.birth c.args.node.now array blocks le tree) tell)
 
 pub returns-clause-noted : goal.returns-clause-noted
-returns-clause-noted g c = λ stored planned bound array blocks plans tree le honest. (
+returns-clause-noted g c = λ stored planned bound array blocks plans tree le tell. (
   c.in_ok-blocks.ensures.reads.plans stored planned plans,
   appended c.args.replaced.now.items c.deref.result.now c.extend_from_slice.new.self.items blocks c.in_ok-extend_from_slice.ensures.items
-      (c.deref.ensures.value ∙ c.in_ok-blocks.ensures.blocks stored array blocks plans.held (tree_later stored bound c.args.birth c.args.node.now array blocks le tree) honest),
+      (c.deref.ensures.value ∙ c.in_ok-blocks.ensures.blocks stored array blocks plans.held (tree_later stored bound c.args.birth c.args.node.now array blocks le tree) tell),
 )
 
 pub returns-in_err-blocks-clause-steps : goal.returns-in_err-blocks-clause-steps

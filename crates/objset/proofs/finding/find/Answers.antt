@@ -9,14 +9,14 @@ use Rattle.objset.proofs.finding.find.Goals as goal
 
 pub returns-in_err-found-clause-known : goal.returns-in_err-found-clause-known
 returns-in_err-found-clause-known g c =
-    passed_on _ _ _ c.from_residual.ensures.1 (λ stored objects own blocks held are honest. c.in_err-found.ensures.known stored are.nodes own held are.dnodes honest)
+    passed_on _ _ _ c.from_residual.ensures.1 (λ stored objects own blocks held are tell. c.in_err-found.ensures.known stored are.nodes own held are.dnodes tell)
 
 pub returns-in_err-found-clause-refused : goal.returns-in_err-found-clause-refused
 returns-in_err-found-clause-refused g c = passed_on _ _ _ c.from_residual.ensures.1 c.in_err-found.ensures.refused
 
 pub returns-clause-value : goal.returns-clause-value
-returns-clause-value g c = λ stored objects own blocks held are honest.
-    let same = c.of_dnode.ensures ∙ ap shape_of_dnode (c.in_ok-found.ensures.value stored are.nodes own held are.dnodes honest) in
+returns-clause-value g c = λ stored objects own blocks held are tell.
+    let same = c.of_dnode.ensures ∙ ap shape_of_dnode (c.in_ok-found.ensures.value stored are.nodes own held are.dnodes tell) in
     subst (λ (found : Option ObjectShape). HasShape (objects c.args.number) found) (sym same) (has_shape stored (birth_of are.dnodes.births c.args.number) (are.nodes c.args.number) (objects c.args.number) (blocks c.args.number) (are.each c.args.number))
 
 pub returns-clause-found : goal.returns-clause-found

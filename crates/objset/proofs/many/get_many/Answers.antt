@@ -11,7 +11,7 @@ use Rattle.objset.specs.NodesFound.{found_dnode, IsNodeFound}
 use Rattle.objset.specs.Nodes.{birth_of}
 use Rattle.dnode_tree.specs.Many.{FoundBlocks}
 use Rattle.dnode_tree.specs.Ways.{bytes_of, IsFound}
-use Rattle.dnode_tree.proofs.FurtherReads.{true_before, true_after}
+use Rattle.dnode_tree.proofs.FurtherReads.{told_before, told_after}
 use Rattle.dnode_tree.proofs.Getting.{zip_weaker}
 use Rattle.dnode_tree.proofs.Refusing.{passed_on}
 use Rattle.objset.specs.Found.{IsDataFound}
@@ -25,7 +25,7 @@ all_units : (ids : List ℕ) → All (λ id. Unit {0}) ids
 all_units ids = λ k d low. tt
 
 pub returns-then-is_empty-clause-value : goal.returns-then-is_empty-clause-value
-returns-then-is_empty-clause-value g c = λ stored objects own blocks held are honest.
+returns-then-is_empty-clause-value g c = λ stored objects own blocks held are tell.
     let none : length c.args.ids.now ≡ 0 = grind (arith, nat_tests, c.is_empty.ensures, c.if-is_empty.true) in
     subst (λ ids. AreDataOf (objects c.args.number) ids c.new.result.items) (sym (nil_from_length c.args.ids.now none))
     (subst (λ (found : FoundBlocks). AreDataOf (objects c.args.number) [] found) (sym c.new.ensures.items) tt)
@@ -47,12 +47,12 @@ returns-clause-idle g c = λ none. absurd (grind (arith, nat_tests, c.is_empty.e
 
 pub returns-in_err-found-clause-known : goal.returns-in_err-found-clause-known
 returns-in_err-found-clause-known g c =
-    passed_on _ _ _ c.from_residual.ensures.1 (λ stored objects own blocks held are honest. inl (c.in_err-found.ensures.known stored are.nodes own held are.dnodes honest))
+    passed_on _ _ _ c.from_residual.ensures.1 (λ stored objects own blocks held are tell. inl (c.in_err-found.ensures.known stored are.nodes own held are.dnodes tell))
 
 pub returns-in_default-clause-known : goal.returns-in_default-clause-known
-returns-in_default-clause-known g c = λ stored objects own blocks held are honest.
+returns-in_default-clause-known g c = λ stored objects own blocks held are tell.
     let none = no_object stored (birth_of are.dnodes.births c.args.number) c.in_ok-found.found.dnode (are.nodes c.args.number) (objects c.args.number) (blocks c.args.number)
-    (c.in_ok-found.ensures.value stored are.nodes own held are.dnodes honest) c.in_default.is (are.each c.args.number) in
+    (c.in_ok-found.ensures.value stored are.nodes own held are.dnodes tell) c.in_default.is (are.each c.args.number) in
     inr (refl, none.0)
 
 pub returns-clause-reads : goal.returns-clause-reads
@@ -61,26 +61,26 @@ returns-clause-reads g c = reads_on _ _ _ _ c.in_ok-found.ensures.reads c.get_ma
 pub returns-clause-value : goal.returns-clause-value
 returns-clause-value g c =
     IfOk-weaker c.get_many.result _ _
-    (λ found is stored objects own blocks held are honest.
-    let born = c.in_ok-found.ensures.born stored are.nodes own held are.dnodes (true_before _ _ _ _ c.in_ok-found.ensures.reads c.get_many.ensures.reads honest) (used c.in_ok-found.found.dnode c.in-Object.node c.in-Object.is) in
+    (λ found is stored objects own blocks held are tell.
+    let born = c.in_ok-found.ensures.born stored are.nodes own held are.dnodes (told_before _ _ _ _ c.in_ok-found.ensures.reads c.get_many.ensures.reads tell) (used c.in_ok-found.found.dnode c.in-Object.node c.in-Object.is) in
     let there = object_there stored c.in_ok-found.found.birth c.in_ok-found.found.dnode (are.nodes c.args.number) c.in-Object.node (objects c.args.number) (blocks c.args.number)
-    (c.in_ok-found.ensures.value stored are.nodes own held are.dnodes (true_before _ _ _ _ c.in_ok-found.ensures.reads c.get_many.ensures.reads honest)) c.in-Object.is
+    (c.in_ok-found.ensures.value stored are.nodes own held are.dnodes (told_before _ _ _ _ c.in_ok-found.ensures.reads c.get_many.ensures.reads tell)) c.in-Object.is
     (subst (λ birth. IsObject stored birth (are.nodes c.args.number) (objects c.args.number) (blocks c.args.number)) (sym born) (are.each c.args.number)) in
     zip_weaker (λ id. Unit {0}) (λ id (block : Option (Vec ℕ Global)). bytes_of block ≡ there.there.array id)
     (λ id (block : Option (Vec ℕ Global)). IsSomeAnd (objects c.args.number) (λ it. bytes_of block ≡ it.array id)) c.args.ids.now found.items
     (λ id block always same. some_and (objects c.args.number) there.there _ there.is same) (all_units c.args.ids.now)
-    (is stored there.there.array (blocks c.args.number) (c.in_ok-found.ensures.reads.keeps stored held) there.tree (true_after _ _ _ _ c.in_ok-found.ensures.reads c.get_many.ensures.reads honest)))
+    (is stored there.there.array (blocks c.args.number) (c.in_ok-found.ensures.reads.keeps stored held) there.tree (told_after _ _ _ _ c.in_ok-found.ensures.reads c.get_many.ensures.reads tell)))
     c.get_many.ensures.value
 
 pub returns-clause-known : goal.returns-clause-known
 returns-clause-known g c =
     IfErr-weaker c.get_many.result _ _
-    (λ refusal is stored objects own blocks held are honest.
-    let born = c.in_ok-found.ensures.born stored are.nodes own held are.dnodes (true_before _ _ _ _ c.in_ok-found.ensures.reads c.get_many.ensures.reads honest) (used c.in_ok-found.found.dnode c.in-Object.node c.in-Object.is) in
+    (λ refusal is stored objects own blocks held are tell.
+    let born = c.in_ok-found.ensures.born stored are.nodes own held are.dnodes (told_before _ _ _ _ c.in_ok-found.ensures.reads c.get_many.ensures.reads tell) (used c.in_ok-found.found.dnode c.in-Object.node c.in-Object.is) in
     let there = object_there stored c.in_ok-found.found.birth c.in_ok-found.found.dnode (are.nodes c.args.number) c.in-Object.node (objects c.args.number) (blocks c.args.number)
-    (c.in_ok-found.ensures.value stored are.nodes own held are.dnodes (true_before _ _ _ _ c.in_ok-found.ensures.reads c.get_many.ensures.reads honest)) c.in-Object.is
+    (c.in_ok-found.ensures.value stored are.nodes own held are.dnodes (told_before _ _ _ _ c.in_ok-found.ensures.reads c.get_many.ensures.reads tell)) c.in-Object.is
     (subst (λ birth. IsObject stored birth (are.nodes c.args.number) (objects c.args.number) (blocks c.args.number)) (sym born) (are.each c.args.number)) in
-    inl (is stored there.there.array (blocks c.args.number) (c.in_ok-found.ensures.reads.keeps stored held) there.tree (true_after _ _ _ _ c.in_ok-found.ensures.reads c.get_many.ensures.reads honest)))
+    inl (is stored there.there.array (blocks c.args.number) (c.in_ok-found.ensures.reads.keeps stored held) there.tree (told_after _ _ _ _ c.in_ok-found.ensures.reads c.get_many.ensures.reads tell)))
     c.get_many.ensures.known
 
 pub returns-in_err-found-clause-refused : goal.returns-in_err-found-clause-refused

@@ -11,15 +11,15 @@ use Rattle.objset.proofs.Refusing.{refused_for_memory}
 use Rattle.objset.proofs.node_blocks.block_or_zeros.Goals as goal
 
 pub returns-in-Some-clause-value : goal.returns-in-Some-clause-value
-returns-in-Some-clause-value g c = λ stored array nodes blocks held tree are honest place low.
+returns-in-Some-clause-value g c = λ stored array nodes blocks held tree are tell place low.
     let is : Some c.in-Some.bytes.items ≡ array c.args.id =
-    sym (ap (λ (found : Option (Vec ℕ Global)). option_map (λ bytes. bytes.items) found) c.in-Some.is) ∙ c.in_ok-bytes.ensures.value stored array blocks held tree honest in
+    sym (ap (λ (found : Option (Vec ℕ Global)). option_map (λ bytes. bytes.items) found) c.in-Some.is) ∙ c.in_ok-bytes.ensures.value stored array blocks held tree tell in
     subst (λ found. IsNodeIn found place (nodes (32 * c.args.id + place))) (sym is) (slots_of_block array nodes c.args.id place low are)
 
 pub returns-in_ok-vec-in-None-clause-value : goal.returns-in_ok-vec-in-None-clause-value
-returns-in_ok-vec-in-None-clause-value g c = λ stored array nodes blocks held tree are honest place low.
+returns-in_ok-vec-in-None-clause-value g c = λ stored array nodes blocks held tree are tell place low.
     let is : None ≡ array c.args.id =
-    sym (ap (λ (found : Option (Vec ℕ Global)). option_map (λ bytes. bytes.items) found) c.in-None.is) ∙ c.in_ok-bytes.ensures.value stored array blocks held tree honest in
+    sym (ap (λ (found : Option (Vec ℕ Global)). option_map (λ bytes. bytes.items) found) c.in-None.is) ∙ c.in_ok-bytes.ensures.value stored array blocks held tree tell in
     let free : nodes (32 * c.args.id + place) ≡ Free =
     subst (λ found. IsNodeIn found place (nodes (32 * c.args.id + place))) (sym is) (slots_of_block array nodes c.args.id place low are) in
     let zeros : c.in_ok-vec-in-None.field-0.items ≡ replicate 16384 0 = c.in_ok-vec-in-None.ensures.items_if_clones_equal (λ y h. h) in

@@ -3,7 +3,7 @@ use Rattle.std.specs.List.{Any}
 use Rattle.dnode_tree.specs.declared.writes.BlockWrite.{BlockWrite}
 use Rattle.dnode_tree.specs.Writes.{written}
 use Rattle.block_store.proofs.Steps.{reads_none, reads_on}
-use Rattle.dnode_tree.proofs.FurtherReads.{true_after}
+use Rattle.dnode_tree.proofs.FurtherReads.{told_after}
 use Rattle.dnode_tree.proofs.Refusing.{passed_on}
 use Rattle.objset.specs.declared.node_writes.NodeWrite.{NodeWrite}
 use Rattle.objset.specs.Nodes.{AreNodesOf}
@@ -29,9 +29,9 @@ returns-in_err-bytes-clause-reads g c = reads_on _ _ _ _ c.loop-first.invariant.
 pub returns-in_err-bytes-clause-known : goal.returns-in_err-bytes-clause-known
 returns-in_err-bytes-clause-known g c =
     passed_on _ _ _ c.from_residual.ensures.1
-    (λ stored array blocks held tree honest.
+    (λ stored array blocks held tree tell.
     c.in_err-bytes.ensures.known stored array blocks (c.loop-first.invariant.reads.keeps stored held) tree
-    (true_after _ _ _ _ c.loop-first.invariant.reads c.in_err-bytes.ensures.reads honest))
+    (told_after _ _ _ _ c.loop-first.invariant.reads c.in_err-bytes.ensures.reads tell))
 
 pub loop-first-preserved : goal.loop-first-preserved
 loop-first-preserved g c =
@@ -57,10 +57,10 @@ returns-clause-only g c =
     (front_is_all _ _ _ _ _ _ _ _ c.loop-first.invariant c.in_default.ensures.item.3) c.loop-first.invariant.only
 
 pub returns-clause-value : goal.returns-clause-value
-returns-clause-value g c = λ stored array nodes blocks held tree are honest.
+returns-clause-value g c = λ stored array nodes blocks held tree are tell.
     subst (λ writes. AreNodesOf (written c.loop-first.changed.items array) (written_nodes writes nodes))
     (front_is_all _ _ _ _ _ _ _ _ c.loop-first.invariant c.in_default.ensures.item.3)
-    (c.loop-first.invariant.value stored array nodes blocks held tree are honest)
+    (c.loop-first.invariant.value stored array nodes blocks held tree are tell)
 
 pub returns-in_err-bytes-clause-refused : goal.returns-in_err-bytes-clause-refused
 returns-in_err-bytes-clause-refused g c =

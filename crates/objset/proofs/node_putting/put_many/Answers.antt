@@ -8,7 +8,7 @@ use Rattle.dnode_tree.specs.Writes.{written}
 use Rattle.dnode_tree.proofs.Losses.{loss_in_plan}
 use Rattle.dnode_tree.proofs.Refusing.{passed_on}
 use Rattle.block_store.proofs.Steps.{steps_read, steps_on}
-use Rattle.dnode_tree.proofs.Steps.{no_room_on, true_sooner, true_later}
+use Rattle.dnode_tree.proofs.Steps.{no_room_on, told_sooner, told_later}
 use Rattle.dnode_tree.proofs.WholeTree.{tree_later}
 use Rattle.objset.specs.declared.node_writes.SetRewrite.{SetRewrite}
 use Rattle.objset.proofs.PutNodes.{set_fits, highest_least, nodes_rewritten}
@@ -22,8 +22,8 @@ use Rattle.objset.proofs.node_putting.put_many.Goals as goal
 pub returns-in_err-changed-clause-known : goal.returns-in_err-changed-clause-known
 returns-in_err-changed-clause-known g c =
     passed_on _ _ _ c.from_residual.ensures.1
-    (λ stored planned bound nodes blocks plans has le honest.
-    loss_in_plan _ (c.in_err-changed.ensures.known stored has.array blocks plans.held (tree_later stored bound c.args.birth c.args.set.now.dnodes has.array blocks le has.tree) honest))
+    (λ stored planned bound nodes blocks plans has le tell.
+    loss_in_plan _ (c.in_err-changed.ensures.known stored has.array blocks plans.held (tree_later stored bound c.args.birth c.args.set.now.dnodes has.array blocks le has.tree) tell))
 
 pub returns-in_err-done-clause-steps : goal.returns-in_err-done-clause-steps
 returns-in_err-done-clause-steps g c = steps_on _ _ _ _ (steps_read _ _ _ c.in_ok-changed.ensures.reads) c.in_err-done.ensures.steps
@@ -37,9 +37,9 @@ pub returns-in_err-done-clause-known : goal.returns-in_err-done-clause-known
 returns-in_err-done-clause-known g c =
     let first : OnlyReadsAndPlans c.args.store.now c.block_writes.new.store c.args.missing.now = steps_read _ _ _ c.in_ok-changed.ensures.reads in
     passed_on _ _ _ c.from_residual-in_err-done.ensures.1
-    (λ stored planned bound nodes blocks plans has le honest.
+    (λ stored planned bound nodes blocks plans has le tell.
     c.in_err-done.ensures.known stored planned bound has.array blocks (c.in_ok-changed.ensures.reads.plans stored planned plans) has.tree le
-    (true_later _ _ _ _ first c.in_err-done.ensures.steps honest))
+    (told_later _ _ _ _ first c.in_err-done.ensures.steps tell))
 
 pub returns-clause-steps : goal.returns-clause-steps
 returns-clause-steps g c = steps_on _ _ _ _ (steps_read _ _ _ c.in_ok-changed.ensures.reads) c.in_ok-done.ensures.steps
@@ -65,10 +65,10 @@ returns-clause-grown g c =
     }
 
 pub returns-clause-rewritten : goal.returns-clause-rewritten
-returns-clause-rewritten g c = λ stored planned bound nodes blocks plans has le honest.
+returns-clause-rewritten g c = λ stored planned bound nodes blocks plans has le tell.
     let first : OnlyReadsAndPlans c.args.store.now c.block_writes.new.store c.args.missing.now = steps_read _ _ _ c.in_ok-changed.ensures.reads in
-    let before = true_sooner _ _ _ _ first c.in_ok-done.ensures.steps honest in
-    let after = true_later _ _ _ _ first c.in_ok-done.ensures.steps honest in
+    let before = told_sooner _ _ _ _ first c.in_ok-done.ensures.steps tell in
+    let after = told_later _ _ _ _ first c.in_ok-done.ensures.steps tell in
     let rewritten = c.in_ok-done.ensures.ways stored planned bound has.array blocks has.births (c.in_ok-changed.ensures.reads.plans stored planned plans) has.tree has.born le after in
     let done : SetRewrite = record {
       set = record { dnodes = c.in_ok-done.done.node; kind = c.args.set.now.kind; objects = c.objects_after.result };

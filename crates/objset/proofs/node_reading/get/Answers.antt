@@ -14,7 +14,7 @@ use Rattle.objset.proofs.node_reading.get.Goals as goal
 pub returns-in_err-block-clause-known : goal.returns-in_err-block-clause-known
 returns-in_err-block-clause-known g c =
     passed_on _ _ _ c.from_residual.ensures.1
-    (λ stored nodes blocks held has honest. c.in_err-block.ensures.known stored has.array blocks held has.tree honest)
+    (λ stored nodes blocks held has tell. c.in_err-block.ensures.known stored has.array blocks held has.tree tell)
 
 -- what the block has is what was read
 read_is : (array : ℕ → Option (List ℕ)) (id : ℕ) (found : Option DataBlock) (block : DataBlock) → found ≡ Some block → bytes_in found ≡ array id → array id ≡ Some block.bytes.items
@@ -29,8 +29,8 @@ has_them array nodes objects id bytes are first behind is place low unused =
     (subst (λ node. SpellsDnode (slot_of bytes place) node) free there).1
 
 pub returns-in_default-clause-value : goal.returns-in_default-clause-value
-returns-in_default-clause-value g c = λ stored nodes blocks held has honest.
-    let is : None ≡ has.array (c.args.number / 32) = sym (ap bytes_in c.in_default.is) ∙ c.in_ok-block.ensures.value stored has.array blocks held has.tree honest in
+returns-in_default-clause-value g c = λ stored nodes blocks held has tell.
+    let is : None ≡ has.array (c.args.number / 32) = sym (ap bytes_in c.in_default.is) ∙ c.in_ok-block.ensures.value stored has.array blocks held has.tree tell in
     let free : nodes c.args.number ≡ Free = subst (λ bytes. IsNodeIn bytes (c.args.number % 32) (nodes c.args.number)) (sym is) (has.each c.args.number) in
     sym free
 
@@ -62,8 +62,8 @@ returns-then-not-has_zeros-clause-refused g c =
     )
 
 pub returns-then-not-has_zeros-clause-known : goal.returns-then-not-has_zeros-clause-known
-returns-then-not-has_zeros-clause-known g c = λ stored nodes blocks held has honest.
-    let is = read_is has.array (c.args.number / 32) _ c.in-Some.block c.in-Some.is (c.in_ok-block.ensures.value stored has.array blocks held has.tree honest) in
+returns-then-not-has_zeros-clause-known g c = λ stored nodes blocks held has tell.
+    let is = read_is has.array (c.args.number / 32) _ c.in-Some.block c.in-Some.is (c.in_ok-block.ensures.value stored has.array blocks held has.tree tell) in
     let zeros = has_them has.array nodes c.args.set.now.objects (c.args.number / 32) c.in-Some.block.bytes.items has.each has.first has.behind is in
     let test : IsTrue c.has_zeros.result = c.has_zeros.ensures.1 (subst (λ (b : List ℕ). HasZeros c.args.set.now.objects (c.args.number / 32) b) (sym c.deref.ensures.value) zeros) in
     absurd cc
@@ -84,8 +84,8 @@ returns-in_err-dnode-clause-refused g c =
 pub returns-in_err-dnode-clause-known : goal.returns-in_err-dnode-clause-known
 returns-in_err-dnode-clause-known g c =
     passed_on _ _ _ c.from_residual-in_err-dnode.ensures.1
-    (λ stored nodes blocks held has honest.
-    let is = read_is has.array (c.args.number / 32) _ c.in-Some.block c.in-Some.is (c.in_ok-block.ensures.value stored has.array blocks held has.tree honest) in
+    (λ stored nodes blocks held has tell.
+    let is = read_is has.array (c.args.number / 32) _ c.in-Some.block c.in-Some.is (c.in_ok-block.ensures.value stored has.array blocks held has.tree tell) in
     let there : IsNodeIn (Some c.in-Some.block.bytes.items) (c.args.number % 32) (nodes c.args.number) =
     subst (λ bytes. IsNodeIn bytes (c.args.number % 32) (nodes c.args.number)) is (has.each c.args.number) in
     absurd (c.in_err-dnode.ensures.none (nodes c.args.number) (subst (λ (bytes : List ℕ). IsNodeIn (Some bytes) (c.args.number % 32) (nodes c.args.number)) (sym c.deref-2.ensures.value) there)))
@@ -104,13 +104,13 @@ returns-clause-found g c =
     )
 
 pub returns-clause-value : goal.returns-clause-value
-returns-clause-value g c = λ stored nodes blocks held has honest.
-    let is = read_is has.array (c.args.number / 32) _ c.in-Some.block c.in-Some.is (c.in_ok-block.ensures.value stored has.array blocks held has.tree honest) in
+returns-clause-value g c = λ stored nodes blocks held has tell.
+    let is = read_is has.array (c.args.number / 32) _ c.in-Some.block c.in-Some.is (c.in_ok-block.ensures.value stored has.array blocks held has.tree tell) in
     let there : IsNodeIn (Some c.in-Some.block.bytes.items) (c.args.number % 32) (nodes c.args.number) =
     subst (λ bytes. IsNodeIn bytes (c.args.number % 32) (nodes c.args.number)) is (has.each c.args.number) in
     let same = c.in_ok-dnode.ensures.only (nodes c.args.number) (subst (λ (bytes : List ℕ). IsNodeIn (Some bytes) (c.args.number % 32) (nodes c.args.number)) (sym c.deref-2.ensures.value) there) in
     cc
 
 pub returns-clause-born : goal.returns-clause-born
-returns-clause-born g c = λ stored nodes blocks held has honest used.
-    subst (λ (found : Option DataBlock). IfSome found (λ block. block.birth ≡ has.births 0 (c.args.number / 32))) c.in-Some.is (c.in_ok-block.ensures.born stored has.births held has.born honest)
+returns-clause-born g c = λ stored nodes blocks held has tell used.
+    subst (λ (found : Option DataBlock). IfSome found (λ block. block.birth ≡ has.births 0 (c.args.number / 32))) c.in-Some.is (c.in_ok-block.ensures.born stored has.births held has.born tell)

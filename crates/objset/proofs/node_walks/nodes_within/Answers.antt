@@ -9,8 +9,8 @@ use Rattle.objset.proofs.node_walks.nodes_within.Goals as goal
 pub returns-clause-value : goal.returns-clause-value
 returns-clause-value g c =
     IfOk-weaker c.nodes_younger.result _ _
-    (λ found told stored nodes blocks held has honest.
-    let there = told stored nodes blocks held has honest in (
+    (λ found told stored nodes blocks held has tell.
+    let there = told stored nodes blocks held has tell in (
       there.0 ∙ blocks_born stored c.args.birth c.args.set.now nodes blocks c.requires has,
       there.1 ∙ nodes_born stored c.args.birth c.args.set.now nodes blocks c.requires has,
     ))
@@ -31,7 +31,7 @@ returns-clause-refused g c =
 pub returns-clause-known : goal.returns-clause-known
 returns-clause-known g c =
     IfErr-weaker c.nodes_younger.result _ _
-    (λ refusal told stored nodes blocks held has once enough honest.
+    (λ refusal told stored nodes blocks held has once enough tell.
     let same : blocks ≡ younger 0 blocks = sym (blocks_born stored c.args.birth c.args.set.now nodes blocks c.requires has) in
-    told stored nodes blocks held has (subst (λ bs. AreDistinct bs) same once) (subst (λ bs. length bs ≤ c.args.left.now) same enough) honest)
+    told stored nodes blocks held has (subst (λ bs. AreDistinct bs) same once) (subst (λ bs. length bs ≤ c.args.left.now) same enough) tell)
     c.nodes_younger.ensures.known

@@ -1,7 +1,7 @@
 use Rattle.std.proofs.Common.{ℕ, ◌≡◌, ◌+◌, ◌≤◌, List, Option, All, take}
 use Rattle.std.specs.List.{flat_map}
 use Rattle.block_store.specs.Blocks.{Contents}
-use Rattle.block_store.specs.Steps.{OnlyReadsBlocks, AnswersAreTrue}
+use Rattle.block_store.specs.Steps.{OnlyReadsBlocks, AnswersTell}
 use Rattle.block_store.specs.Store.{Holds}
 use Rattle.dnode.specs.Node.{FitsNode}
 use Rattle.dnode.specs.declared.dnode.Dnode.{Dnode}
@@ -19,6 +19,6 @@ invariant-loop-block g l = record {
   fits : All (λ it. FitsNode it.node) l.nodes.items;
   from : All (IsNodeOfOne l.initial.store.spaces l.block-items) l.nodes.items;
   value : (stored : Contents) (array : ℕ → Option (List ℕ)) (nodes : ℕ → Dnode) (births : ℕ → ℕ → ℕ) (ids : List (Option ℕ)) → Holds l.initial.store stored
-      → AreNodesOf array nodes → HaveIds stored l.set.dnodes array births l.block-items ids → AnswersAreTrue l.initial.store l.store
+      → AreNodesOf array nodes → HaveIds stored l.set.dnodes array births l.block-items ids → AnswersTell l.initial.store l.store l.missing
       → l.nodes.items ≡ flat_map (at_id (objects_in nodes births)) (take l.block-index ids);
 }

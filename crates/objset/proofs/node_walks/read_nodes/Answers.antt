@@ -11,15 +11,15 @@ use Rattle.objset.proofs.node_walks.read_nodes.Goals as goal
 pub returns-in_err-bytes-clause-known : goal.returns-in_err-bytes-clause-known
 returns-in_err-bytes-clause-known g c =
     passed_on _ _ _ c.from_residual.ensures.1
-    (λ stored id bytes dnodes held known slots same some honest.
-    c.in_err-bytes.ensures.known stored bytes held known (record { property = same; birth = omega arith }) (inl honest))
+    (λ stored id bytes dnodes held known slots same some tell.
+    c.in_err-bytes.ensures.known stored bytes held known (record { property = same; birth = omega arith }) tell)
 
 pub returns-clause-value : goal.returns-clause-value
 returns-clause-value g c =
     on_ok_weaker c.add_nodes.result
-    (λ value stored id bytes dnodes births held known slots born honest.
+    (λ value stored id bytes dnodes births held known slots born tell.
     value id dnodes births
-    (subst (λ (bs : List ℕ). HasSlots bs id dnodes) (sym (c.deref.ensures.value ∙ c.in_ok-bytes.ensures.bytes stored bytes held known (inl honest))) slots) born)
+    (subst (λ (bs : List ℕ). HasSlots bs id dnodes) (sym (c.deref.ensures.value ∙ c.in_ok-bytes.ensures.bytes stored bytes held known tell)) slots) born)
     c.add_nodes.ensures.value
 
 pub returns-clause-refused : goal.returns-clause-refused
@@ -43,10 +43,10 @@ returns-clause-refused g c =
 pub returns-clause-known : goal.returns-clause-known
 returns-clause-known g c =
     IfErr-weaker c.add_nodes.result _ _
-    (λ refusal why stored id bytes dnodes held known slots same some honest. elim why [
+    (λ refusal why stored id bytes dnodes held known slots same some tell. elim why [
       | inl memory ↦ inl memory
       | inr bad ↦
-          let read = c.deref.ensures.value ∙ c.in_ok-bytes.ensures.bytes stored bytes held known (inl honest) in
+          let read = c.deref.ensures.value ∙ c.in_ok-bytes.ensures.bytes stored bytes held known tell in
           absurd (bad.3 (dnodes (32 * id + bad.1)) (subst (λ (bs : List ℕ). HasSlots bs id dnodes) (sym read) slots bad.1 bad.2))
     ])
     c.add_nodes.ensures.refused

@@ -1,7 +1,7 @@
 use Rattle.std.proofs.Common.{inl, inr, refl, sym, ap, subst}
 use Rattle.std.proofs.lemmas.Result.{IfOk-weaker, IfErr-weaker}
 use Rattle.block_store.proofs.Steps.{reads_on}
-use Rattle.dnode_tree.proofs.FurtherReads.{true_before, true_after}
+use Rattle.dnode_tree.proofs.FurtherReads.{told_before, told_after}
 use Rattle.dnode_tree.proofs.Refusing.{passed_on}
 use Rattle.objset.proofs.Kept.{no_object, used, object_there, some_and}
 use Rattle.dnode.specs.declared.dnode.Dnode.{Dnode}
@@ -14,12 +14,12 @@ use Rattle.objset.proofs.reading.get.Goals as goal
 
 pub returns-in_err-found-clause-known : goal.returns-in_err-found-clause-known
 returns-in_err-found-clause-known g c =
-    passed_on _ _ _ c.from_residual.ensures.1 (λ stored objects own blocks held are honest. inl (c.in_err-found.ensures.known stored are.nodes own held are.dnodes honest))
+    passed_on _ _ _ c.from_residual.ensures.1 (λ stored objects own blocks held are tell. inl (c.in_err-found.ensures.known stored are.nodes own held are.dnodes tell))
 
 pub returns-in_default-clause-known : goal.returns-in_default-clause-known
-returns-in_default-clause-known g c = λ stored objects own blocks held are honest.
+returns-in_default-clause-known g c = λ stored objects own blocks held are tell.
     let none = no_object stored (birth_of are.dnodes.births c.args.number) c.in_ok-found.found.dnode (are.nodes c.args.number) (objects c.args.number) (blocks c.args.number)
-    (c.in_ok-found.ensures.value stored are.nodes own held are.dnodes honest) c.in_default.is (are.each c.args.number) in
+    (c.in_ok-found.ensures.value stored are.nodes own held are.dnodes tell) c.in_default.is (are.each c.args.number) in
     inr (refl, none.0)
 
 pub returns-clause-reads : goal.returns-clause-reads
@@ -28,24 +28,24 @@ returns-clause-reads g c = reads_on _ _ _ _ c.in_ok-found.ensures.reads c.get-2.
 pub returns-clause-value : goal.returns-clause-value
 returns-clause-value g c =
     IfOk-weaker c.get-2.result _ _
-    (λ found is stored objects own blocks held are honest.
-    let born = c.in_ok-found.ensures.born stored are.nodes own held are.dnodes (true_before _ _ _ _ c.in_ok-found.ensures.reads c.get-2.ensures.reads honest) (used c.in_ok-found.found.dnode c.in-Object.node c.in-Object.is) in
+    (λ found is stored objects own blocks held are tell.
+    let born = c.in_ok-found.ensures.born stored are.nodes own held are.dnodes (told_before _ _ _ _ c.in_ok-found.ensures.reads c.get-2.ensures.reads tell) (used c.in_ok-found.found.dnode c.in-Object.node c.in-Object.is) in
     let there = object_there stored c.in_ok-found.found.birth c.in_ok-found.found.dnode (are.nodes c.args.number) c.in-Object.node (objects c.args.number) (blocks c.args.number)
-    (c.in_ok-found.ensures.value stored are.nodes own held are.dnodes (true_before _ _ _ _ c.in_ok-found.ensures.reads c.get-2.ensures.reads honest)) c.in-Object.is
+    (c.in_ok-found.ensures.value stored are.nodes own held are.dnodes (told_before _ _ _ _ c.in_ok-found.ensures.reads c.get-2.ensures.reads tell)) c.in-Object.is
     (subst (λ birth. IsObject stored birth (are.nodes c.args.number) (objects c.args.number) (blocks c.args.number)) (sym born) (are.each c.args.number)) in
     some_and (objects c.args.number) there.there _ there.is
-    (is stored there.there.array (blocks c.args.number) (c.in_ok-found.ensures.reads.keeps stored held) there.tree (true_after _ _ _ _ c.in_ok-found.ensures.reads c.get-2.ensures.reads honest)))
+    (is stored there.there.array (blocks c.args.number) (c.in_ok-found.ensures.reads.keeps stored held) there.tree (told_after _ _ _ _ c.in_ok-found.ensures.reads c.get-2.ensures.reads tell)))
     c.get-2.ensures.value
 
 pub returns-clause-known : goal.returns-clause-known
 returns-clause-known g c =
     IfErr-weaker c.get-2.result _ _
-    (λ refusal is stored objects own blocks held are honest.
-    let born = c.in_ok-found.ensures.born stored are.nodes own held are.dnodes (true_before _ _ _ _ c.in_ok-found.ensures.reads c.get-2.ensures.reads honest) (used c.in_ok-found.found.dnode c.in-Object.node c.in-Object.is) in
+    (λ refusal is stored objects own blocks held are tell.
+    let born = c.in_ok-found.ensures.born stored are.nodes own held are.dnodes (told_before _ _ _ _ c.in_ok-found.ensures.reads c.get-2.ensures.reads tell) (used c.in_ok-found.found.dnode c.in-Object.node c.in-Object.is) in
     let there = object_there stored c.in_ok-found.found.birth c.in_ok-found.found.dnode (are.nodes c.args.number) c.in-Object.node (objects c.args.number) (blocks c.args.number)
-    (c.in_ok-found.ensures.value stored are.nodes own held are.dnodes (true_before _ _ _ _ c.in_ok-found.ensures.reads c.get-2.ensures.reads honest)) c.in-Object.is
+    (c.in_ok-found.ensures.value stored are.nodes own held are.dnodes (told_before _ _ _ _ c.in_ok-found.ensures.reads c.get-2.ensures.reads tell)) c.in-Object.is
     (subst (λ birth. IsObject stored birth (are.nodes c.args.number) (objects c.args.number) (blocks c.args.number)) (sym born) (are.each c.args.number)) in
-    inl (is stored there.there.array (blocks c.args.number) (c.in_ok-found.ensures.reads.keeps stored held) there.tree (true_after _ _ _ _ c.in_ok-found.ensures.reads c.get-2.ensures.reads honest)))
+    inl (is stored there.there.array (blocks c.args.number) (c.in_ok-found.ensures.reads.keeps stored held) there.tree (told_after _ _ _ _ c.in_ok-found.ensures.reads c.get-2.ensures.reads tell)))
     c.get-2.ensures.known
 
 pub returns-in_err-found-clause-refused : goal.returns-in_err-found-clause-refused

@@ -1,7 +1,7 @@
 use Rattle.std.proofs.Common.{◌≡◌, Option, Some, None, inl, inr, refl, sym, ◌∙◌, subst}
 use Rattle.std.proofs.lemmas.Result.{IfOk-weaker, IfErr-weaker}
 use Rattle.block_store.proofs.Steps.{reads_on}
-use Rattle.dnode_tree.proofs.FurtherReads.{true_before, true_after}
+use Rattle.dnode_tree.proofs.FurtherReads.{told_before, told_after}
 use Rattle.dnode_tree.proofs.Refusing.{passed_on}
 use Rattle.objset.proofs.Kept.{no_object, used, object_there}
 use Rattle.dnode.specs.declared.dnode.Dnode.{Dnode}
@@ -16,12 +16,12 @@ there_is_some object there is none = let clash : None ≡ Some there = sym none 
 
 pub returns-in_err-found-clause-known : goal.returns-in_err-found-clause-known
 returns-in_err-found-clause-known g c =
-    passed_on _ _ _ c.from_residual.ensures.1 (λ stored objects own blocks held are honest. inl (c.in_err-found.ensures.known stored are.nodes own held are.dnodes honest))
+    passed_on _ _ _ c.from_residual.ensures.1 (λ stored objects own blocks held are tell. inl (c.in_err-found.ensures.known stored are.nodes own held are.dnodes tell))
 
 pub returns-in_default-clause-known : goal.returns-in_default-clause-known
-returns-in_default-clause-known g c = λ stored objects own blocks held are honest.
+returns-in_default-clause-known g c = λ stored objects own blocks held are tell.
     let none = no_object stored (birth_of are.dnodes.births c.args.number) c.in_ok-found.found.dnode (are.nodes c.args.number) (objects c.args.number) (blocks c.args.number)
-    (c.in_ok-found.ensures.value stored are.nodes own held are.dnodes honest) c.in_default.is (are.each c.args.number) in
+    (c.in_ok-found.ensures.value stored are.nodes own held are.dnodes tell) c.in_default.is (are.each c.args.number) in
     inr (refl, none.0)
 
 pub returns-clause-reads : goal.returns-clause-reads
@@ -30,25 +30,25 @@ returns-clause-reads g c = reads_on _ _ _ _ c.in_ok-found.ensures.reads c.walk.e
 pub returns-clause-blocks : goal.returns-clause-blocks
 returns-clause-blocks g c =
     IfOk-weaker c.walk.result _ _
-    (λ found is stored objects own blocks held are honest.
-    let born = c.in_ok-found.ensures.born stored are.nodes own held are.dnodes (true_before _ _ _ _ c.in_ok-found.ensures.reads c.walk.ensures.reads honest) (used c.in_ok-found.found.dnode c.in-Object.node c.in-Object.is) in
+    (λ found is stored objects own blocks held are tell.
+    let born = c.in_ok-found.ensures.born stored are.nodes own held are.dnodes (told_before _ _ _ _ c.in_ok-found.ensures.reads c.walk.ensures.reads tell) (used c.in_ok-found.found.dnode c.in-Object.node c.in-Object.is) in
     let there = object_there stored c.in_ok-found.found.birth c.in_ok-found.found.dnode (are.nodes c.args.number) c.in-Object.node (objects c.args.number) (blocks c.args.number)
-    (c.in_ok-found.ensures.value stored are.nodes own held are.dnodes (true_before _ _ _ _ c.in_ok-found.ensures.reads c.walk.ensures.reads honest)) c.in-Object.is
+    (c.in_ok-found.ensures.value stored are.nodes own held are.dnodes (told_before _ _ _ _ c.in_ok-found.ensures.reads c.walk.ensures.reads tell)) c.in-Object.is
     (subst (λ birth. IsObject stored birth (are.nodes c.args.number) (objects c.args.number) (blocks c.args.number)) (sym born) (are.each c.args.number)) in (
       λ none. there_is_some (objects c.args.number) there.there there.is none,
-      is stored there.there.array (blocks c.args.number) (c.in_ok-found.ensures.reads.keeps stored held) there.tree (true_after _ _ _ _ c.in_ok-found.ensures.reads c.walk.ensures.reads honest),
+      is stored there.there.array (blocks c.args.number) (c.in_ok-found.ensures.reads.keeps stored held) there.tree (told_after _ _ _ _ c.in_ok-found.ensures.reads c.walk.ensures.reads tell),
     ))
     c.walk.ensures.blocks
 
 pub returns-clause-known : goal.returns-clause-known
 returns-clause-known g c =
     IfErr-weaker c.walk.result _ _
-    (λ refusal is stored objects own blocks held are honest.
-    let born = c.in_ok-found.ensures.born stored are.nodes own held are.dnodes (true_before _ _ _ _ c.in_ok-found.ensures.reads c.walk.ensures.reads honest) (used c.in_ok-found.found.dnode c.in-Object.node c.in-Object.is) in
+    (λ refusal is stored objects own blocks held are tell.
+    let born = c.in_ok-found.ensures.born stored are.nodes own held are.dnodes (told_before _ _ _ _ c.in_ok-found.ensures.reads c.walk.ensures.reads tell) (used c.in_ok-found.found.dnode c.in-Object.node c.in-Object.is) in
     let there = object_there stored c.in_ok-found.found.birth c.in_ok-found.found.dnode (are.nodes c.args.number) c.in-Object.node (objects c.args.number) (blocks c.args.number)
-    (c.in_ok-found.ensures.value stored are.nodes own held are.dnodes (true_before _ _ _ _ c.in_ok-found.ensures.reads c.walk.ensures.reads honest)) c.in-Object.is
+    (c.in_ok-found.ensures.value stored are.nodes own held are.dnodes (told_before _ _ _ _ c.in_ok-found.ensures.reads c.walk.ensures.reads tell)) c.in-Object.is
     (subst (λ birth. IsObject stored birth (are.nodes c.args.number) (objects c.args.number) (blocks c.args.number)) (sym born) (are.each c.args.number)) in
-    inl (is stored there.there.array (blocks c.args.number) (c.in_ok-found.ensures.reads.keeps stored held) there.tree (true_after _ _ _ _ c.in_ok-found.ensures.reads c.walk.ensures.reads honest)))
+    inl (is stored there.there.array (blocks c.args.number) (c.in_ok-found.ensures.reads.keeps stored held) there.tree (told_after _ _ _ _ c.in_ok-found.ensures.reads c.walk.ensures.reads tell)))
     c.walk.ensures.known
 
 pub returns-in_err-found-clause-refused : goal.returns-in_err-found-clause-refused

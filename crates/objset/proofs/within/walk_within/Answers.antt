@@ -8,8 +8,8 @@ use Rattle.objset.proofs.within.walk_within.Goals as goal
 pub returns-clause-blocks : goal.returns-clause-blocks
 returns-clause-blocks g c =
     IfOk-weaker c.walk_younger.result _ _
-    (λ found told stored objects own blocks held are honest.
-    told stored objects own blocks held are honest ∙ set_younger stored c.args.birth c.args.set.now objects own blocks c.requires are)
+    (λ found told stored objects own blocks held are tell.
+    told stored objects own blocks held are tell ∙ set_younger stored c.args.birth c.args.set.now objects own blocks c.requires are)
     c.walk_younger.ensures.blocks
 
 pub returns-clause-count : goal.returns-clause-count
@@ -27,10 +27,10 @@ returns-clause-refused g c =
 pub returns-clause-known : goal.returns-clause-known
 returns-clause-known g c =
     IfErr-weaker c.walk_younger.result _ _
-    (λ refusal told stored objects own blocks held are once enough honest.
+    (λ refusal told stored objects own blocks held are once enough tell.
     let first = own_younger stored c.args.birth c.args.set.now objects own blocks c.requires are in
     let below = objects_younger stored c.args.birth c.args.set.now objects own blocks c.requires are in
     let same : reads_of own (blocks_of_objects c.args.set.now blocks) ≡ reads_of (younger 0 own) (younger 0 (blocks_of_objects c.args.set.now blocks)) =
     sym (ap (λ more. reads_of more (younger 0 (blocks_of_objects c.args.set.now blocks))) first ∙ ap (reads_of own) below) in
-    told stored objects own blocks held are once (subst (λ n. n ≤ c.args.left.now) same enough) honest)
+    told stored objects own blocks held are once (subst (λ n. n ≤ c.args.left.now) same enough) tell)
     c.walk_younger.ensures.known

@@ -4,7 +4,7 @@ use Rattle.std.proofs.lemmas.List.Elements.{All-append}
 use Rattle.block_pointer.specs.declared.block.Block.{Block}
 use Rattle.block_store.proofs.Steps.{reads_none, reads_on}
 use Rattle.dnode_tree.proofs.Exchanging.{count_by-append}
-use Rattle.dnode_tree.proofs.FurtherReads.{true_before, true_after}
+use Rattle.dnode_tree.proofs.FurtherReads.{told_before, told_after}
 use Rattle.dnode_tree.proofs.Refusing.{passed_on}
 use Rattle.dnode_tree.specs.Rewriting.{AreDistinct}
 use Rattle.objset.proofs.WithinLemmas.{whole_once}
@@ -19,9 +19,9 @@ returns-in_err-blocks-clause-refused g c = passed_on _ _ _ c.from_residual.ensur
 pub returns-in_err-blocks-clause-known : goal.returns-in_err-blocks-clause-known
 returns-in_err-blocks-clause-known g c =
     passed_on _ _ _ c.from_residual.ensures.1
-    (λ stored objects own blocks held are once enough honest.
+    (λ stored objects own blocks held are once enough tell.
     c.in_err-blocks.ensures.known stored are.nodes own held are.dnodes
-    (younger_once c.args.since own once.own_once) (omega (arith, enough)) honest)
+    (younger_once c.args.since own once.own_once) (omega (arith, enough)) tell)
 
 pub returns-in_err-more-clause-reads : goal.returns-in_err-more-clause-reads
 returns-in_err-more-clause-reads g c =
@@ -39,16 +39,16 @@ returns-in_err-more-clause-known g c =
     let sooner = reads_on _ _ _ _ c.in_ok-blocks.ensures.reads c.loop-it.invariant.reads in
     let later = reads_on _ _ _ _ c.loop-it.invariant.reads c.in_err-more.ensures.reads in
     passed_on _ _ _ c.from_residual-in_err-more.ensures.1
-    (λ stored objects own blocks held are once enough honest.
-    let there = c.in_ok-blocks.ensures.value stored are.nodes own held are.dnodes (true_before _ _ _ _ c.in_ok-blocks.ensures.reads later honest) in
+    (λ stored objects own blocks held are once enough tell.
+    let there = c.in_ok-blocks.ensures.value stored are.nodes own held are.dnodes (told_before _ _ _ _ c.in_ok-blocks.ensures.reads later tell) in
     let parts = parts_there c.args.since stored c.args.birth c.args.set.now objects own blocks c.deref-it-items.result.now are (c.deref-it-items.ensures.value ∙ there.1) in
     next_refused c.args.since stored c.args.set.now own c.in_ok-blocks.field-0.blocks.items blocks c.deref-it-items.result.now c.loop-it.it-index _ _ c.loop-it.invariant.below
     c.args.left.now c.nodes_younger.new.left c.loop-it.left _ c.loop-it-test.true refl parts
     (c.loop-it.invariant.value stored parts.parts (c.in_ok-blocks.ensures.reads.keeps stored held) parts.trees
-    (true_before _ _ _ _ c.loop-it.invariant.reads c.in_err-more.ensures.reads (true_after _ _ _ _ c.in_ok-blocks.ensures.reads later honest)))
+    (told_before _ _ _ _ c.loop-it.invariant.reads c.in_err-more.ensures.reads (told_after _ _ _ _ c.in_ok-blocks.ensures.reads later tell)))
     once there.0 c.in_ok-blocks.ensures.count c.loop-it.invariant.count enough
     (λ array part tree distinct left. c.in_err-more.ensures.known stored array part (sooner.keeps stored held) tree distinct left
-    (true_after _ _ _ _ sooner c.in_err-more.ensures.reads honest)))
+    (told_after _ _ _ _ sooner c.in_err-more.ensures.reads tell)))
 
 pub returns-in_err-add-clause-reads : goal.returns-in_err-add-clause-reads
 returns-in_err-add-clause-reads g c =
@@ -62,7 +62,7 @@ loop-it-init g c = record {
   are = sym (append-nil c.in_ok-blocks.field-0.blocks.items);
   young = c.in_ok-blocks.ensures.younger;
   count = omega arith;
-  value = λ stored parts held have honest. refl;
+  value = λ stored parts held have tell. refl;
 }
 
 pub loop-it-preserved : goal.loop-it-preserved
@@ -80,11 +80,11 @@ loop-it-preserved g c = record {
     c.in_ok-more.ensures.count,
     count_by-append (λ b. not (b.property.level == 0)) c.loop-it.invariant.below c.in_ok-more.more.items,
   );
-  value = λ stored parts held have honest.
+  value = λ stored parts held have tell.
       next_part c.args.since stored c.deref-it-items.result.now parts c.loop-it.it-index _ _ c.loop-it.invariant.below c.in_ok-more.more.items c.loop-it-test.true refl have
-      (c.loop-it.invariant.value stored parts held have (true_before _ _ _ _ c.loop-it.invariant.reads c.in_ok-more.ensures.reads honest))
+      (c.loop-it.invariant.value stored parts held have (told_before _ _ _ _ c.loop-it.invariant.reads c.in_ok-more.ensures.reads tell))
       (λ array part tree. c.in_ok-more.ensures.blocks stored array part (c.loop-it.invariant.reads.keeps stored held) tree
-      (true_after _ _ _ _ c.loop-it.invariant.reads c.in_ok-more.ensures.reads honest));
+      (told_after _ _ _ _ c.loop-it.invariant.reads c.in_ok-more.ensures.reads tell));
 }
 
 pub returns-in_err-is_once-clause-reads : goal.returns-in_err-is_once-clause-reads
@@ -113,11 +113,11 @@ returns-then-not-is_once-clause-refused g c =
     )))
 
 pub returns-then-not-is_once-clause-known : goal.returns-then-not-is_once-clause-known
-returns-then-not-is_once-clause-known g c = λ stored objects own blocks held are once enough honest.
-    let there = c.in_ok-blocks.ensures.value stored are.nodes own held are.dnodes (true_before _ _ _ _ c.in_ok-blocks.ensures.reads c.loop-it.invariant.reads honest) in
+returns-then-not-is_once-clause-known g c = λ stored objects own blocks held are once enough tell.
+    let there = c.in_ok-blocks.ensures.value stored are.nodes own held are.dnodes (told_before _ _ _ _ c.in_ok-blocks.ensures.reads c.loop-it.invariant.reads tell) in
     let all = found_all c.args.since stored c.args.birth c.args.set.now objects own blocks c.in_ok-blocks.field-0.blocks.items c.loop-it.invariant.below c.loop-it.found.items c.deref-it-items.result.now c.loop-it.it-index
     are c.loop-it.invariant.are there.0 (c.deref-it-items.ensures.value ∙ there.1) c.loop-it-test.false
-    (λ parts have. c.loop-it.invariant.value stored parts (c.in_ok-blocks.ensures.reads.keeps stored held) have (true_after _ _ _ _ c.in_ok-blocks.ensures.reads c.loop-it.invariant.reads honest)) in
+    (λ parts have. c.loop-it.invariant.value stored parts (c.in_ok-blocks.ensures.reads.keeps stored held) have (told_after _ _ _ _ c.in_ok-blocks.ensures.reads c.loop-it.invariant.reads tell)) in
     let told : IsTrue c.in_ok-is_once.is_once = c.in_ok-is_once.ensures.1 (subst (λ bs. AreDistinct bs) (sym (c.deref-2.ensures.value ∙ all)) (younger_once c.args.since (blocks_of_set c.args.set.now own blocks) (whole_once c.args.set.now own blocks once))) in
     absurd cc
 
@@ -125,11 +125,11 @@ pub returns-clause-reads : goal.returns-clause-reads
 returns-clause-reads g c = reads_on _ _ _ _ c.in_ok-blocks.ensures.reads c.loop-it.invariant.reads
 
 pub returns-clause-blocks : goal.returns-clause-blocks
-returns-clause-blocks g c = λ stored objects own blocks held are honest.
-    let there = c.in_ok-blocks.ensures.value stored are.nodes own held are.dnodes (true_before _ _ _ _ c.in_ok-blocks.ensures.reads c.loop-it.invariant.reads honest) in
+returns-clause-blocks g c = λ stored objects own blocks held are tell.
+    let there = c.in_ok-blocks.ensures.value stored are.nodes own held are.dnodes (told_before _ _ _ _ c.in_ok-blocks.ensures.reads c.loop-it.invariant.reads tell) in
     found_all c.args.since stored c.args.birth c.args.set.now objects own blocks c.in_ok-blocks.field-0.blocks.items c.loop-it.invariant.below c.loop-it.found.items c.deref-it-items.result.now c.loop-it.it-index
     are c.loop-it.invariant.are there.0 (c.deref-it-items.ensures.value ∙ there.1) c.loop-it-test.false
-    (λ parts have. c.loop-it.invariant.value stored parts (c.in_ok-blocks.ensures.reads.keeps stored held) have (true_after _ _ _ _ c.in_ok-blocks.ensures.reads c.loop-it.invariant.reads honest))
+    (λ parts have. c.loop-it.invariant.value stored parts (c.in_ok-blocks.ensures.reads.keeps stored held) have (told_after _ _ _ _ c.in_ok-blocks.ensures.reads c.loop-it.invariant.reads tell))
 
 pub returns-in_err-more-clause-caused : goal.returns-in_err-more-clause-caused
 returns-in_err-more-clause-caused g c =

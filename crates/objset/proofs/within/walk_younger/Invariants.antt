@@ -1,7 +1,7 @@
 use Rattle.std.proofs.Common.{All, ◌≡◌, ◌+◌, ◌++◌, ◌<◌, ◌≤◌, List, take}
 use Rattle.block_pointer.specs.declared.block.Block.{Block}
 use Rattle.block_store.specs.Blocks.{Contents}
-use Rattle.block_store.specs.Steps.{OnlyReadsBlocks, AnswersAreTrue}
+use Rattle.block_store.specs.Steps.{OnlyReadsBlocks, AnswersTell}
 use Rattle.block_store.specs.Store.{Holds}
 use Rattle.dnode_tree.specs.Subtree.{joined}
 use Rattle.dnode_tree.specs.Within.{indirect_count}
@@ -17,6 +17,6 @@ invariant-loop-it g l = record {
   are : l.found.items ≡ l.initial.found.items ++ below;
   young : All (λ block. l.since < block.birth) l.found.items;
   count : l.initial.left ≡ l.left + indirect_count below;
-  value : (stored : Contents) (parts : List (List Block)) → Holds l.initial.store stored → HaveTrees stored l.it-items parts → AnswersAreTrue l.initial.store l.store
+  value : (stored : Contents) (parts : List (List Block)) → Holds l.initial.store stored → HaveTrees stored l.it-items parts → AnswersTell l.initial.store l.store l.missing
       → below ≡ joined (take l.it-index (younger_parts l.since parts));
 }

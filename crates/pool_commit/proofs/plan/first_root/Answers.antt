@@ -8,8 +8,8 @@ pub returns-clause-known : goal.returns-clause-known
 returns-clause-known g c = c.first_group.ensures.known
 
 pub returns-clause-value : goal.returns-clause-value
-returns-clause-value g c = IfOk-map c.first_group.result _ _ (λ first spells stored planned plans nothing honest.
-    let there = spells stored planned plans nothing honest in
+returns-clause-value g c = IfOk-map c.first_group.result _ _ (λ first spells stored planned plans nothing tell.
+    let there = spells stored planned plans nothing tell in
     (there.0, there.1, there.2, there.3, reach_of there.3, (there.3, refl), there.6, (there.3, there.7, (_, there.4.config, record { guids = refl; digest = refl }), there.4.spans), (there.3, there.8))) c.first_group.ensures.value
 
 pub first_group-requires-clause-fits : goal.first_group-requires-clause-fits

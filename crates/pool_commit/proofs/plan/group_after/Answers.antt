@@ -21,12 +21,12 @@ returns-in_err-names-clause-steps g c = steps_none c.args.store.now []
 
 pub returns-in_err-made-clause-known : goal.returns-in_err-made-clause-known
 returns-in_err-made-clause-known g c =
-    passed_on _ _ _ c.from_residual-in_err-made.ensures.1 (λ stored planned pool plans spells begins honest good effects.
-    c.in_err-made.ensures.known stored planned pool plans spells begins honest good effects)
+    passed_on _ _ _ c.from_residual-in_err-made.ensures.1 (λ stored planned pool plans spells begins tell good effects.
+    c.in_err-made.ensures.known stored planned pool plans spells begins tell good effects)
 
 pub returns-clause-value : goal.returns-clause-value
-returns-clause-value g c = λ stored planned pool before plans spells leads begins honest effects.
-    let there = c.in_ok-made.ensures.value stored planned pool before plans spells leads begins honest effects in (
+returns-clause-value g c = λ stored planned pool before plans spells leads begins tell effects.
+    let there = c.in_ok-made.ensures.value stored planned pool before plans spells leads begins tell effects in (
       there.0,
       there.1,
       there.2,

@@ -48,7 +48,7 @@ pub returns-in_err-parted-clause-steps : goal.returns-in_err-parted-clause-steps
 returns-in_err-parted-clause-steps g c = steps_none c.args.store.now []
 
 pub returns-in-Some-clause-value : goal.returns-in-Some-clause-value
-returns-in-Some-clause-value g c = λ stored planned pool before plans spells leads begins honest effects.
+returns-in-Some-clause-value g c = λ stored planned pool before plans spells leads begins tell effects.
     let led = subst (λ (o : Option Block). LeadsTo stored (c.args.next.now.number - 1) o pool before) c.in-Some.is leads in
     let (is, maps, stands) = subst (λ (o : Option Block). BeginsWithMaps c.args.store.now.spaces stored (c.args.next.now.number - 1) o pool) c.in-Some.is begins in
     let one = roots_spell_one_pool stored (c.args.next.now.number - 1) (c.args.next.now.number - 1) c.in-Some.root pool pool led.0 is in
@@ -59,7 +59,7 @@ returns-in-Some-clause-value g c = λ stored planned pool before plans spells le
     subst (λ (p : Parted). MayBeDestroyed p.destroyed pool) (sym parted) (may_parted stored (c.args.next.now.number - 1) c.args.next.now.number c.args.last.now pool items spells effects) in
     let same : applied c.args.next.now.number (all_destroyed (c.in_ok-parted.parted).destroyed pool) (with_made items c.in_ok-parted.parted) ≡ applied c.args.next.now.number pool items =
     ap (λ (p : Parted). applied c.args.next.now.number (all_destroyed p.destroyed pool) (with_made items p)) parted ∙ same_parted stored (c.args.next.now.number - 1) c.args.next.now.number c.args.last.now pool items spells effects in
-    let there = c.in_ok-next-in-Some.ensures.value stored planned pool plans is by maps may honest in
+    let there = c.in_ok-next-in-Some.ensures.value stored planned pool plans is by maps may tell in
     let vdevs : List PlainVdev = config_view c.args.last.now.config.value in
     let config : HasConfigAs (there.3.objects 2) vdevs =
     subst (λ (o : Option Object). HasConfigAs o vdevs) (sym there.4.objects.config)
@@ -83,17 +83,17 @@ returns-in-Some-clause-value g c = λ stored planned pool before plans spells le
 pub returns-in_err-next-in-Some-clause-known : goal.returns-in_err-next-in-Some-clause-known
 returns-in_err-next-in-Some-clause-known g c =
     passed_on _ _ _ c.from_residual-in_err-next-in-Some.ensures.1
-    (λ stored planned pool plans spells begins honest good effects.
+    (λ stored planned pool plans spells begins tell good effects.
     let (is, maps, stands) = subst (λ (o : Option Block). BeginsWithMaps c.args.store.now.spaces stored (c.args.next.now.number - 1) o pool) c.in-Some.is begins in
     let by = rows_led stored (c.args.next.now.number - 1) c.args.last.now pool _ _ is spells c.in-Some.is c.kept_directory.ensures in
     let items : Entry = c.args.items.now in
     let parted : c.in_ok-parted.parted ≡ parted_of items.actions = c.in_ok-parted.ensures ∙ ap parted_of c.actions.ensures in
     let may : MayBeDestroyed (c.in_ok-parted.parted).destroyed pool =
     subst (λ (p : Parted). MayBeDestroyed p.destroyed pool) (sym parted) (may_parted stored (c.args.next.now.number - 1) c.args.next.now.number c.args.last.now pool items spells effects) in
-    c.in_err-next-in-Some.ensures.known stored planned pool plans is by maps stands honest may (good_parted items c.in_ok-parted.parted parted good))
+    c.in_err-next-in-Some.ensures.known stored planned pool plans is by maps stands tell may (good_parted items c.in_ok-parted.parted parted good))
 
 pub returns-clause-value : goal.returns-clause-value
-returns-clause-value g c = λ stored planned pool before plans spells leads begins honest effects.
+returns-clause-value g c = λ stored planned pool before plans spells leads begins tell effects.
     let root : Block = c.in_ok-first-in-None.first.root in
     let rows : List DirectoryRow = c.in_ok-first-in-None.first.directory in
     let empty : pool ≡ no_volumes = subst (λ (o : Option Block). SpellsRoot stored (c.args.next.now.number - 1) o pool) c.in-None.is spells.root in
@@ -104,7 +104,7 @@ returns-clause-value g c = λ stored planned pool before plans spells leads begi
     let same : applied c.args.next.now.number no_volumes (with_made items c.in_ok-parted.parted) ≡ applied c.args.next.now.number pool items =
     ap (λ (p : Parted). applied c.args.next.now.number no_volumes (with_made items p)) parted
     ∙ first_parted c.args.next.now.number pool items (same_parted stored (c.args.next.now.number - 1) c.args.next.now.number c.args.last.now pool items spells effects) empty in
-    let there = c.in_ok-first-in-None.ensures.value stored planned plans unused honest in
+    let there = c.in_ok-first-in-None.ensures.value stored planned plans unused tell in
     let vdevs : List PlainVdev = config_view c.args.last.now.config.value in
     let none : c.args.last.now.spans_under.value ≡ [] =
     (subst (λ (o : Option Block). SpellsBy stored (c.args.next.now.number - 1) o pool c.args.last.now.directory.value (config_view c.args.last.now.config.value) c.args.last.now.spans_under.value) c.in-None.is spells.directory).1 in
@@ -129,9 +129,9 @@ returns-clause-value g c = λ stored planned pool before plans spells leads begi
 
 pub returns-in_err-first-in-None-clause-known : goal.returns-in_err-first-in-None-clause-known
 returns-in_err-first-in-None-clause-known g c =
-    passed_on _ _ _ c.from_residual-in_err-first-in-None.ensures.1 (λ stored planned pool plans spells begins honest good effects.
+    passed_on _ _ _ c.from_residual-in_err-first-in-None.ensures.1 (λ stored planned pool plans spells begins tell good effects.
     c.in_err-first-in-None.ensures.known stored planned plans
-    (subst (λ (o : Option Block). BeginsWithMaps c.args.store.now.spaces stored (c.args.next.now.number - 1) o pool) c.in-None.is begins) honest
+    (subst (λ (o : Option Block). BeginsWithMaps c.args.store.now.spaces stored (c.args.next.now.number - 1) o pool) c.in-None.is begins) tell
     (good_parted c.args.items.now c.in_ok-parted.parted (c.in_ok-parted.ensures ∙ ap parted_of c.actions.ensures) good))
 
 pub returns-in_err-first-in-None-clause-refused : goal.returns-in_err-first-in-None-clause-refused

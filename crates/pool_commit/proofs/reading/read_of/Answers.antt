@@ -1,6 +1,6 @@
 use Rattle.std.proofs.Common.{⊎_elim, inl, inr, sym, ap, ◌∙◌}
 use Rattle.block_store.specs.Losses.{IsForLoss}
-use Rattle.block_store.specs.Steps.{AnswersAreTrue}
+use Rattle.block_store.specs.Steps.{AnswersTell}
 use Rattle.pool_model.specs.Refusals.{read_refusal}
 use Rattle.pool_commit.specs.Causes.{of_store}
 use Rattle.pool_commit.proofs.Directories.{rows_spelled}
@@ -30,10 +30,10 @@ returns-in-Ok-clause-bytes g c = λ stored pool held spells.
     let there = at_shape _ c.in-Some.shape (sym c.in-Some.is ∙ c.find.ensures pool (rw c.names.ensures spells.names)) in (
       has_no_cause c.args.range.now.offset c.args.range.now.len c.args.range.now.name.now pool c.in-Some.shape c.against_read.result there.0 c.against_read.ensures there.1
           there.2 (sym c.is_some.ensures ∙ c.if-is_some.false),
-      λ honest. (
+      λ tell. (
         there.0,
         there.1,
-        c.in-Ok.ensures.value stored pool there.0 held by.0 by.1 honest there.1,
+        c.in-Ok.ensures.value stored pool there.0 held by.0 by.1 tell there.1,
       ),
     )
 
@@ -44,8 +44,8 @@ returns-in-Err-clause-refused g c = λ stored pool held spells.
     let none = has_no_cause c.args.range.now.offset c.args.range.now.len c.args.range.now.name.now pool c.in-Some.shape c.against_read.result there.0 c.against_read.ensures there.1
     there.2 (sym c.is_some.ensures ∙ c.if-is_some.false) in
     let within = (in_range c.args.range.now.offset c.args.range.now.len c.in-Some.shape c.against_read.result c.against_read.ensures (sym c.is_some.ensures ∙ c.if-is_some.false)).0 in
-    let known : AnswersAreTrue c.args.store.now c.read_range_in.new.store → IsForLoss c.in-Err.refusal =
-    λ honest. c.in-Err.ensures.known stored pool there.0 held by.0 by.1 honest there.1 (shape_within _ _ c.in-Some.shape there.0 there.2 within) in
+    let known : AnswersTell c.args.store.now c.read_range_in.new.store c.args.missing.now → IsForLoss c.in-Err.refusal =
+    λ tell. c.in-Err.ensures.known stored pool there.0 held by.0 by.1 tell there.1 (shape_within _ _ c.in-Some.shape there.0 there.2 within) in
     ⊎_elim (λ memory. inl (c.from.ensures ∙ ap of_store memory))
     (λ why. read_refused c.args.store.now c.read_range_in.new.store c.args.kept.now c.args.birth c.in-Some-root.root c.args.range.now.name.now c.args.range.now.offset c.args.range.now.len
     c.args.missing.now pool c.in-Err.refusal c.from.result c.in-Some-root.is c.from.ensures none why known)

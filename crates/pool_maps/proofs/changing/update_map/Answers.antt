@@ -13,8 +13,8 @@ use Rattle.pool_maps.proofs.changing.update_map.Goals as goal
 pub returns-in-Ok-clause-value : goal.returns-in-Ok-clause-value
 returns-in-Ok-clause-value g c =
     IfOk-weaker c.change_of.result _ _
-    (λ change value stored objects own blocks before held are honest has leads.
-    value (objects c.args.number) before (λ bytes table. c.in-Ok.ensures.value stored objects own blocks held are honest bytes table) has leads)
+    (λ change value stored objects own blocks before held are tell has leads.
+    value (objects c.args.number) before (λ bytes table. c.in-Ok.ensures.value stored objects own blocks held are tell bytes table) has leads)
     c.change_of.ensures.value
 
 pub returns-in-Err-clause-refused : goal.returns-in-Err-clause-refused
@@ -27,8 +27,8 @@ returns-in-Err-clause-refused g c =
 
 pub returns-in-Err-clause-known : goal.returns-in-Err-clause-known
 returns-in-Err-clause-known g c =
-    λ stored objects own blocks before held are honest has.
-    elim (c.in-Err.ensures.known stored objects own blocks held are honest) [
+    λ stored objects own blocks before held are tell has.
+    elim (c.in-Err.ensures.known stored objects own blocks held are tell) [
       | inl (inl memory) ↦ inl (c.of_map.ensures ∙ ap of_map memory)
       | inl (inr (why, is, loss)) ↦ subst IsForLoss (sym (c.of_map.ensures ∙ ap of_map is)) loss
       | inr none ↦ absurd (none has.0 has.1)

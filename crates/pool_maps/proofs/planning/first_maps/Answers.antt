@@ -29,9 +29,9 @@ returns-in_err-plan_all-clause-known g c =
     let store = c.args.store.now in
     let first : MapPlan = record { maps = c.new.result; grown = false; changes = c.args.changes; next = c.args.next } in
     passed_on _ _ _ c.from_residual.ensures.1
-    (λ others none honest.
+    (λ others none tell.
     only_room store c.plan_all.new.store 0 [] first c.in_err-plan_all.field-0.0
-    (c.in_err-plan_all.ensures.known nothing_stored nothing [] (λ number. []) (holds_nothing store) (no_objects 0 no_set refl) honest
+    (c.in_err-plan_all.ensures.known nothing_stored nothing [] (λ number. []) (holds_nothing store) (no_objects 0 no_set refl) tell
     (sound store.spaces c.args.changes.items c.args.next others first c.new.ensures refl refl)
     (unmade store.spaces c.args.changes.items c.args.next others first c.new.ensures refl refl)
     (below store.spaces c.args.changes.items c.args.next others first c.new.ensures refl refl)
@@ -77,10 +77,10 @@ returns-clause-value g c =
     let store = c.args.store.now in
     let first : MapPlan = record { maps = c.new.result; grown = false; changes = c.args.changes; next = c.args.next } in
     IfOk-weaker c.with_first_table.result _ _
-    (λ all table others none honest.
+    (λ all table others none tell.
     let is_sound = sound store.spaces c.args.changes.items c.args.next others first c.new.ensures refl refl in
     made store.spaces c.args.changes.items c.args.next others first c.new.ensures refl refl c.plan_all.new.self none (c.in_ok-plan_all.ensures.step.sound is_sound)
-    (c.in_ok-plan_all.ensures.advances nothing_stored nothing [] (λ number. []) (holds_nothing store) (no_objects 0 no_set refl) honest is_sound
+    (c.in_ok-plan_all.ensures.advances nothing_stored nothing [] (λ number. []) (holds_nothing store) (no_objects 0 no_set refl) tell is_sound
     (unmade store.spaces c.args.changes.items c.args.next others first c.new.ensures refl refl))
     all.items table.0 table.1 table.2 table.3)
     c.with_first_table.ensures.table
@@ -89,7 +89,7 @@ pub returns-clause-known : goal.returns-clause-known
 returns-clause-known g c =
     let first : MapPlan = record { maps = c.new.result; grown = false; changes = c.args.changes; next = c.args.next } in
     IfErr-weaker c.with_first_table.result _ _
-    (λ refusal cause others none honest. elim cause [
+    (λ refusal cause others none tell. elim cause [
       | inl memory ↦ inl memory
       | inr (bad, inl zero) ↦ absurd (cc)
       | inr (bad, inr (inl past)) ↦ absurd (search rules)

@@ -6,7 +6,8 @@ use Rattle.std.proofs.lemmas.Result.{IfOk-weaker, IfErr-weaker}
 use Rattle.block_store.specs.Releases.{AreReleased, copies_of_all}
 use Rattle.block_store.specs.Spaces.{VdevSpace}
 use Rattle.block_store.proofs.Giving.{both_ok}
-use Rattle.block_store.proofs.Steps.{reads_on, true_before, true_after}
+use Rattle.block_store.proofs.Steps.{reads_on}
+use Rattle.block_store.proofs.Telling.{read_after, read_before}
 use Rattle.dnode_tree.proofs.Refusing.{passed_on}
 use Rattle.metaslab.proofs.Holding.{cases}
 use Rattle.block_store.proofs.Causes.{caused_behind_reads}
@@ -30,8 +31,8 @@ returns-in_err-maps-clause-refused g c = passed_on _ _ _ c.from_residual.ensures
 pub returns-in_err-maps-clause-known : goal.returns-in_err-maps-clause-known
 returns-in_err-maps-clause-known g c =
     passed_on _ _ _ c.from_residual.ensures.1
-    (λ stored objects own blocks held aobj honest are others after group released.
-    elim (c.in_err-maps.ensures.known stored objects own blocks held aobj honest) [
+    (λ stored objects own blocks held aobj tell are others after group released.
+    elim (c.in_err-maps.ensures.known stored objects own blocks held aobj tell) [
       | inl loss ↦ inl loss
       | inr (bad, none) ↦ absurd (none are.maps are.are.table)
     ])
@@ -120,9 +121,9 @@ returns-in_err-plan_all-clause-known g c =
     let same = spaces_stay old mid [] c.read_space_maps.ensures.reads in
     let first : MapPlan = record { maps = c.in_ok-maps.maps; grown = false; changes = c.args.changes; next = c.args.next } in
     passed_on _ _ _ c.from_residual-in_err-plan_all.ensures.1
-    (λ stored objects own blocks held aobj honest are others after group released.
-    let maps_are = c.in_ok-maps.ensures.one stored objects own blocks held aobj (true_before old mid c.plan_all.new.store c.plan_all.ensures.reads.reads honest) are.maps are.are.table in
-    c.in_err-plan_all.ensures.known stored objects own blocks (c.read_space_maps.ensures.reads.keeps stored held) aobj (true_after old mid c.plan_all.new.store c.read_space_maps.ensures.reads.reads honest)
+    (λ stored objects own blocks held aobj tell are others after group released.
+    let maps_are = c.in_ok-maps.ensures.one stored objects own blocks held aobj (read_before old mid c.plan_all.new.store [] c.read_space_maps.ensures.reads c.plan_all.ensures.reads tell) are.maps are.are.table in
+    c.in_err-plan_all.ensures.known stored objects own blocks (c.read_space_maps.ensures.reads.keeps stored held) aobj (read_after old mid c.plan_all.new.store [] c.read_space_maps.ensures.reads c.plan_all.ensures.reads tell)
     (subst (λ (spaces : List VdevSpace). IsSound spaces first) (sym same) (sound objects old.spaces are c.args.changes.items c.args.next others first maps_are refl refl))
     (unmade objects old.spaces are c.args.changes.items c.args.next others first maps_are refl refl)
     (below objects old.spaces are c.args.changes.items c.args.next others first maps_are refl refl)
@@ -137,11 +138,11 @@ returns-clause-known g c =
     let first : MapPlan = record { maps = c.in_ok-maps.maps; grown = false; changes = c.args.changes; next = c.args.next } in
     let last = c.plan_all.new.self in
     IfErr-weaker c.with_table.result _ _
-    (λ refusal cause stored objects own blocks held aobj honest are others after group released.
-    let maps_are = c.in_ok-maps.ensures.one stored objects own blocks held aobj (true_before old mid c.plan_all.new.store c.plan_all.ensures.reads.reads honest) are.maps are.are.table in
+    (λ refusal cause stored objects own blocks held aobj tell are others after group released.
+    let maps_are = c.in_ok-maps.ensures.one stored objects own blocks held aobj (read_before old mid c.plan_all.new.store [] c.read_space_maps.ensures.reads c.plan_all.ensures.reads tell) are.maps are.are.table in
     let is_sound = sound objects old.spaces are c.args.changes.items c.args.next others first maps_are refl refl in
     let advances = subst (λ (spaces : List VdevSpace). Advances objects spaces c.args.gone.now AreAll first last) same
-    (c.in_ok-plan_all.ensures.advances stored objects own blocks (c.read_space_maps.ensures.reads.keeps stored held) aobj (true_after old mid c.plan_all.new.store c.read_space_maps.ensures.reads.reads honest)
+    (c.in_ok-plan_all.ensures.advances stored objects own blocks (c.read_space_maps.ensures.reads.keeps stored held) aobj (read_after old mid c.plan_all.new.store [] c.read_space_maps.ensures.reads c.plan_all.ensures.reads tell)
     (subst (λ (spaces : List VdevSpace). IsSound spaces first) (sym same) is_sound) (unmade objects old.spaces are c.args.changes.items c.args.next others first maps_are refl refl)) in
     let later = subst (λ (spaces : List VdevSpace). IsSound spaces last) same (c.in_ok-plan_all.ensures.step.sound (subst (λ (spaces : List VdevSpace). IsSound spaces first) (sym same) is_sound)) in
     elim cause [
@@ -161,11 +162,11 @@ returns-clause-value g c =
     let first : MapPlan = record { maps = c.in_ok-maps.maps; grown = false; changes = c.args.changes; next = c.args.next } in
     let last = c.plan_all.new.self in
     IfOk-weaker c.with_table.result _ _
-    (λ all both stored objects own blocks held aobj honest are others.
-    let maps_are = c.in_ok-maps.ensures.one stored objects own blocks held aobj (true_before old mid c.plan_all.new.store c.plan_all.ensures.reads.reads honest) are.maps are.are.table in
+    (λ all both stored objects own blocks held aobj tell are others.
+    let maps_are = c.in_ok-maps.ensures.one stored objects own blocks held aobj (read_before old mid c.plan_all.new.store [] c.read_space_maps.ensures.reads c.plan_all.ensures.reads tell) are.maps are.are.table in
     let is_sound = sound objects old.spaces are c.args.changes.items c.args.next others first maps_are refl refl in
     let advances = subst (λ (spaces : List VdevSpace). Advances objects spaces c.args.gone.now AreAll first last) same
-    (c.in_ok-plan_all.ensures.advances stored objects own blocks (c.read_space_maps.ensures.reads.keeps stored held) aobj (true_after old mid c.plan_all.new.store c.read_space_maps.ensures.reads.reads honest)
+    (c.in_ok-plan_all.ensures.advances stored objects own blocks (c.read_space_maps.ensures.reads.keeps stored held) aobj (read_after old mid c.plan_all.new.store [] c.read_space_maps.ensures.reads c.plan_all.ensures.reads tell)
     (subst (λ (spaces : List VdevSpace). IsSound spaces first) (sym same) is_sound) (unmade objects old.spaces are c.args.changes.items c.args.next others first maps_are refl refl)) in
     let later = subst (λ (spaces : List VdevSpace). IsSound spaces last) same (c.in_ok-plan_all.ensures.step.sound (subst (λ (spaces : List VdevSpace). IsSound spaces first) (sym same) is_sound)) in
     let stay = subst (λ (maps : List MetaslabMap). OthersStay maps c.args.next c.args.changes.items all.items) maps_are

@@ -1,7 +1,8 @@
 use Rattle.std.proofs.Common.{List, [], ◌∷◌, ◌++◌, get_or, take, inr, sym, subst}
 use Rattle.std.proofs.lemmas.List.{take_all, take_more}
 use Rattle.block_store.specs.Spaces.{VdevSpace}
-use Rattle.block_store.proofs.Steps.{reads_on, true_after}
+use Rattle.block_store.proofs.Steps.{reads_on}
+use Rattle.block_store.proofs.Telling.{read_after}
 use Rattle.dnode_tree.proofs.Refusing.{passed_on}
 use Rattle.meta_objset.specs.declared.space_maps.MetaslabMap.{MetaslabMap}
 use Rattle.space_map_objects.proofs.Unread.{caused_of_behind_reads}
@@ -42,8 +43,8 @@ returns-in_err-free-clause-known g c =
     let row = get_or c.args.rows.now i none in
     let before = c.loop-row.invariant.reads in
     passed_on _ _ _ c.from_residual.ensures.1
-    (λ stored objects own blocks held are honest maps.
-    c.in_err-free.ensures.known stored objects own blocks (before.keeps stored held) are (true_after old now c.read_one.new.store before.reads honest)
+    (λ stored objects own blocks held are tell maps.
+    c.in_err-free.ensures.known stored objects own blocks (before.keeps stored held) are (read_after old now c.read_one.new.store c.args.missing.now before c.read_one.ensures.reads tell)
     (subst (λ (spaces : List VdevSpace). HasMapFor (objects row.object) spaces row.metaslab) (sym (spaces_stay old now c.args.missing.now before)) (maps i none c.loop-row-test.true)))
 
 pub returns-in_err-push-clause-reads : goal.returns-in_err-push-clause-reads

@@ -2,7 +2,8 @@ use Rattle.std.proofs.Common.{List, All, inl, inr, sym, subst, ◌∙◌}
 use Rattle.std.specs.List.{AllZip}
 use Rattle.std.proofs.lemmas.Result.{IfErr-weaker, IfOk-weaker}
 use Rattle.block_store.specs.Spaces.{VdevSpace}
-use Rattle.block_store.proofs.Steps.{reads_on, true_before, true_after}
+use Rattle.block_store.proofs.Steps.{reads_on}
+use Rattle.block_store.proofs.Telling.{read_after, read_before}
 use Rattle.dnode_tree.proofs.Refusing.{passed_on}
 use Rattle.meta_objset.specs.declared.space_maps.MetaslabMap.{MetaslabMap}
 use Rattle.pool_maps.specs.Loads.{HaveMaps, IsFreeFound, IsReadOf, IsRowUnread}
@@ -21,15 +22,15 @@ returns-in_err-maps-clause-refused g c =
 pub returns-in_err-maps-clause-known : goal.returns-in_err-maps-clause-known
 returns-in_err-maps-clause-known g c =
     passed_on _ _ _ c.from_residual.ensures.1
-    (λ stored objects own blocks held are honest maps table rows have. elim (c.in_err-maps.ensures.known stored objects own blocks held are honest) [
+    (λ stored objects own blocks held are tell maps table rows have. elim (c.in_err-maps.ensures.known stored objects own blocks held are tell) [
       | inl loss ↦ lossy c.in_err-maps.field-0.0 loss
       | inr (bad, none) ↦ absurd (none maps table)
     ])
 
 pub returns-then-not-are_rows-clause-known : goal.returns-then-not-are_rows-clause-known
-returns-then-not-are_rows-clause-known g c = λ stored objects own blocks held are honest maps table rows have.
+returns-then-not-are_rows-clause-known g c = λ stored objects own blocks held are tell maps table rows have.
     let same = spaces_stay c.args.store.now c.read_space_maps.new.store c.args.missing.now c.read_space_maps.ensures.reads in
-    let maps_are = c.in_ok-maps.ensures.one stored objects own blocks held are honest maps table in
+    let maps_are = c.in_ok-maps.ensures.one stored objects own blocks held are tell maps table in
     absurd (c.if-not-are_rows.ensures.none
     (subst (λ (spaces : List VdevSpace). AreRowsOf spaces c.rows.result.now) (sym same) (subst (λ (them : List MetaslabMap). AreRowsOf c.args.store.now.spaces them) (sym (c.rows.ensures.value ∙ maps_are)) rows)))
 
@@ -50,13 +51,13 @@ returns-clause-value g c =
     let maps = c.in_ok-maps.maps in
     let same = spaces_stay old mid c.args.missing.now c.read_space_maps.ensures.reads in
     IfOk-weaker c.read_each.result _ _
-    (λ read value stored objects own blocks held are honest. record {
+    (λ read value stored objects own blocks held are tell. record {
       maps = maps;
-      table = c.in_ok-maps.ensures.value stored objects own blocks held are (true_before old mid new c.read_each.ensures.reads.reads honest);
+      table = c.in_ok-maps.ensures.value stored objects own blocks held are (read_before old mid new c.args.missing.now c.read_space_maps.ensures.reads c.read_each.ensures.reads tell);
       rows = subst (λ (spaces : List VdevSpace). AreRowsOf spaces maps) same (subst (λ (rows : List MetaslabMap). AreRowsOf mid.spaces rows) c.rows.ensures.value c.if-not-are_rows.ensures.are);
       each = subst (λ (spaces : List VdevSpace). AllZip (IsReadOf objects spaces) maps read.items) same
           (subst (λ (rows : List MetaslabMap). AllZip (IsReadOf objects mid.spaces) rows read.items) c.rows-2.ensures.value
-          (value stored objects own blocks (c.read_space_maps.ensures.reads.keeps stored held) are (true_after old mid new c.read_space_maps.ensures.reads.reads honest)));
+          (value stored objects own blocks (c.read_space_maps.ensures.reads.keeps stored held) are (read_after old mid new c.args.missing.now c.read_space_maps.ensures.reads c.read_each.ensures.reads tell)));
     })
     c.read_each.ensures.value
 
@@ -104,9 +105,9 @@ returns-clause-known g c =
     let new = c.read_each.new.store in
     let same = spaces_stay old mid c.args.missing.now c.read_space_maps.ensures.reads in
     IfErr-weaker c.read_each.result _ _
-    (λ refusal known stored objects own blocks held are honest maps table rows have.
-    let maps_are = c.in_ok-maps.ensures.one stored objects own blocks held are (true_before old mid new c.read_each.ensures.reads.reads honest) maps table in
-    known stored objects own blocks (c.read_space_maps.ensures.reads.keeps stored held) are (true_after old mid new c.read_space_maps.ensures.reads.reads honest)
+    (λ refusal known stored objects own blocks held are tell maps table rows have.
+    let maps_are = c.in_ok-maps.ensures.one stored objects own blocks held are (read_before old mid new c.args.missing.now c.read_space_maps.ensures.reads c.read_each.ensures.reads tell) maps table in
+    known stored objects own blocks (c.read_space_maps.ensures.reads.keeps stored held) are (read_after old mid new c.args.missing.now c.read_space_maps.ensures.reads c.read_each.ensures.reads tell)
     (subst (λ (spaces : List VdevSpace). HaveMaps objects spaces c.rows-2.result.now) (sym same)
     (subst (λ (them : List MetaslabMap). HaveMaps objects old.spaces them) (sym (c.rows-2.ensures.value ∙ maps_are)) have)))
     c.read_each.ensures.known

@@ -4,12 +4,12 @@ use Rattle.pool_maps.proofs.ReadRows.{has_sectors, own_map, shape_sectors}
 use Rattle.pool_maps.proofs.reading.read_one.Goals as goal
 
 pub returns-clause-value : goal.returns-clause-value
-returns-clause-value g c = λ stored objects own blocks held are honest.
+returns-clause-value g c = λ stored objects own blocks held are tell.
     let vdev = c.args.row.now.metaslab.vdev in
     let free = c.in_ok-free.free in
     let sectors = c.metaslab_sectors-sectors.result in
     let size = shape_sectors c.args.store.now.spaces vdev sectors c.shape.result c.requires.place.space c.shape.ensures.shape c.requires.place.found c.metaslab_sectors-sectors.ensures.value in
-    let map = c.in_ok-free.ensures.value stored objects own blocks held are honest in
+    let map = c.in_ok-free.ensures.value stored objects own blocks held are tell in
     record {
       metaslab = refl;
       object = refl;
@@ -23,7 +23,7 @@ returns-in_err-free-clause-known g c =
     let sectors = c.metaslab_sectors-sectors.result in
     let size = shape_sectors c.args.store.now.spaces vdev sectors c.shape.result c.requires.place.space c.shape.ensures.shape c.requires.place.found c.metaslab_sectors-sectors.ensures.value in
     passed_on _ _ _ c.from_residual.ensures.1
-    (λ stored objects own blocks held are honest has. elim (c.in_err-free.ensures.known stored objects own blocks held are honest) [
+    (λ stored objects own blocks held are tell has. elim (c.in_err-free.ensures.known stored objects own blocks held are tell) [
       | inl loss ↦ loss
       | inr none ↦ absurd (none (has sectors (has_sectors c.args.store.now.spaces vdev sectors c.requires.place.space c.requires.place.found size)))
     ])

@@ -1,4 +1,4 @@
-use Rattle.std.proofs.Common.{refl, subst, sym, ◌∙◌}
+use Rattle.std.proofs.Common.{inl, refl, subst, sym, ◌∙◌}
 use Rattle.model_disk.specs.Joint.{Disks}
 use Rattle.pool_core.proofs.MapsReadSets.{sets_stay}
 use Rattle.pool_open.specs.Roots.{IsRootNotRead}
@@ -20,6 +20,6 @@ returns-in-Ok-clause-contents g c old shapes out stale over = record {
   are = λ stored pool hold spells honest.
       contents_over shapes c.args.store.spaces stored c.args.group c.args.root.now pool c.in-Ok.contents over.shapes_are
       (c.in-Ok.ensures.value stored pool (hold c.args.store over) spells
-      (honest_between c.args.store c.contents_under.new.store old c.into_array.result over.disks_are c.into_array.ensures honest));
+      (inl (honest_between c.args.store c.contents_under.new.store old c.into_array.result over.disks_are c.into_array.ensures honest)));
   sets = λ spaces same. sets_stay c.args.store.spaces spaces c.in-Ok.contents.maps.items (same ∙ sym over.shapes_are) c.in-Ok.ensures.sets;
 }

@@ -8,7 +8,7 @@ returns-in-Ok-create-clause-made c =
     let disks = c.in-Ok-several.ensures in
     is_made c.args.line.now c.in-Ok-several.disks.items c.in-Ok.pool c.in-Ok.config c.in-Ok-create.opened.uberblock (state_of c.in-Ok-create.opened.core)
     (record { count = disks.count; sizes = disks.sizes; zeros = disks.zeros; fresh = disks.fresh }) c.in-Ok.ensures c.in-Ok-create.ensures.created
-    (λ old. c.answers_are_true.ensures old)
+    c.answers_are_true.ensures.truly
 
 pub returns-clause-refused : goal.returns-clause-refused
 returns-clause-refused c =

@@ -10,9 +10,9 @@ use Rattle.space_map_objects.proofs.reading.read_free_set.Goals as goal
 pub returns-in_err-rows-clause-known : goal.returns-in_err-rows-clause-known
 returns-in_err-rows-clause-known g c =
     passed_on _ _ _ c.from_residual.ensures.1
-    (λ stored objects own blocks held are honest.
+    (λ stored objects own blocks held are tell.
     ⊎_elim (λ loss. inl (lossy _ loss)) (λ bad. inr (λ map. bad.1 map.1.0 map.1.1))
-    (c.in_err-rows.ensures.known stored objects own blocks held are honest))
+    (c.in_err-rows.ensures.known stored objects own blocks held are tell))
 
 pub returns-in_err-rows-clause-refused : goal.returns-in_err-rows-clause-refused
 returns-in_err-rows-clause-refused g c =
@@ -21,9 +21,9 @@ returns-in_err-rows-clause-refused g c =
 pub returns-clause-value : goal.returns-clause-value
 returns-clause-value g c =
     IfOk-weaker c.free_set_of.result _ _
-    (λ free leaves stored objects own blocks held are honest. (
+    (λ free leaves stored objects own blocks held are tell. (
       c.in_ok-rows.rows.items,
-      c.in_ok-rows.ensures.value stored objects own blocks held are honest,
+      c.in_ok-rows.ensures.value stored objects own blocks held are tell,
       subst (λ (bytes : List ℕ). LeavesFree bytes c.args.sectors free) c.deref.ensures.value leaves,
     ))
     c.free_set_of.ensures.found
@@ -55,10 +55,10 @@ returns-clause-refused g c =
 pub returns-clause-known : goal.returns-clause-known
 returns-clause-known g c =
     IfErr-weaker c.free_set_of.result _ _
-    (λ refusal why stored objects own blocks held are honest.
+    (λ refusal why stored objects own blocks held are tell.
     ⊎_elim (λ memory. inl (inl memory))
     (λ bad. inr (λ map.
-    let same = c.deref.ensures.value ∙ c.in_ok-rows.ensures.one stored objects own blocks held are honest map.1.0 map.1.1 in
+    let same = c.deref.ensures.value ∙ c.in_ok-rows.ensures.one stored objects own blocks held are tell map.1.0 map.1.1 in
     subst (λ (bytes : List ℕ). SpellsNoMap bytes c.args.sectors) same bad.1 map.1.2.entries map.1.2.spelled map.1.2.is_map))
     why)
     c.free_set_of.ensures.refused

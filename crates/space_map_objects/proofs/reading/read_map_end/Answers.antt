@@ -9,8 +9,8 @@ returns-in_err-end-clause-refused g c = passed_on _ _ _ c.from_residual.ensures.
 pub returns-in_err-end-clause-known : goal.returns-in_err-end-clause-known
 returns-in_err-end-clause-known g c =
     passed_on _ _ _ c.from_residual.ensures.1
-    (λ stored objects own blocks held are honest.
-    ⊎_elim (λ loss. inl (lossy _ loss)) (λ bad. inr bad.1) (c.in_err-end.ensures.known stored objects own blocks held are honest))
+    (λ stored objects own blocks held are tell.
+    ⊎_elim (λ loss. inl (lossy _ loss)) (λ bad. inr bad.1) (c.in_err-end.ensures.known stored objects own blocks held are tell))
 
 pub returns-in_err-end-clause-caused : goal.returns-in_err-end-clause-caused
 returns-in_err-end-clause-caused g c =

@@ -1,5 +1,6 @@
 use Rattle.std.proofs.Common.{◌≡◌, ◌∙◌, ℕ, [], ap, inl, inr, ⊎_elim, refl, subst}
-use Rattle.block_store.proofs.Steps.{steps_on, true_before, no_room_now, no_room_on}
+use Rattle.block_store.proofs.Steps.{steps_on, no_room_now, no_room_on}
+use Rattle.block_store.proofs.Telling.{tell_before}
 use Rattle.block_pointer.specs.Copies.{dvas}
 use Rattle.block_store.specs.Blocks.{count_of}
 use Rattle.block_store.specs.Places.{AreChosen, RanOut}
@@ -24,9 +25,9 @@ two_copies old new kind is = subst (λ (count : ℕ). RanOut old.spaces 2 count 
 
 pub returns-in_err-rewrite-clause-known : goal.returns-in_err-rewrite-clause-known
 returns-in_err-rewrite-clause-known g c =
-    passed_on _ _ _ c.from_residual.ensures.1 (λ stored planned bound objects own before plans are early le may honest.
+    passed_on _ _ _ c.from_residual.ensures.1 (λ stored planned bound objects own before plans are early le may tell.
     ⊎_elim (λ wanting. wanting) (λ bad. not_refused c.args.change objects may bad.1)
-    (c.in_err-rewrite.ensures.known stored planned bound objects own before plans are early le honest))
+    (c.in_err-rewrite.ensures.known stored planned bound objects own before plans are early le tell))
 
 pub returns-in_err-block-clause-steps : goal.returns-in_err-block-clause-steps
 returns-in_err-block-clause-steps g c = steps_on _ _ _ _ c.in_ok-rewrite.ensures.steps c.plan_set.ensures.steps
@@ -39,15 +40,15 @@ returns-in_err-block-clause-no_room g c =
 
 pub returns-in_err-block-clause-known : goal.returns-in_err-block-clause-known
 returns-in_err-block-clause-known g c =
-    passed_on _ _ _ c.from_residual-in_err-block.ensures.1 (λ stored planned bound objects own before plans are early le may honest. inl c.in_err-block.ensures.refused)
+    passed_on _ _ _ c.from_residual-in_err-block.ensures.1 (λ stored planned bound objects own before plans are early le may tell. inl c.in_err-block.ensures.refused)
 
 pub returns-clause-steps : goal.returns-clause-steps
 returns-clause-steps g c = steps_on _ _ _ _ c.in_ok-rewrite.ensures.steps c.plan_set.ensures.steps
 
 pub returns-clause-value : goal.returns-clause-value
-returns-clause-value g c = λ stored planned bound objects own before plans are le honest.
+returns-clause-value g c = λ stored planned bound objects own before plans are le tell.
     let one = c.in_ok-rewrite.ensures.changed stored planned bound objects own before plans are le
-    (true_before c.args.store.now c.change.new.store c.plan_set.new.store c.plan_set.ensures.steps.reads honest) in
+    (tell_before c.args.store.now c.change.new.store c.plan_set.new.store [] c.in_ok-rewrite.ensures.steps c.plan_set.ensures.steps tell) in
     let two = c.in_ok-block.ensures.planned stored one.1 one.2 in (
       two.0,
       two.1,

@@ -10,5 +10,5 @@ pub loop-preserved : goal.loop-preserved
 loop-preserved g c =
     let taken = c.take_step-reply-in-loop in
     let laws = g.met.P.PoolSteps in
-    goes_on g.P.PoolSteps laws.came_further laws.parts_are_true c.args.timestamp c.args.core.now c.loop.reply c.loop.core c.in-Some.step taken.result taken.new.self c.in-Some.ensures c.loop.invariant
+    goes_on g.P.PoolSteps laws.came_further laws.parts_tell c.args.timestamp c.args.core.now c.loop.reply c.loop.core c.in-Some.step taken.result taken.new.self c.in-Some.ensures c.loop.invariant
     taken.ensures.follows taken.ensures.goes

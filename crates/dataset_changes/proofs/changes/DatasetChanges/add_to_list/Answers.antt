@@ -15,18 +15,18 @@ returns-in_err-known-clause-refused g c =
 pub returns-in_err-known-clause-known : goal.returns-in_err-known-clause-known
 returns-in_err-known-clause-known g c =
     passed_on _ _ _ c.from_residual.ensures.1
-    (λ stored objects own blocks held are honest number list now.
+    (λ stored objects own blocks held are tell number list now.
     c.in_err-known.ensures.known stored objects own blocks held
-    (same_objects c.args.self.now c.remove_list-state.new.self c.remove_list-state.ensures.one_set stored objects own blocks are) honest list
+    (same_objects c.args.self.now c.remove_list-state.new.self c.remove_list-state.ensures.one_set stored objects own blocks are) tell list
     (subst (λ (state : Option ListState). IsListNow (objects c.args.number) state list) (sym c.remove_list-state.ensures.value) now))
 
 pub returns-clause-value : goal.returns-clause-value
-returns-clause-value g c = λ stored objects own blocks held are honest over list now.
+returns-clause-value g c = λ stored objects own blocks held are tell over list now.
     let old = c.args.self.now in
     let object = objects c.args.number in
     let found = c.remove_list-state.ensures.value in
     let known = c.in_ok-known.ensures.value stored objects own blocks held
-    (same_objects old c.remove_list-state.new.self c.remove_list-state.ensures.one_set stored objects own blocks are) honest
+    (same_objects old c.remove_list-state.new.self c.remove_list-state.ensures.one_set stored objects own blocks are) tell
     (subst (λ (s : Option ListState). IsListOver object s) (sym found) (over.lists c.args.number)) list (subst (λ (s : Option ListState). IsListNow object s list) (sym found) now) in
     let longer = c.in_ok-with_blocks.ensures.value object list known.0 known.1 in
     let put = put_twice old c.remove_list-state.new.self c.insert_list.new.self c.args.number None _ c.remove_list-state.ensures.put c.in_ok-insert_list.ensures.put in (

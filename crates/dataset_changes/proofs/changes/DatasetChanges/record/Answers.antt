@@ -15,12 +15,12 @@ returns-clause-value g c =
     let state = record_at c.args.self.now c.args.number in
     let none : state ≡ None = subst (λ (found : Option DatasetRecord). MatchOption found (state ≡ None) (IsKnownAs state)) c.in_default.is c.in_ok-dataset.ensures.known in
     IfOk-weaker c.read_record.result _ _
-    (λ found h stored objects own blocks held are honest over.
+    (λ found h stored objects own blocks held are tell over.
     let object = objects c.args.number in
-    let there = h.1.0 stored objects own blocks held are honest in (
+    let there = h.1.0 stored objects own blocks held are tell in (
       over_record objects c.args.self.now c.read_record.new.self over c.args.number (Some (Read found)) h.0 c.read_record.ensures.lists there,
       subst (λ (s : Option RecordState). IsRecordNow object s found) (sym none) there,
-      λ r now. sym (h.1.1 stored objects own blocks held are honest r (subst (λ (s : Option RecordState). IsRecordNow object s r) none now)),
+      λ r now. sym (h.1.1 stored objects own blocks held are tell r (subst (λ (s : Option RecordState). IsRecordNow object s r) none now)),
     ))
     (ok_both c.read_record.result _ _ c.read_record.ensures.put (ok_both c.read_record.result _ _ c.read_record.ensures.value c.read_record.ensures.one))
 
@@ -33,8 +33,8 @@ returns-clause-known g c =
     let state = record_at c.args.self.now c.args.number in
     let none : state ≡ None = subst (λ (found : Option DatasetRecord). MatchOption found (state ≡ None) (IsKnownAs state)) c.in_default.is c.in_ok-dataset.ensures.known in
     IfErr-weaker c.read_record.result _ _
-    (λ refusal known stored objects own blocks held are honest number r now.
-    known stored objects own blocks held are honest r (subst (λ (s : Option RecordState). IsRecordNow (objects c.args.number) s r) none now))
+    (λ refusal known stored objects own blocks held are tell number r now.
+    known stored objects own blocks held are tell r (subst (λ (s : Option RecordState). IsRecordNow (objects c.args.number) s r) none now))
     c.read_record.ensures.known
 
 pub returns-clause-found : goal.returns-clause-found

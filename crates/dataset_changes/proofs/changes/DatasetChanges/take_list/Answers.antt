@@ -20,9 +20,9 @@ returns-in_err-list-clause-refused g c =
 pub returns-in_err-list-clause-known : goal.returns-in_err-list-clause-known
 returns-in_err-list-clause-known g c =
     passed_on _ _ _ c.from_residual.ensures.1
-    (λ stored objects own blocks held are honest number list now.
+    (λ stored objects own blocks held are tell number list now.
     c.in_err-list.ensures.known stored objects own blocks held
-    (same_objects c.args.self.now c.remove_list-state.new.self c.remove_list-state.ensures.one_set stored objects own blocks are) honest list
+    (same_objects c.args.self.now c.remove_list-state.new.self c.remove_list-state.ensures.one_set stored objects own blocks are) tell list
     (subst (λ (state : Option ListState). IsListNow (objects c.args.number) state list) (sym c.remove_list-state.ensures.value) now))
 
 pub insert_list-requires-clause-fits : goal.insert_list-requires-clause-fits
@@ -30,13 +30,13 @@ insert_list-requires-clause-fits g c =
     whole_fits c.is_list_made-made.result c.new.result c.whole_state.result c.whole_state.ensures (subst (λ (list : List Block). All FitsBlock list) (sym c.new.ensures) (All-nil FitsBlock))
 
 pub returns-clause-value : goal.returns-clause-value
-returns-clause-value g c = λ stored objects own blocks held are honest over.
+returns-clause-value g c = λ stored objects own blocks held are tell over.
     let old = c.args.self.now in
     let object = objects c.args.number in
     let state = list_at old c.args.number in
     let found = c.remove_list-state.ensures.value in
     let whole = c.in_ok-list.ensures.value stored objects own blocks held
-    (same_objects old c.remove_list-state.new.self c.remove_list-state.ensures.one_set stored objects own blocks are) honest
+    (same_objects old c.remove_list-state.new.self c.remove_list-state.ensures.one_set stored objects own blocks are) tell
     (subst (λ (s : Option ListState). IsListOver object s) (sym found) (over.lists c.args.number)) in
     let now = subst (λ (s : Option ListState). IsListNow object s c.in_ok-list.list) found whole.0 in
     let put = put_twice old c.remove_list-state.new.self c.insert_list.new.self c.args.number None _ c.remove_list-state.ensures.put c.in_ok-insert_list.ensures.put in

@@ -1,7 +1,8 @@
 use Rattle.std.proofs.Common.{◌≡◌, ◌≤◌, [], List, inr, refl, sym, subst, ◌∙◌, true≢false, ⊎_elim, inl, arith}
 use Rattle.std.specs.Prelude.{fold, take}
 use Rattle.std.proofs.lemmas.List.{take_all}
-use Rattle.block_store.proofs.Steps.{steps_none, steps_on, true_after, true_before}
+use Rattle.block_store.proofs.Steps.{steps_none, steps_on}
+use Rattle.block_store.proofs.Telling.{tell_after, tell_before}
 use Rattle.dataset_destroys.proofs.ChainChained.{objects_on, one_set_on}
 use Rattle.dnode_tree.proofs.Refusing.{passed_on}
 use Rattle.pool_model.specs.declared.item.Action.{Action}
@@ -29,7 +30,7 @@ loop-action-init g c = record {
   within_list = omega arith;
   idle = λ same. refl;
   one_set = (refl, refl);
-  value = λ stored planned plans honest. (
+  value = λ stored planned plans tell. (
     planned,
     plans,
     λ block bytes known. known,
@@ -52,14 +53,14 @@ returns-in_err-act_one-clause-bad g c =
 pub returns-in_err-act_one-clause-known : goal.returns-in_err-act_one-clause-known
 returns-in_err-act_one-clause-known g c =
     passed_on _ _ _ c.from_residual.ensures.1
-    (λ stored planned objects own blocks pool readings plain good plans are honest spells.
+    (λ stored planned objects own blocks pool readings plain good plans are tell spells.
     let so_far = c.loop-action.invariant in
-    let one = so_far.value stored planned plans (true_before c.args.store.now c.loop-action.store c.act_one.new.store c.act_one.ensures.steps.reads honest) in
+    let one = so_far.value stored planned plans (tell_before c.args.store.now c.loop-action.store c.act_one.new.store [] so_far.steps c.act_one.ensures.steps tell) in
     let acted = one.3 objects own blocks pool readings plain are spells in
     c.in_err-act_one.ensures.known stored one.0 objects own blocks acted.after acted.readings _
     (one_good c.args.actions.now c.loop-action.action-index c.action-item.result c.loop-action-test.true c.action-item.is good) one.1
     (objects_on stored objects own blocks c.args.self.now.changes c.loop-action.self.changes so_far.one_set are)
-    (true_after c.args.store.now c.loop-action.store c.act_one.new.store so_far.steps.reads honest) acted.spells)
+    (tell_after c.args.store.now c.loop-action.store c.act_one.new.store [] so_far.steps c.act_one.ensures.steps tell) acted.spells)
 
 within_on : (old mid new : GroupDatasets) → mid.bounds ≡ old.bounds → (mid.next ≤ mid.bounds.end → new.next ≤ mid.bounds.end) → mid.next ≤ old.bounds.end → new.next ≤ old.bounds.end
 within_on old mid new same step so_far =
@@ -85,9 +86,9 @@ loop-action-preserved g c =
       within_list = omega (arith, c.loop-action-test.true);
       idle = idle_on c.args.self.now c.loop-action.self c.act_one.new.self so_far.next.0 c.act_one.ensures.next.0 so_far.idle c.in_ok-act_one.ensures.idle;
       one_set = one_set_on c.args.self.now.changes c.loop-action.self.changes c.act_one.new.self.changes so_far.one_set c.act_one.ensures.one_set;
-      value = λ stored planned plans honest.
-          let one = so_far.value stored planned plans (true_before c.args.store.now c.loop-action.store c.act_one.new.store steps.reads honest) in
-          let two = c.in_ok-act_one.ensures.value stored one.0 one.1 (true_after c.args.store.now c.loop-action.store c.act_one.new.store so_far.steps.reads honest) in (
+      value = λ stored planned plans tell.
+          let one = so_far.value stored planned plans (tell_before c.args.store.now c.loop-action.store c.act_one.new.store [] so_far.steps steps tell) in
+          let two = c.in_ok-act_one.ensures.value stored one.0 one.1 (tell_after c.args.store.now c.loop-action.store c.act_one.new.store [] so_far.steps c.act_one.ensures.steps tell) in (
             two.0,
             two.1,
             λ block bytes known. two.2 block bytes (one.2 block bytes known),
@@ -119,8 +120,8 @@ returns-clause-places g c =
     (take_all c.loop-action.action-index c.args.actions.now c.loop-action-test.false) c.loop-action.invariant.made
 
 pub returns-clause-value : goal.returns-clause-value
-returns-clause-value g c = λ stored planned objects own blocks pool readings plain plans are honest spells.
-    let done = c.loop-action.invariant.value stored planned plans honest in (
+returns-clause-value g c = λ stored planned objects own blocks pool readings plain plans are tell spells.
+    let done = c.loop-action.invariant.value stored planned plans tell in (
       done.0,
       done.1,
       done.2,

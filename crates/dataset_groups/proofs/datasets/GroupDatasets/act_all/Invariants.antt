@@ -3,7 +3,7 @@ use Rattle.std.specs.Prelude.{fold}
 use Rattle.block_pointer.specs.declared.block.Block.{Block}
 use Rattle.block_store.specs.Blocks.{Contents, Extends}
 use Rattle.block_store.specs.Plans.{Plans}
-use Rattle.block_store.specs.Steps.{OnlyReadsAndPlans, AnswersAreTrue}
+use Rattle.block_store.specs.Steps.{OnlyReadsAndPlans, AnswersTell}
 use Rattle.dataset_destroys.specs.Chains.{Reading}
 use Rattle.dataset_destroys.specs.States.{AreOfOneSet, birth_of, set_of}
 use Rattle.dead_list.specs.Datasets.{Pool}
@@ -27,7 +27,7 @@ invariant-loop-action g l = record {
   within_list : l.action-index ≤ length l.actions;
   idle : l.self.next ≡ l.fn.self.next → l.self ≡ l.fn.self;
   one_set : AreOfOneSet l.fn.self.changes l.self.changes;
-  value : (stored planned : Contents) → Plans l.fn.store stored planned → AnswersAreTrue l.fn.store l.store
+  value : (stored planned : Contents) → Plans l.fn.store stored planned → AnswersTell l.fn.store l.store []
       → (later : Contents) × Plans l.store stored later × Extends planned later
       × ((objects : ℕ → Option Object) (own : List Block) (blocks : ℕ → List Block) (pool : Pool) (readings : ℕ → Reading) (plain : PlainPool)
       → AreObjects stored (birth_of l.fn.self.changes) (set_of l.fn.self.changes) objects own blocks → SpellsGroup planned l.group objects l.fn.self pool readings plain

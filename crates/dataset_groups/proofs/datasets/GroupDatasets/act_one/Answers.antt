@@ -12,8 +12,8 @@ use Rattle.dataset_groups.proofs.datasets.GroupDatasets.act_one.Goals as goal
 -- ---- a volume
 
 pub returns-in-Create-clause-value : goal.returns-in-Create-clause-value
-returns-in-Create-clause-value g c = on_ok_weaker c.create_one.result (λ value stored planned plans honest.
-    let done = value stored planned plans honest in (
+returns-in-Create-clause-value g c = on_ok_weaker c.create_one.result (λ value stored planned plans tell.
+    let done = value stored planned plans tell in (
       done.0,
       done.1,
       done.2,
@@ -23,8 +23,8 @@ returns-in-Create-clause-value g c = on_ok_weaker c.create_one.result (λ value 
     )) c.create_one.ensures.value
 
 pub returns-in-Create-clause-known : goal.returns-in-Create-clause-known
-returns-in-Create-clause-known g c = IfErr-weaker c.create_one.result _ _ (λ refusal known stored planned objects own blocks pool readings plain good plans are honest spells.
-    known (subst (λ (change : Change). is_good_making change ≡ true) c.in-Create.is good) stored planned plans honest) c.create_one.ensures.known
+returns-in-Create-clause-known g c = IfErr-weaker c.create_one.result _ _ (λ refusal known stored planned objects own blocks pool readings plain good plans are tell spells.
+    known (subst (λ (change : Change). is_good_making change ≡ true) c.in-Create.is good) stored planned plans tell) c.create_one.ensures.known
 
 pub returns-in-Create-clause-places : goal.returns-in-Create-clause-places
 returns-in-Create-clause-places g c = on_ok_weaker c.create_one.result (λ places.
@@ -36,18 +36,18 @@ pub returns-in-Snapshot-clause-steps : goal.returns-in-Snapshot-clause-steps
 returns-in-Snapshot-clause-steps g c = steps_read c.args.store.now c.take_one.new.store [] c.take_one.ensures.reads
 
 pub returns-in-Snapshot-clause-value : goal.returns-in-Snapshot-clause-value
-returns-in-Snapshot-clause-value g c = on_ok_weaker c.take_one.result (λ value stored planned plans honest. (
+returns-in-Snapshot-clause-value g c = on_ok_weaker c.take_one.result (λ value stored planned plans tell. (
   planned,
   c.take_one.ensures.reads.plans stored planned plans,
   λ block bytes known. known,
   λ objects own blocks pool readings plain are spells.
       subst (λ (change : Change). AreActed c.args.group objects planned planned c.args.self.now c.take_one.new.self pool (changed c.args.group plain change)) (sym c.in-Snapshot.is)
-      (value stored planned objects own blocks pool readings plain plans.held are honest spells),
+      (value stored planned objects own blocks pool readings plain plans.held are tell spells),
 )) c.take_one.ensures.value
 
 pub returns-in-Snapshot-clause-known : goal.returns-in-Snapshot-clause-known
-returns-in-Snapshot-clause-known g c = IfErr-weaker c.take_one.result _ _ (λ refusal known stored planned objects own blocks pool readings plain good plans are honest spells.
-    known stored planned objects own blocks pool readings plain (subst (λ (change : Change). is_good_making change ≡ true) c.in-Snapshot.is good) plans.held are honest spells) c.take_one.ensures.known
+returns-in-Snapshot-clause-known g c = IfErr-weaker c.take_one.result _ _ (λ refusal known stored planned objects own blocks pool readings plain good plans are tell spells.
+    known stored planned objects own blocks pool readings plain (subst (λ (change : Change). is_good_making change ≡ true) c.in-Snapshot.is good) plans.held are tell spells) c.take_one.ensures.known
 
 pub returns-in-Snapshot-clause-places : goal.returns-in-Snapshot-clause-places
 returns-in-Snapshot-clause-places g c = on_ok_weaker c.take_one.result (λ places.
@@ -59,18 +59,18 @@ pub returns-in-Clone-clause-steps : goal.returns-in-Clone-clause-steps
 returns-in-Clone-clause-steps g c = steps_read c.args.store.now c.clone_one.new.store [] c.clone_one.ensures.reads
 
 pub returns-in-Clone-clause-value : goal.returns-in-Clone-clause-value
-returns-in-Clone-clause-value g c = on_ok_weaker c.clone_one.result (λ value stored planned plans honest. (
+returns-in-Clone-clause-value g c = on_ok_weaker c.clone_one.result (λ value stored planned plans tell. (
   planned,
   c.clone_one.ensures.reads.plans stored planned plans,
   λ block bytes known. known,
   λ objects own blocks pool readings plain are spells.
       subst (λ (change : Change). AreActed c.args.group objects planned planned c.args.self.now c.clone_one.new.self pool (changed c.args.group plain change)) (sym c.in-Clone.is)
-      (value stored planned objects own blocks pool readings plain plans.held are honest spells),
+      (value stored planned objects own blocks pool readings plain plans.held are tell spells),
 )) c.clone_one.ensures.value
 
 pub returns-in-Clone-clause-known : goal.returns-in-Clone-clause-known
-returns-in-Clone-clause-known g c = IfErr-weaker c.clone_one.result _ _ (λ refusal known stored planned objects own blocks pool readings plain good plans are honest spells.
-    known stored planned objects own blocks pool readings plain (subst (λ (change : Change). is_good_making change ≡ true) c.in-Clone.is good) plans.held are honest spells) c.clone_one.ensures.known
+returns-in-Clone-clause-known g c = IfErr-weaker c.clone_one.result _ _ (λ refusal known stored planned objects own blocks pool readings plain good plans are tell spells.
+    known stored planned objects own blocks pool readings plain (subst (λ (change : Change). is_good_making change ≡ true) c.in-Clone.is good) plans.held are tell spells) c.clone_one.ensures.known
 
 pub returns-in-Clone-clause-places : goal.returns-in-Clone-clause-places
 returns-in-Clone-clause-places g c = on_ok_weaker c.clone_one.result (λ places.

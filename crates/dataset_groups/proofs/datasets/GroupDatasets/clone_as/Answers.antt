@@ -9,8 +9,8 @@ returns-in_err-clone-clause-refused g c = passed_on _ _ _ c.from_residual.ensure
 pub returns-in_err-clone-clause-known : goal.returns-in_err-clone-clause-known
 returns-in_err-clone-clause-known g c =
     passed_on _ _ _ c.from_residual.ensures.1
-    (λ stored known objects own blocks pool readings held are honest spells is.
-    ⊎_elim (λ loss. inl loss) (λ most. inr most.0) (c.in_err-clone.ensures.known stored known objects own blocks pool readings held are honest spells is))
+    (λ stored known objects own blocks pool readings held are tell spells is.
+    ⊎_elim (λ loss. inl loss) (λ most. inr most.0) (c.in_err-clone.ensures.known stored known objects own blocks pool readings held are tell spells is))
 
 pub returns-in_err-clone-clause-caused : goal.returns-in_err-clone-clause-caused
 returns-in_err-clone-clause-caused g c = passed_on _ _ _ c.from_residual.ensures.1 c.in_err-clone.ensures.caused

@@ -23,7 +23,7 @@ good_names snapshot name good = both (is_name_for SnapshotKind snapshot) (is_nam
 -- ---- its name is there
 
 pub returns-then-is_some-clause-value : goal.returns-then-is_some-clause-value
-returns-then-is_some-clause-value g c = λ stored known objects own blocks pool readings plain held are honest spells.
+returns-then-is_some-clause-value g c = λ stored known objects own blocks pool readings plain held are tell spells.
     let there = is_there c.get.result _ _ c.is_some.ensures c.if-is_some.true c.get.ensures.found in
     passed_over c.args.self.now c.args.group known objects pool readings plain _
     (clone_there c.args.group pool readings c.args.self.now.directory plain (record { name = c.in_ok-name.name; object = there.0 }) c.args.snapshot.now c.args.name.now there.1 c.in_ok-name.ensures.named
@@ -32,7 +32,7 @@ returns-then-is_some-clause-value g c = λ stored known objects own blocks pool 
 -- ---- its snapshot isn't there
 
 pub returns-in_default-clause-value : goal.returns-in_default-clause-value
-returns-in_default-clause-value g c = λ stored known objects own blocks pool readings plain held are honest spells.
+returns-in_default-clause-value g c = λ stored known objects own blocks pool readings plain held are tell spells.
     passed_over c.args.self.now c.args.group known objects pool readings plain _
     (snapshot_not_there c.args.group pool readings c.args.self.now.directory plain c.args.snapshot.now c.args.name.now (c.object_of.ensures.none c.in_default.is) spells.names) spells
 
@@ -49,10 +49,10 @@ returns-clause-value g c =
     let within : old.next + 2 ≤ numbers_end = omega arith in
     let left : old.next + 2 ≤ old.bounds.end = omega arith in
     IfOk-weaker c.clone_as.result (λ done. IsCloned c.args.store.now c.clone_as.new.store c.args.group c.in-Some.origin old c.in_ok-name.name c.clone_as.new.self) _
-    (λ done cloned stored known objects own blocks pool readings plain held are honest spells.
+    (λ done cloned stored known objects own blocks pool readings plain held are tell spells.
     clone_made c.reach_has_each_block_once.ensures c.args.store.now c.clone_as.new.store old c.clone_as.new.self c.args.group c.in_ok-name.name snapshot name has.0 stored known objects own blocks pool
     readings plain c.requires.behind within left c.object_of.ensures.order c.in_ok-name.ensures.named names.0 names.1 lacks has.1 has.2
-    (subst (λ h. IsCloned c.args.store.now c.clone_as.new.store c.args.group h old c.in_ok-name.name c.clone_as.new.self) (sym has.3) cloned) held are honest spells)
+    (subst (λ h. IsCloned c.args.store.now c.clone_as.new.store c.args.group h old c.in_ok-name.name c.clone_as.new.self) (sym has.3) cloned) held are tell spells)
     c.clone_as.ensures.cloned
 
 pub returns-clause-known : goal.returns-clause-known
@@ -61,9 +61,9 @@ returns-clause-known g c =
     let snapshot = c.args.snapshot.now in
     let has = row_of old.directory snapshot _ _ c.in-Some.is c.object_of.ensures.found in
     IfErr-weaker c.clone_as.result _ _
-    (λ refusal known_for stored known objects own blocks pool readings plain good held are honest spells.
+    (λ refusal known_for stored known objects own blocks pool readings plain good held are tell spells.
     let is = row_is_snapshot pool readings old.directory plain has.0 snapshot c.object_of.ensures.order has.1 has.2 (good_names snapshot c.args.name.now good).0 spells.names in
-    for_clone refusal (known_for stored known objects own blocks pool readings held are honest spells.chains (subst (λ h. (pool.datasets h).kind ≡ ASnapshot) has.3 is)))
+    for_clone refusal (known_for stored known objects own blocks pool readings held are tell spells.chains (subst (λ h. (pool.datasets h).kind ≡ ASnapshot) has.3 is)))
     c.clone_as.ensures.known
 
 pub returns-clause-places : goal.returns-clause-places

@@ -29,7 +29,7 @@ pub returns-then-is_some-clause-steps : goal.returns-then-is_some-clause-steps
 returns-then-is_some-clause-steps g c = steps_none c.args.store.now []
 
 pub returns-then-is_some-clause-value : goal.returns-then-is_some-clause-value
-returns-then-is_some-clause-value g c = λ stored planned plans honest.
+returns-then-is_some-clause-value g c = λ stored planned plans tell.
     let there = is_there c.get.result _ _ c.is_some.ensures c.if-is_some.true c.get.ensures.found in (
       planned,
       plans,
@@ -86,8 +86,8 @@ returns-clause-value g c =
     let within : c.args.self.now.next + 2 ≤ numbers_end = omega arith in
     let left : c.args.self.now.next + 2 ≤ c.args.self.now.bounds.end = omega arith in
     on_ok_weaker c.add.result
-    (λ added stored planned plans honest.
-    let is = c.in_ok-object_set.ensures.value stored planned plans honest in (
+    (λ added stored planned plans tell.
+    let is = c.in_ok-object_set.ensures.value stored planned plans tell in (
       is.0,
       is.1,
       is.2,
@@ -99,7 +99,7 @@ returns-clause-value g c =
     c.add.ensures.added
 
 pub returns-clause-known : goal.returns-clause-known
-returns-clause-known g c = IfErr-weaker c.add.result _ _ (λ refusal memory good stored planned plans honest. inl (inl memory.0)) c.add.ensures.refused
+returns-clause-known g c = IfErr-weaker c.add.result _ _ (λ refusal memory good stored planned plans tell. inl (inl memory.0)) c.add.ensures.refused
 
 pub returns-clause-places : goal.returns-clause-places
 returns-clause-places g c =

@@ -1,7 +1,8 @@
 use Rattle.std.proofs.Common.{◌≡◌, ◌↔◌, [], ◌∷◌, ◌++◌, ◌+◌, ℕ, false, true, List, drop, refl, sym, subst, arith}
 use Rattle.std.specs.Prelude.{IsTrue, take}
 use Rattle.std.proofs.lemmas.List.{take_all}
-use Rattle.block_store.proofs.Steps.{reads_none, reads_on, true_after, true_before}
+use Rattle.block_store.proofs.Steps.{reads_none, reads_on}
+use Rattle.block_store.proofs.Telling.{read_after, read_before}
 use Rattle.dataset_destroys.proofs.ChainChained.{objects_on, one_set_on}
 use Rattle.dnode_tree.proofs.Refusing.{passed_on}
 use Rattle.pool_model.specs.Pools.{MayBeDestroyed, PlainPool, all_destroyed}
@@ -16,7 +17,7 @@ pub loop-name-init : goal.loop-name-init
 loop-name-init g c = record {
   reads = reads_none c.args.store.now [];
   one_set = (refl, refl);
-  value = λ stored objects own blocks pool readings plain holds are honest spells may.
+  value = λ stored objects own blocks pool readings plain holds are tell spells may.
       destroyed_none c.args.self.now c.args.freed.now.items c.args.group stored objects pool readings plain spells;
   behind = ([], none_behind c.args.freed.now.items);
   renamed = (λ on. absurd (let clash : false ≡ true = on in cc), λ any. absurd (omega (arith, any.2)));
@@ -38,14 +39,14 @@ returns-in_err-destroy_one-clause-known g c =
     let names = c.args.names.now in
     let name = c.name-item.result in
     passed_on _ _ _ c.from_residual.ensures.1
-    (λ stored objects own blocks pool readings plain holds are honest spells may at_most.
+    (λ stored objects own blocks pool readings plain holds are tell spells may at_most.
     let all = subst (λ (ns : List (List ℕ)). MayBeDestroyed ns plain) (in_parts names i name c.loop-name-test.true c.name-item.is) may in
     let rest = may_rest (take i names) (name ∷ drop (i + 1) names) plain all in
-    let done = so_far.value stored objects own blocks pool readings plain holds are (true_before c.args.store.now c.loop-name.store c.destroy_one.new.store c.destroy_one.ensures.reads.reads honest) spells
+    let done = so_far.value stored objects own blocks pool readings plain holds are (read_before c.args.store.now c.loop-name.store c.destroy_one.new.store [] so_far.reads c.destroy_one.ensures.reads tell) spells
     (may_first (take i names) (name ∷ drop (i + 1) names) plain all) in
     c.in_err-destroy_one.ensures.known stored objects own blocks done.2.after readings (all_destroyed (take i names) plain) (so_far.reads.keeps stored holds)
     (objects_on stored objects own blocks c.args.self.now.changes c.loop-name.self.changes so_far.one_set are)
-    (true_after c.args.store.now c.loop-name.store c.destroy_one.new.store so_far.reads.reads honest) done.2.spells (rest.0, rest.1, tt)
+    (read_after c.args.store.now c.loop-name.store c.destroy_one.new.store [] so_far.reads c.destroy_one.ensures.reads tell) done.2.spells (rest.0, rest.1, tt)
     (still_at_most c.args.self.now c.loop-name.self c.args.group c.args.most objects stored pool readings (all_destroyed (take i names) plain) done.0 done.2 at_most))
 
 pub returns-in_err-destroy_one-clause-refused : goal.returns-in_err-destroy_one-clause-refused
@@ -73,13 +74,13 @@ loop-name-preserved g c =
     record {
       reads = reads_on c.args.store.now c.loop-name.store c.destroy_one.new.store [] so_far.reads c.destroy_one.ensures.reads;
       one_set = one_set_on first.changes mid.changes last.changes so_far.one_set c.destroy_one.ensures.one_set;
-      value = λ stored objects own blocks pool readings plain holds are honest spells may.
+      value = λ stored objects own blocks pool readings plain holds are tell spells may.
           let all = subst (λ (ns : List (List ℕ)). MayBeDestroyed ns plain) further may in
           let before : PlainPool = all_destroyed done plain in
-          let sooner = so_far.value stored objects own blocks pool readings plain holds are (true_before c.args.store.now c.loop-name.store c.destroy_one.new.store c.destroy_one.ensures.reads.reads honest)
+          let sooner = so_far.value stored objects own blocks pool readings plain holds are (read_before c.args.store.now c.loop-name.store c.destroy_one.new.store [] so_far.reads c.destroy_one.ensures.reads tell)
           spells (may_first done (name ∷ []) plain all) in
           let more = one.value stored objects own blocks sooner.2.after readings before (so_far.reads.keeps stored holds) (objects_on stored objects own blocks first.changes mid.changes so_far.one_set are)
-          (true_after c.args.store.now c.loop-name.store c.destroy_one.new.store so_far.reads.reads honest) sooner.2.spells (may_rest done (name ∷ []) plain all) in (
+          (read_after c.args.store.now c.loop-name.store c.destroy_one.new.store [] so_far.reads c.destroy_one.ensures.reads tell) sooner.2.spells (may_rest done (name ∷ []) plain all) in (
             sooner.0 ++ more.0,
             behind_both c.args.freed.now.items c.loop-name.freed.items c.destroy_one.new.freed.items sooner.0 more.0 sooner.1 more.1,
             subst (λ (ns : List (List ℕ)). AreDestroyed c.args.group objects stored first last pool readings (all_destroyed ns plain) (sooner.0 ++ more.0)) (sym further)
@@ -106,9 +107,9 @@ pub returns-clause-one_set : goal.returns-clause-one_set
 returns-clause-one_set g c = c.loop-name.invariant.one_set
 
 pub returns-clause-value : goal.returns-clause-value
-returns-clause-value g c = λ stored objects own blocks pool readings plain holds are honest spells may.
+returns-clause-value g c = λ stored objects own blocks pool readings plain holds are tell spells may.
     let all = take_all c.loop-name.name-index c.args.names.now c.loop-name-test.false in
-    let done = c.loop-name.invariant.value stored objects own blocks pool readings plain holds are honest spells (subst (λ (ns : List (List ℕ)). MayBeDestroyed ns plain) (sym all) may) in (
+    let done = c.loop-name.invariant.value stored objects own blocks pool readings plain holds are tell spells (subst (λ (ns : List (List ℕ)). MayBeDestroyed ns plain) (sym all) may) in (
       done.0,
       done.1,
       subst (λ (ns : List (List ℕ)). AreDestroyed c.args.group objects stored c.args.self.now c.loop-name.self pool readings (all_destroyed ns plain) done.0) all done.2,

@@ -2,7 +2,7 @@ use Rattle.std.proofs.Common.{◌≡◌, ◌↔◌, ◌++◌, [], ℕ, List, Opt
 use Rattle.std.specs.Prelude.{IsTrue}
 use Rattle.block_pointer.specs.declared.block.Block.{Block}
 use Rattle.block_store.specs.Blocks.{Contents}
-use Rattle.block_store.specs.Steps.{AnswersAreTrue, OnlyReadsBlocks}
+use Rattle.block_store.specs.Steps.{AnswersTell, OnlyReadsBlocks}
 use Rattle.block_store.specs.Store.{Holds}
 use Rattle.dataset_destroys.specs.Chains.{Reading}
 use Rattle.dataset_destroys.specs.States.{AreOfOneSet, birth_of, set_of}
@@ -20,7 +20,7 @@ invariant-loop-name g l = record {
   reads : OnlyReadsBlocks l.fn.store l.store [];
   one_set : AreOfOneSet l.fn.self.changes l.self.changes;
   value : (stored : Contents) (objects : ℕ → Option Object) (own : List Block) (blocks : ℕ → List Block) (pool : Pool) (readings : ℕ → Reading) (plain : PlainPool) → Holds l.fn.store stored
-      → AreObjects stored (birth_of l.fn.self.changes) (set_of l.fn.self.changes) objects own blocks → AnswersAreTrue l.fn.store l.store
+      → AreObjects stored (birth_of l.fn.self.changes) (set_of l.fn.self.changes) objects own blocks → AnswersTell l.fn.store l.store []
       → SpellsGroup stored l.group objects l.fn.self pool readings plain → MayBeDestroyed (take l.name-index l.names) plain
       → (gone : List Block) × (l.freed.items ≡ l.fn.freed.items ++ gone)
       × AreDestroyed l.group objects stored l.fn.self l.self pool readings (all_destroyed (take l.name-index l.names) plain) gone;

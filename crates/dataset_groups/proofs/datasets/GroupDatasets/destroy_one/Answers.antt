@@ -14,12 +14,12 @@ use Rattle.dataset_groups.proofs.datasets.GroupDatasets.destroy_one.Goals as goa
 -- ---- no row has the name
 
 pub returns-in_default-clause-value : goal.returns-in_default-clause-value
-returns-in_default-clause-value g c = λ stored objects own blocks pool readings plain holds are honest spells may_go.
+returns-in_default-clause-value g c = λ stored objects own blocks pool readings plain holds are tell spells may_go.
     none_destroyed c.args.self.now c.args.name.now c.args.freed.now.items c.args.group stored objects pool readings plain
     (λ (row, held, named). c.padded.ensures.none c.in_default.is row.name (subst (IsNamed row.name) (sym c.as_slice.ensures) named)) spells
 
 pub returns-in_default-get-clause-value : goal.returns-in_default-get-clause-value
-returns-in_default-get-clause-value g c = λ stored objects own blocks pool readings plain holds are honest spells may_go.
+returns-in_default-get-clause-value g c = λ stored objects own blocks pool readings plain holds are tell spells may_go.
     let named = subst (IsNamed c.in-Some.padded) c.as_slice.ensures c.in-Some.ensures.named in
     none_destroyed c.args.self.now c.args.name.now c.args.freed.now.items c.args.group stored objects pool readings plain
     (not_there c.args.self.now.directory c.in-Some.padded c.args.name.now named (c.get.ensures.none c.in_default-get.is)) spells
@@ -32,8 +32,8 @@ returns-in_err-destroy-clause-known g c =
     let row : DirectoryRow = record { name = c.in-Some.padded; object = c.in-Some-get.object } in
     let named = subst (IsNamed row.name) c.as_slice.ensures c.in-Some.ensures.named in
     passed_on _ _ _ c.from_residual.ensures.1
-    (λ stored objects own blocks pool readings plain holds are honest spells may_go at_most.
-    c.in_err-destroy.ensures.known stored objects own blocks pool readings holds are honest spells.chains
+    (λ stored objects own blocks pool readings plain holds are tell spells may_go at_most.
+    c.in_err-destroy.ensures.known stored objects own blocks pool readings holds are tell spells.chains
     (may_destroy pool readings old.directory plain row c.args.name.now spells.names spells.chains.sound c.in-Some-get.ensures.found named may_go.0 may_go.1) (λ head. at_most row.object))
 
 pub returns-in_err-destroy-clause-refused : goal.returns-in_err-destroy-clause-refused
@@ -62,7 +62,7 @@ returns-in_err-destroy-clause-refused g c =
 -- ---- it is
 
 pub returns-clause-value : goal.returns-clause-value
-returns-clause-value g c = λ stored objects own blocks pool readings plain holds are honest spells may_go.
+returns-clause-value g c = λ stored objects own blocks pool readings plain holds are tell spells may_go.
     let old = c.args.self.now in
     let new = c.remove_row.new.self in
     let name = c.args.name.now in
@@ -73,8 +73,8 @@ returns-clause-value g c = λ stored objects own blocks pool readings plain hold
     let others = c.remove_row.ensures.others in
     let numbers : (new.next ≡ old.next) × (new.bounds ≡ old.bounds) = (others.1, c.remove_row.ensures.bounds) in
     let may_one = may law old new name row order.0 order.1 c.remove_row.ensures.rows numbers c.in-Some-get.ensures.found named c.args.group stored objects pool readings plain spells may_go in
-    let done = c.in_ok-destroy.ensures.value stored objects own blocks pool readings holds are honest spells.chains may_one in
-    let touched = c.in_ok-destroy.ensures.own_lists stored objects own blocks pool readings holds are honest spells.chains may_one in (
+    let done = c.in_ok-destroy.ensures.value stored objects own blocks pool readings holds are tell spells.chains may_one in
+    let touched = c.in_ok-destroy.ensures.own_lists stored objects own blocks pool readings holds are tell spells.chains may_one in (
       done.0,
       done.1,
       one_destroyed law old new name row order.0 order.1 c.remove_row.ensures.rows numbers c.in-Some-get.ensures.found named c.args.group stored objects pool readings plain spells may_go done.2 done.0

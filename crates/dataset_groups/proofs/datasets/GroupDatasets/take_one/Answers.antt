@@ -22,7 +22,7 @@ good_volume volume part good = (both (is_name volume) (is_name part) good).0
 -- ---- its name is there
 
 pub returns-then-is_some-clause-value : goal.returns-then-is_some-clause-value
-returns-then-is_some-clause-value g c = λ stored known objects own blocks pool readings plain held are honest spells.
+returns-then-is_some-clause-value g c = λ stored known objects own blocks pool readings plain held are tell spells.
     let there = is_there c.get.result _ _ c.is_some.ensures c.if-is_some.true c.get.ensures.found in
     passed_over c.args.self.now c.args.group known objects pool readings plain _
     (name_there c.args.group pool readings c.args.self.now.directory plain (record { name = c.in_ok-name.name; object = there.0 }) c.args.volume.now c.args.part.now there.1 c.in_ok-name.ensures.named
@@ -31,7 +31,7 @@ returns-then-is_some-clause-value g c = λ stored known objects own blocks pool 
 -- ---- its volume isn't there
 
 pub returns-in_default-clause-value : goal.returns-in_default-clause-value
-returns-in_default-clause-value g c = λ stored known objects own blocks pool readings plain held are honest spells.
+returns-in_default-clause-value g c = λ stored known objects own blocks pool readings plain held are tell spells.
     passed_over c.args.self.now c.args.group known objects pool readings plain _
     (volume_not_there c.args.group pool readings c.args.self.now.directory plain c.args.volume.now c.args.part.now (c.object_of.ensures.none c.in_default.is) spells.names) spells
 
@@ -47,10 +47,10 @@ returns-clause-value g c =
     let within : old.next + 2 ≤ numbers_end = omega arith in
     let left : old.next + 2 ≤ old.bounds.end = omega arith in
     IfOk-weaker c.take.result (λ done. IsTaken c.args.store.now c.take.new.store c.args.group c.in-Some.head old c.in_ok-name.name c.take.new.self) _
-    (λ done taken stored known objects own blocks pool readings plain held are honest spells.
+    (λ done taken stored known objects own blocks pool readings plain held are tell spells.
     snapshot_made c.reach_has_each_block_once.ensures c.args.store.now c.take.new.store old c.take.new.self c.args.group c.in_ok-name.name volume part has.0 stored known objects own blocks pool
     readings plain c.requires.behind within left c.object_of.ensures.order c.in_ok-name.ensures.named (good_volume volume part c.in_ok-name.ensures.good) lacks has.1 has.2
-    (subst (λ h. IsTaken c.args.store.now c.take.new.store c.args.group h old c.in_ok-name.name c.take.new.self) (sym has.3) taken) held are honest spells)
+    (subst (λ h. IsTaken c.args.store.now c.take.new.store c.args.group h old c.in_ok-name.name c.take.new.self) (sym has.3) taken) held are tell spells)
     c.take.ensures.taken
 
 pub returns-clause-known : goal.returns-clause-known
@@ -59,9 +59,9 @@ returns-clause-known g c =
     let volume = c.args.volume.now in
     let has = row_of old.directory volume _ _ c.in-Some.is c.object_of.ensures.found in
     IfErr-weaker c.take.result _ _
-    (λ refusal known_for stored known objects own blocks pool readings plain good held are honest spells.
+    (λ refusal known_for stored known objects own blocks pool readings plain good held are tell spells.
     let is = row_is_head pool readings old.directory plain has.0 volume c.object_of.ensures.order has.1 has.2 (good_volume volume c.args.part.now good) spells.names in
-    for_room refusal (known_for stored known objects own blocks pool readings held are honest spells.chains (subst (λ h. (pool.datasets h).kind ≡ Head) has.3 is)))
+    for_room refusal (known_for stored known objects own blocks pool readings held are tell spells.chains (subst (λ h. (pool.datasets h).kind ≡ Head) has.3 is)))
     c.take.ensures.known
 
 pub returns-clause-places : goal.returns-clause-places

@@ -8,7 +8,8 @@ use Rattle.block_store.specs.Spaces.{VdevSpace}
 use Rattle.block_store.specs.declared.refusal.Refusal.{Refusal}
 use Rattle.block_store.specs.declared.refusal.Refusal.TheVariants.{DiskFault}
 use Rattle.block_store.specs.Demands.{Demand, HavePlaces}
-use Rattle.block_store.proofs.Steps.{steps_none, steps_on, steps_read, true_after, true_before}
+use Rattle.block_store.proofs.Steps.{steps_none, steps_on, steps_read}
+use Rattle.block_store.proofs.Telling.{tell_after, tell_before}
 use Rattle.dnode_tree.proofs.Refusing.{passed_on}
 use Rattle.dnode_tree.specs.Writes.{IsForRoom}
 use Rattle.dnode_tree.specs.declared.writes.BlockWrite.{BlockWrite}
@@ -47,7 +48,7 @@ pub returns-then-is_empty-clause-steps : goal.returns-then-is_empty-clause-steps
 returns-then-is_empty-clause-steps g c = steps_none c.args.store.now []
 
 pub returns-then-is_empty-clause-value : goal.returns-then-is_empty-clause-value
-returns-then-is_empty-clause-value g c = λ stored planned bound objects own blocks pool readings array plans are honest le spells to.
+returns-then-is_empty-clause-value g c = λ stored planned bound objects own blocks pool readings array plans are tell le spells to.
     let none : c.args.head.blocks.items ≡ [] = none_of c.args.head.blocks c.is_empty.result c.is_empty.ensures c.if-is_empty.true in
     let n = c.args.head.number in
     let same = not_written planned c.args.group objects c.args.self.now.changes pool readings spells n array
@@ -56,8 +57,8 @@ returns-then-is_empty-clause-value g c = λ stored planned bound objects own blo
 
 pub returns-in_err-placed-clause-known : goal.returns-in_err-placed-clause-known
 returns-in_err-placed-clause-known g c =
-    passed_on _ _ _ c.from_residual.ensures.1 (λ stored planned bound objects own blocks pool readings array plans are honest le spells to.
-    c.in_err-placed.ensures.known stored planned bound (readings c.args.head.number).array plans to.read.is le honest)
+    passed_on _ _ _ c.from_residual.ensures.1 (λ stored planned bound objects own blocks pool readings array plans are tell le spells to.
+    c.in_err-placed.ensures.known stored planned bound (readings c.args.head.number).array plans to.read.is le tell)
 
 pub returns-in_err-placed-clause-refused : goal.returns-in_err-placed-clause-refused
 returns-in_err-placed-clause-refused g c = passed_on _ _ _ c.from_residual.ensures.1 (inl c.in_err-placed.ensures.refused)
@@ -71,10 +72,10 @@ returns-in_err-overwrite-clause-steps g c = steps_on _ _ _ _ c.placed.ensures.st
 
 pub returns-in_err-overwrite-clause-known : goal.returns-in_err-overwrite-clause-known
 returns-in_err-overwrite-clause-known g c =
-    passed_on _ _ _ c.from_residual-in_err-overwrite.ensures.1 (λ stored planned bound objects own blocks pool readings array plans are honest le spells to.
+    passed_on _ _ _ c.from_residual-in_err-overwrite.ensures.1 (λ stored planned bound objects own blocks pool readings array plans are tell le spells to.
     let reads = c.overwrite.ensures.reads in
-    let before = true_before c.args.store.now c.placed.new.store c.overwrite.new.store reads.reads honest in
-    let after = true_after c.args.store.now c.placed.new.store c.overwrite.new.store c.placed.ensures.steps.reads honest in
+    let before = tell_before c.args.store.now c.placed.new.store c.overwrite.new.store [] c.placed.ensures.steps (steps_read _ _ _ reads) tell in
+    let after = tell_after c.args.store.now c.placed.new.store c.overwrite.new.store [] c.placed.ensures.steps (steps_read _ _ _ reads) tell in
     let n = c.args.head.number in
     let done = c.in_ok-placed.placed in
     let some = some_of c.args.head.blocks c.is_empty.result c.is_empty.ensures c.if-is_empty.false in
@@ -99,10 +100,10 @@ pub returns-clause-steps : goal.returns-clause-steps
 returns-clause-steps g c = steps_on _ _ _ _ c.placed.ensures.steps (steps_read _ _ _ c.overwrite.ensures.reads)
 
 pub returns-clause-value : goal.returns-clause-value
-returns-clause-value g c = λ stored planned bound objects own blocks pool readings array plans are honest le spells to.
+returns-clause-value g c = λ stored planned bound objects own blocks pool readings array plans are tell le spells to.
     let reads = c.overwrite.ensures.reads in
-    let before = true_before c.args.store.now c.placed.new.store c.overwrite.new.store reads.reads honest in
-    let after = true_after c.args.store.now c.placed.new.store c.overwrite.new.store c.placed.ensures.steps.reads honest in
+    let before = tell_before c.args.store.now c.placed.new.store c.overwrite.new.store [] c.placed.ensures.steps (steps_read _ _ _ reads) tell in
+    let after = tell_after c.args.store.now c.placed.new.store c.overwrite.new.store [] c.placed.ensures.steps (steps_read _ _ _ reads) tell in
     let n = c.args.head.number in
     let group = c.args.group in
     let changes = c.args.self.now.changes in

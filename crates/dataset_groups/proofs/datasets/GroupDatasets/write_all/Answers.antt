@@ -2,7 +2,8 @@ use Rattle.std.proofs.Common.{◌≡◌, ◌++◌, ◌∷◌, inl, inr, [], ℕ,
 use Rattle.std.proofs.lemmas.List.{append-nil}
 use Rattle.std.proofs.lemmas.List.Elements.{All-head, All-tail}
 use Rattle.block_pointer.specs.declared.block.Block.{Block}
-use Rattle.block_store.proofs.Steps.{steps_none, steps_on, true_after, true_before}
+use Rattle.block_store.proofs.Steps.{steps_none, steps_on}
+use Rattle.block_store.proofs.Telling.{tell_after, tell_before}
 use Rattle.dataset_destroys.proofs.ChainChained.{objects_on, one_set_on}
 use Rattle.dead_list.specs.Datasets.{updated}
 use Rattle.dnode_tree.proofs.Refusing.{passed_on}
@@ -37,7 +38,7 @@ writing-init g c = record {
     c.from_vec-left.ensures.items,
     touches_none c.args.self.now.changes,
     no_places c.args.store.now (HasHeadDemands c.args.store.now.spaces c.args.group),
-    λ stored planned bound objects own blocks pool readings plain writes plans are honest le spelled written. (
+    λ stored planned bound objects own blocks pool readings plain writes plans are tell le spelled written. (
       planned,
       plans,
       λ block bytes known. known,
@@ -91,9 +92,9 @@ writing-preserved g c =
           volume_demands_in c.args.store.now.spaces c.writing.store.spaces i.steps.shapes c.args.group next places.0 places.1,
           places.2,
         ),
-        λ stored planned bound objects own blocks pool readings plain writes plans are honest le spelled written.
+        λ stored planned bound objects own blocks pool readings plain writes plans are tell le spelled written.
             let before = front.4 stored planned bound objects own blocks pool readings plain writes plans are
-            (true_before c.args.store.now c.writing.store c.write.new.store c.write.ensures.steps.reads honest) le spelled written in
+            (tell_before c.args.store.now c.writing.store c.write.new.store [] i.steps c.write.ensures.steps tell) le spelled written in
             let mid = before.0 in
             let at = before.3 in
             let reads = before.4 in
@@ -105,7 +106,7 @@ writing-preserved g c =
             let to = written_to stored planned mid bound c.args.group objects old so_far pool at readings reads plain writes heads done rest next before.5 spelled written is_next before.7 in
             let step = c.in_ok-write.ensures.value stored mid bound objects own blocks at reads bytes before.1
             (objects_on stored objects own blocks old.changes so_far.changes i.one_set are)
-            (true_after c.args.store.now c.writing.store c.write.new.store i.steps.reads honest) le before.7.chains to in (
+            (tell_after c.args.store.now c.writing.store c.write.new.store [] i.steps c.write.ensures.steps tell) le before.7.chains to in (
               step.0,
               step.1,
               λ block b known. step.2 block b (before.2 block b known),
@@ -143,9 +144,9 @@ returns-in_err-write-clause-known g c =
     let rest : List WrittenHead = c.pop_front.new.self.items in
     let done : List WrittenHead = front.0 in
     let is_next = parts done c.writing.left.items rest c.args.written.items next front.1 c.in-Some.ensures.items in
-    passed_on _ _ _ c.from_residual.ensures.1 (λ stored planned bound objects own blocks pool readings plain writes plans are honest le spelled written.
+    passed_on _ _ _ c.from_residual.ensures.1 (λ stored planned bound objects own blocks pool readings plain writes plans are tell le spelled written.
     let before = front.4 stored planned bound objects own blocks pool readings plain writes plans are
-    (true_before c.args.store.now c.writing.store c.write.new.store c.write.ensures.steps.reads honest) le spelled written in
+    (tell_before c.args.store.now c.writing.store c.write.new.store [] i.steps c.write.ensures.steps tell) le spelled written in
     let mid = before.0 in
     let at = before.3 in
     let reads = before.4 in
@@ -156,7 +157,7 @@ returns-in_err-write-clause-known g c =
     let to = written_to stored planned mid bound c.args.group objects old so_far pool at readings reads plain writes heads done rest next before.5 spelled written is_next before.7 in
     c.in_err-write.ensures.known stored mid bound objects own blocks at reads bytes before.1
     (objects_on stored objects own blocks old.changes so_far.changes i.one_set are)
-    (true_after c.args.store.now c.writing.store c.write.new.store i.steps.reads honest) le before.7.chains to)
+    (tell_after c.args.store.now c.writing.store c.write.new.store [] i.steps c.write.ensures.steps tell) le before.7.chains to)
 
 -- why it is refused, behind others
 refused_on : (mid new : Store) (old so_far : DatasetChanges) (group : ℕ) (head : WrittenHead) (refusal : Refusal) → AreOfOneSet old so_far → IsHeadRefused mid new so_far group head refusal
@@ -187,13 +188,13 @@ all_done done left rest all same dropped are =
     sym (append-nil done) ∙ (ap (λ (xs : List WrittenHead). done ++ xs) (sym none) ∙ are)
 
 pub returns-clause-value : goal.returns-clause-value
-returns-clause-value g c = λ stored planned bound objects own blocks pool readings plain writes plans are honest le spelled written.
+returns-clause-value g c = λ stored planned bound objects own blocks pool readings plain writes plans are tell le spelled written.
     let i = c.writing.invariant in
     let front = i.front in
     let heads = c.args.written.items in
     let old = c.args.self.now in
     let new = c.writing.self in
-    let last = front.4 stored planned bound objects own blocks pool readings plain writes plans are honest le spelled written in
+    let last = front.4 stored planned bound objects own blocks pool readings plain writes plans are tell le spelled written in
     let all = subst (λ (done : List WrittenHead). AreHeadsWritten planned last.0 c.args.group objects old new pool last.3 readings last.4 writes done last.5)
     (all_done front.0 c.writing.left.items _ heads c.in_default.ensures.items c.pop_front.ensures.rest front.1) last.7 in (
       last.0,

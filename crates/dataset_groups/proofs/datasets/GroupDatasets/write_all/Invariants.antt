@@ -4,7 +4,7 @@ use Rattle.std.specs.VecDeque.{deque_len}
 use Rattle.block_pointer.specs.declared.block.Block.{Block}
 use Rattle.block_store.specs.Blocks.{Contents}
 use Rattle.block_store.specs.Plans.{Plans}
-use Rattle.block_store.specs.Steps.{OnlyReadsAndPlans, AnswersAreTrue}
+use Rattle.block_store.specs.Steps.{OnlyReadsAndPlans, AnswersTell}
 use Rattle.dataset_destroys.specs.Chains.{Reading}
 use Rattle.dataset_destroys.specs.States.{AreOfOneSet, birth_of, set_of}
 use Rattle.dead_list.specs.Datasets.{Pool}
@@ -33,7 +33,7 @@ invariant-writing g l = record {
       × TouchesHeads l.fn.self.changes l.self.changes (numbers_of done)
       × HavePlacesFor l.fn.store l.store (HasHeadDemands l.fn.store.spaces l.group) done
       × ((stored planned : Contents) (bound : ℕ) (objects : ℕ → Option Object) (own : List Block) (blocks : ℕ → List Block) (pool : Pool) (readings : ℕ → Reading) (plain : PlainPool) (writes : List Write)
-      → Plans l.fn.store stored planned → AreObjects stored (birth_of l.fn.self.changes) (set_of l.fn.self.changes) objects own blocks → AnswersAreTrue l.fn.store l.store → bound ≤ l.group
+      → Plans l.fn.store stored planned → AreObjects stored (birth_of l.fn.self.changes) (set_of l.fn.self.changes) objects own blocks → AnswersTell l.fn.store l.store [] → bound ≤ l.group
       → SpellsGroup planned l.group objects l.fn.self pool readings plain → AreWritten stored bound pool readings l.fn.self.directory writes l.fn.written.items
       → AreWrittenSoFar l.store stored planned l.group objects l.fn.self l.self pool readings writes done l.fn.freed.items l.freed.items);
 }

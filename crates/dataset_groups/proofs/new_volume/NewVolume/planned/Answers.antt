@@ -17,12 +17,12 @@ returns-in_err-volume-clause-no_room g c = passed_on _ _ _ c.from_residual.ensur
 
 pub returns-in_err-volume-clause-known : goal.returns-in_err-volume-clause-known
 returns-in_err-volume-clause-known g c =
-    passed_on _ _ _ c.from_residual.ensures.1 (λ stored planned plans honest. c.in_err-volume.ensures.known stored planned plans honest)
+    passed_on _ _ _ c.from_residual.ensures.1 (λ stored planned plans tell. c.in_err-volume.ensures.known stored planned plans tell)
 
 pub returns-clause-value : goal.returns-clause-value
-returns-clause-value g c = λ stored planned plans honest.
+returns-clause-value g c = λ stored planned plans tell.
     let size = c.args.self.now.size in
-    let is = c.in_ok-volume.ensures.value stored planned plans honest in
+    let is = c.in_ok-volume.ensures.value stored planned plans tell in
     let shape = c.in_ok-volume.ensures.shape in
     let new = subst (λ (b : Block). IsNew is.0 planned c.args.group b size c.args.self.now.block_size (replicate size 0)) (sym c.block.ensures)
     (subst (λ n. IsNew is.0 planned c.args.group c.in_ok-volume.volume.block n c.args.self.now.block_size (replicate size 0)) shape.0

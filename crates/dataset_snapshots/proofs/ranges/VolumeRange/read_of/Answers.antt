@@ -12,7 +12,7 @@ pub returns-then-not-is_within-clause-refused : goal.returns-then-not-is_within-
 returns-then-not-is_within-clause-refused g c = inr (inl (refl, is_past c.is_within.result _ _ c.is_within.ensures.1 c.if-not-is_within.true))
 
 pub returns-then-not-is_within-clause-known : goal.returns-then-not-is_within-clause-known
-returns-then-not-is_within-clause-known g c = λ stored array held spells honest within.
+returns-then-not-is_within-clause-known g c = λ stored array held spells tell within.
     absurd (false_not_true c.is_within.result c.if-not-is_within.true (c.is_within.ensures.1 within))
 
 pub read-requires-clause-within : goal.read-requires-clause-within
@@ -23,4 +23,4 @@ returns-clause-refused g c =
     IfErr-weaker c.read.result _ _ (λ refusal why. ⊎_elim (λ memory. inl memory) (λ unread. inr (inr unread)) why) c.read.ensures.refused
 
 pub returns-clause-known : goal.returns-clause-known
-returns-clause-known g c = IfErr-weaker c.read.result _ _ (λ refusal known stored array held spells honest within. known stored array held spells honest) c.read.ensures.known
+returns-clause-known g c = IfErr-weaker c.read.result _ _ (λ refusal known stored array held spells tell within. known stored array held spells tell) c.read.ensures.known

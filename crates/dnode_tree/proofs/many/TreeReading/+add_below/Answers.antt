@@ -13,7 +13,7 @@ use Rattle.block_store.proofs.Steps.{reads_on}
 use Rattle.dnode_tree.specs.Many.{AreIdsBetween}
 use Rattle.dnode_tree.specs.Tree.{property_of}
 use Rattle.dnode_tree.specs.Ways.{AreReadAs}
-use Rattle.dnode_tree.proofs.FurtherReads.{true_before, true_after}
+use Rattle.dnode_tree.proofs.FurtherReads.{told_before, told_after}
 use Rattle.dnode_tree.proofs.Getting.{only_first, data_added, nothing_added, none_added, getting_begins, run_between, run_once, child_part, getting_goes_on, getting_fails, parts_of_root, getting_ends}
 use Rattle.dnode_tree.proofs.Parts.{data_part, indirect_part}
 use Rattle.dnode_tree.proofs.Refusing.{passed_on, caused_by_memory}
@@ -28,20 +28,20 @@ read_there spaces asked other block found items e same read = subst (λ a. AreRe
 pub returns-in_default-clause-added : goal.returns-in_default-clause-added
 returns-in_default-clause-added g t c =
     on_ok_weaker c.add_nothing.result
-    (λ added. nothing_added c.args.store.now c.args.self.node.now c.args.part c.args.first c.args.ids.now c.args.found.now.items c.add_nothing.new.found.items c.in_default.is c.requires.between added)
+    (λ added. nothing_added c.args.store.now c.args.self.missing.now c.args.self.node.now c.args.part c.args.first c.args.ids.now c.args.found.now.items c.add_nothing.new.found.items c.in_default.is c.requires.between added)
     c.add_nothing.ensures.ok
 
 pub returns-then-is_empty-clause-added : goal.returns-then-is_empty-clause-added
 returns-then-is_empty-clause-added g t c =
     let none : length c.args.ids.now ≡ 0 = grind (arith, nat_tests, c.is_empty.ensures, c.if-is_empty.true) in
-    none_added c.args.store.now c.args.self.node.now c.args.part c.args.first c.args.ids.now c.args.found.now.items (nil_from_length c.args.ids.now none)
+    none_added c.args.store.now c.args.self.missing.now c.args.self.node.now c.args.part c.args.first c.args.ids.now c.args.found.now.items (nil_from_length c.args.ids.now none)
 
 pub returns-then-part-eq0-clause-added : goal.returns-then-part-eq0-clause-added
 returns-then-part-eq0-clause-added g t c =
     let some : 0 < length c.args.ids.now = grind (arith, nat_tests, c.is_empty.ensures, c.if-is_empty.false) in
     let one : c.args.first + 128 ^ c.args.part.level ≡ c.args.first + 1 = ap (λ n. c.args.first + 128 ^ n) c.if-part-eq0.true in
     on_ok_weaker c.add_data.result
-    (λ made. data_added c.args.store.now c.add_data.new.store c.args.self.node.now c.args.part c.args.first c.args.ids.now c.asked_at-asked.result c.in-Block.block
+    (λ made. data_added c.args.store.now c.add_data.new.store c.args.self.missing.now c.args.self.node.now c.args.part c.args.first c.args.ids.now c.asked_at-asked.result c.in-Block.block
     c.args.found.now.items c.add_data.new.found.items c.if-part-eq0.true c.in-Block.is c.asked_at-asked.ensures
     (only_first c.args.ids.now c.args.first (c.args.first + 128 ^ c.args.part.level) one some c.requires.between c.requires.once) made)
     c.add_data.ensures.added
@@ -62,9 +62,9 @@ returns-then-part-eq0-clause-refused g t c =
 pub returns-then-part-eq0-clause-known : goal.returns-then-part-eq0-clause-known
 returns-then-part-eq0-clause-known g t c =
     IfErr-weaker c.add_data.result _ _
-    (λ refusal is stored array blocks held part honest.
+    (λ refusal is stored array blocks held part tell.
     let there = data_part stored (property_of c.args.self.node.now) c.args.part.level 0 c.args.first c.args.part.birth c.args.part.pointer c.in-Block.block array blocks c.if-part-eq0.true c.in-Block.is part in
-    is stored there.0 held there.1.known (subst (λ asked. Asks asked c.in-Block.block) (sym c.asked_at-asked.ensures) there.1.asks) honest)
+    is stored there.0 held there.1.known (subst (λ asked. Asks asked c.in-Block.block) (sym c.asked_at-asked.ensures) there.1.asks) tell)
     c.add_data.ensures.known
 
 pub returns-in_err-children-clause-refused : goal.returns-in_err-children-clause-refused
@@ -83,10 +83,10 @@ pub returns-in_err-children-clause-known : goal.returns-in_err-children-clause-k
 returns-in_err-children-clause-known g t c =
     let e : c.args.part.level ≡ suc (c.args.part.level - 1) = omega arith in
     passed_on _ _ _ c.from_residual.ensures.1
-    (λ stored array blocks held part honest.
+    (λ stored array blocks held part tell.
     let there = indirect_part stored (property_of c.args.self.node.now) c.args.part.level _ c.args.first c.args.part.birth c.args.part.pointer c.in-Block.block array blocks e c.in-Block.is part in
     c.in_err-children.ensures.known stored there.bytes there.pointers held there.known there.spelled
-    (subst (λ asked. Asks asked c.in-Block.block) (sym c.asked_at-asked.ensures) there.asks) honest)
+    (subst (λ asked. Asks asked c.in-Block.block) (sym c.asked_at-asked.ensures) there.asks) tell)
 
 pub loop-place-init : goal.loop-place-init
 loop-place-init g t c =
@@ -141,12 +141,12 @@ returns-in_err-add_below-clause-known g t c =
     let sooner = reads_on _ _ _ _ c.loop-place.invariant.begun c.loop-place.invariant.reads in
     let later = reads_on _ _ _ _ c.loop-place.invariant.reads c.in_err-add_below.ensures.reads in
     passed_on _ _ _ c.from_residual-in_err-add_below.ensures.1
-    (λ stored array blocks held part honest.
+    (λ stored array blocks held part tell.
     let (parts, are) = parts_of_root c.args.store.now c.read_indirect.new.store c.loop-place.store c.args.self.missing.now c.args.self.node.now c.args.part c.args.first (c.args.part.level - 1)
     c.in-Block.block c.children.inside.pointers.items c.args.ids.now c.loop-place.rest.now c.loop-place.place c.args.found.now.items c.loop-place.found.items
     c.loop-place.invariant e c.in-Block.is
     (λ stored bytes others held known is_spelled true_here. same ∙ c.in_ok-children.ensures.value stored bytes others held known is_spelled true_here)
-    stored array blocks held part (true_before _ _ _ _ c.loop-place.invariant.begun later honest) in
+    stored array blocks held part (told_before _ _ _ _ c.loop-place.invariant.begun later tell) in
     c.in_err-add_below.ensures.known stored array (get_or parts c.loop-place.place []) (sooner.keeps stored held)
     (child_part c.args.store.now c.read_indirect.new.store c.loop-place.store c.add_below.new.store c.args.self.missing.now c.args.self.node.now c.args.part c.args.first (c.args.part.level - 1)
     c.in-Block.block c.children.inside.pointers.items c.args.ids.now c.loop-place.rest.now c.split_at.result.0.now c.split_at.result.1.now c.loop-place.place c.count_before.result
@@ -154,7 +154,7 @@ returns-in_err-add_below-clause-known g t c =
     c.loop-place.invariant c.loop-place-test.true e c.in-Block.is read child_is c.start_of-start.ensures.value (ap (λ s. c.start_of-start.result + s) c.span.ensures.value)
     c.count_before.ensures.before c.count_before.ensures.behind c.split_at.ensures.front c.split_at.ensures.back
     c.in_err-add_below.ensures.reads stored array parts are)
-    (true_after _ _ _ _ sooner c.in_err-add_below.ensures.reads honest))
+    (told_after _ _ _ _ sooner c.in_err-add_below.ensures.reads tell))
 
 pub loop-place-preserved : goal.loop-place-preserved
 loop-place-preserved g t c =

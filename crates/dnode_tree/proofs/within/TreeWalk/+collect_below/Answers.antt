@@ -7,7 +7,7 @@ use Rattle.block_store.specs.declared.block.Asked.{Asked}
 use Rattle.block_store.specs.Spaces.{VdevSpace}
 use Rattle.dnode_tree.proofs.Collecting.{parts_below, part_at}
 use Rattle.dnode_tree.proofs.Counts.{data_counted, indirect_counted}
-use Rattle.dnode_tree.proofs.FurtherReads.{true_before, true_after}
+use Rattle.dnode_tree.proofs.FurtherReads.{told_before, told_after}
 use Rattle.dnode_tree.proofs.Parts.{data_part, indirect_part}
 use Rattle.dnode_tree.proofs.Picking.{picking_begins, picking_goes_on, picked_all, picked_only, picked_enough, picked_root, nothing_below, nothing_in_hole}
 use Rattle.dnode_tree.proofs.Refusing.{passed_on}
@@ -64,7 +64,7 @@ returns-in_default-clause-found g t c =
     )
 
 pub returns-in_default-clause-blocks : goal.returns-in_default-clause-blocks
-returns-in_default-clause-blocks g t c = λ stored first array blocks held part honest.
+returns-in_default-clause-blocks g t c = λ stored first array blocks held part tell.
     sym (ap (λ more. c.args.found.now.items ++ more)
     (nothing_in_hole (is_picked c.args.self.since) stored (property_of c.args.self.node.now) c.args.part.level first c.args.part.birth c.args.part.pointer array blocks c.in_default.is part)
     ∙ append-nil c.args.found.now.items)
@@ -81,7 +81,7 @@ returns-then-not-looks_for-clause-found g t c =
     )
 
 pub returns-then-not-looks_for-clause-blocks : goal.returns-then-not-looks_for-clause-blocks
-returns-then-not-looks_for-clause-blocks g t c = λ stored first array blocks held part honest.
+returns-then-not-looks_for-clause-blocks g t c = λ stored first array blocks held part tell.
     let fails : is_picked c.args.self.since c.in-Block.block ≡ false = sym c.looks_for.ensures ∙ c.if-not-looks_for.true in
     sym (ap (λ more. c.args.found.now.items ++ more)
     (nothing_below c.args.self.since stored (property_of c.args.self.node.now) c.args.part.level first c.args.part.birth c.args.part.pointer c.in-Block.block array blocks c.in-Block.is fails part)
@@ -177,7 +177,7 @@ returns-clause-count g t c =
 -- ---- the blocks of a whole tree
 
 pub returns-then-part-eq0-clause-blocks : goal.returns-then-part-eq0-clause-blocks
-returns-then-part-eq0-clause-blocks g t c = λ stored first array blocks held part honest.
+returns-then-part-eq0-clause-blocks g t c = λ stored first array blocks held part tell.
     let passes : is_picked c.args.self.since c.in-Block.block ≡ true = sym c.looks_for.ensures ∙ c.if-not-looks_for.false in
     let there = data_part stored (property_of c.args.self.node.now) c.args.part.level 0 first c.args.part.birth c.args.part.pointer c.in-Block.block array blocks c.if-part-eq0.true c.in-Block.is part in
     c.in_ok-push.ensures.ok
@@ -187,25 +187,25 @@ pub returns-clause-blocks : goal.returns-clause-blocks
 returns-clause-blocks g t c =
     let passes : is_picked c.args.self.since c.in-Block.block ≡ true = sym c.looks_for.ensures ∙ c.if-not-looks_for.false in
     let e : c.args.part.level ≡ suc (c.args.part.level - 1) = omega arith in
-    λ stored first array blocks held part honest.
+    λ stored first array blocks held part tell.
     let there = indirect_part stored (property_of c.args.self.node.now) c.args.part.level (c.args.part.level - 1) first c.args.part.birth c.args.part.pointer c.in-Block.block array blocks e c.in-Block.is part in
-    let before = true_before _ _ _ _ c.in_ok-children.ensures.reads c.loop-pointer.invariant.picking.reads honest in
+    let before = told_before _ _ _ _ c.in_ok-children.ensures.reads c.loop-pointer.invariant.picking.reads tell in
     let read = c.pointers-pointer-items.ensures.value ∙ c.in_ok-children.ensures.value stored there.bytes there.pointers held there.known there.spelled before in
     let are = parts_below stored (property_of c.args.self.node.now) c.args.part.level (c.args.part.level - 1) first c.args.part.birth c.args.part.pointer c.in-Block.block array blocks _ e c.in-Block.is part read in
     picked_all _ _ _ _ _ _ _ _ _ _ _ _ _ _ c.loop-pointer.invariant.picking c.loop-pointer-test.false c.in_ok-push.ensures.ok passes stored first array _
     (c.in_ok-children.ensures.reads.keeps stored held) are
-    (true_after _ _ _ _ c.in_ok-children.ensures.reads c.loop-pointer.invariant.picking.reads honest) there.blocks_are
+    (told_after _ _ _ _ c.in_ok-children.ensures.reads c.loop-pointer.invariant.picking.reads tell) there.blocks_are
 
 -- ---- a whole tree is walked
 
 pub returns-then-not-asks-clause-known : goal.returns-then-not-asks-clause-known
-returns-then-not-asks-clause-known g t c = λ stored first array blocks held part enough honest.
+returns-then-not-asks-clause-known g t c = λ stored first array blocks held part enough tell.
     let there = data_part stored (property_of c.args.self.node.now) c.args.part.level 0 first c.args.part.birth c.args.part.pointer c.in-Block.block array blocks c.if-part-eq0.true c.in-Block.is part in
     let test : IsTrue c.asks.result = c.asks.ensures.1 (subst (λ asked. Asks asked c.in-Block.block) (sym c.asked_at-asked.ensures) there.1.asks) in
     absurd cc
 
 pub returns-then-left-eq0-clause-known : goal.returns-then-left-eq0-clause-known
-returns-then-left-eq0-clause-known g t c = λ stored first array blocks held part enough honest.
+returns-then-left-eq0-clause-known g t c = λ stored first array blocks held part enough tell.
     let passes : is_picked c.args.self.since c.in-Block.block ≡ true = sym c.looks_for.ensures ∙ c.if-not-looks_for.false in
     let e : c.args.part.level ≡ suc (c.args.part.level - 1) = omega arith in
     let there = indirect_part stored (property_of c.args.self.node.now) c.args.part.level (c.args.part.level - 1) first c.args.part.birth c.args.part.pointer c.in-Block.block array blocks e c.in-Block.is part in
@@ -216,10 +216,10 @@ pub returns-in_err-children-clause-known : goal.returns-in_err-children-clause-k
 returns-in_err-children-clause-known g t c =
     let e : c.args.part.level ≡ suc (c.args.part.level - 1) = omega arith in
     passed_on _ _ _ c.from_residual-in_err-children.ensures.1
-    (λ stored first array blocks held part enough honest.
+    (λ stored first array blocks held part enough tell.
     let there = indirect_part stored (property_of c.args.self.node.now) c.args.part.level _ first c.args.part.birth c.args.part.pointer c.in-Block.block array blocks e c.in-Block.is part in
     c.in_err-children.ensures.known stored there.bytes there.pointers held there.known there.spelled
-    (subst (λ asked. Asks asked c.in-Block.block) (sym c.asked_at-asked.ensures) there.asks) honest)
+    (subst (λ asked. Asks asked c.in-Block.block) (sym c.asked_at-asked.ensures) there.asks) tell)
 
 pub returns-in_err-collect_below-clause-known : goal.returns-in_err-collect_below-clause-known
 returns-in_err-collect_below-clause-known g t c =
@@ -228,9 +228,9 @@ returns-in_err-collect_below-clause-known g t c =
     let later = reads_on _ _ _ _ c.loop-pointer.invariant.picking.reads c.in_err-collect_below.ensures.reads in
     let sooner = reads_on _ _ _ _ c.in_ok-children.ensures.reads c.loop-pointer.invariant.picking.reads in
     passed_on _ _ _ c.from_residual-in_err-collect_below.ensures.1
-    (λ stored first array blocks held part enough honest.
+    (λ stored first array blocks held part enough tell.
     let there = indirect_part stored (property_of c.args.self.node.now) c.args.part.level (c.args.part.level - 1) first c.args.part.birth c.args.part.pointer c.in-Block.block array blocks e c.in-Block.is part in
-    let before = true_before _ _ _ _ c.in_ok-children.ensures.reads later honest in
+    let before = told_before _ _ _ _ c.in_ok-children.ensures.reads later tell in
     let read = c.pointers-pointer-items.ensures.value ∙ c.in_ok-children.ensures.value stored there.bytes there.pointers held there.known there.spelled before in
     let are = parts_below stored (property_of c.args.self.node.now) c.args.part.level (c.args.part.level - 1) first c.args.part.birth c.args.part.pointer c.in-Block.block array blocks _ e c.in-Block.is part read in
     c.in_err-collect_below.ensures.known stored _ array _ (sooner.keeps stored held)
@@ -238,9 +238,9 @@ returns-in_err-collect_below-clause-known g t c =
     (picked_enough (is_picked c.args.self.since) c.args.self.node.now c.args.part.level c.args.part.birth c.in-Block.block blocks there.parts c.loop-pointer.pointer-index c.push.new.blocks.items c.loop-pointer.found.items
     c.args.left.now (c.args.left.now - 1) c.loop-pointer.left (omega arith) there.asks passes there.blocks_are (omega (arith, c.loop-pointer-test.true, are.pointer_count, are.count))
     (c.loop-pointer.invariant.picking.so_far stored first array there.parts (c.in_ok-children.ensures.reads.keeps stored held) are
-    (true_after _ _ _ _ c.in_ok-children.ensures.reads c.loop-pointer.invariant.picking.reads (true_before _ _ _ _ sooner c.in_err-collect_below.ensures.reads honest)))
+    (told_after _ _ _ _ c.in_ok-children.ensures.reads c.loop-pointer.invariant.picking.reads (told_before _ _ _ _ sooner c.in_err-collect_below.ensures.reads tell)))
     c.loop-pointer.invariant.count (omega arith) enough)
-    (true_after _ _ _ _ sooner c.in_err-collect_below.ensures.reads honest))
+    (told_after _ _ _ _ sooner c.in_err-collect_below.ensures.reads tell))
 
 pub returns-in_err-collect_below-clause-caused : goal.returns-in_err-collect_below-clause-caused
 returns-in_err-collect_below-clause-caused g t c =

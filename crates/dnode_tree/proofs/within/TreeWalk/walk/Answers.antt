@@ -55,22 +55,22 @@ returns-then-not-is_once-clause-refused g c =
 
 pub returns-clause-blocks : goal.returns-clause-blocks
 returns-clause-blocks g c =
-    λ stored array blocks held tree honest.
+    λ stored array blocks held tree tell.
     c.in_ok-collect_below.ensures.blocks stored 0 array blocks held
-    (subst (λ n. IsSubtree stored (property_of c.args.self.node.now) (n - 1) 0 c.args.birth c.args.self.node.now.pointer array blocks) (sym c.levels.ensures) tree.root) honest
+    (subst (λ n. IsSubtree stored (property_of c.args.self.node.now) (n - 1) 0 c.args.birth c.args.self.node.now.pointer array blocks) (sym c.levels.ensures) tree.root) tell
     ∙ ap (λ earlier. earlier ++ filter (is_picked c.args.self.since) blocks) c.new-found.ensures.items
 
 pub returns-in_err-collect_below-clause-known : goal.returns-in_err-collect_below-clause-known
 returns-in_err-collect_below-clause-known g c =
     passed_on _ _ _ c.from_residual.ensures.1
-    (λ stored array blocks held tree once enough honest. c.in_err-collect_below.ensures.known stored 0 array blocks held
-    (subst (λ n. IsSubtree stored (property_of c.args.self.node.now) (n - 1) 0 c.args.birth c.args.self.node.now.pointer array blocks) (sym c.levels.ensures) tree.root) enough honest)
+    (λ stored array blocks held tree once enough tell. c.in_err-collect_below.ensures.known stored 0 array blocks held
+    (subst (λ n. IsSubtree stored (property_of c.args.self.node.now) (n - 1) 0 c.args.birth c.args.self.node.now.pointer array blocks) (sym c.levels.ensures) tree.root) enough tell)
 
 pub returns-then-not-is_once-clause-known : goal.returns-then-not-is_once-clause-known
 returns-then-not-is_once-clause-known g c =
-    λ stored array blocks held tree once enough honest.
+    λ stored array blocks held tree once enough tell.
     let found_is = c.in_ok-collect_below.ensures.blocks stored 0 array blocks held
-    (subst (λ n. IsSubtree stored (property_of c.args.self.node.now) (n - 1) 0 c.args.birth c.args.self.node.now.pointer array blocks) (sym c.levels.ensures) tree.root) honest
+    (subst (λ n. IsSubtree stored (property_of c.args.self.node.now) (n - 1) 0 c.args.birth c.args.self.node.now.pointer array blocks) (sym c.levels.ensures) tree.root) tell
     ∙ ap (λ earlier. earlier ++ filter (is_picked c.args.self.since) blocks) c.new-found.ensures.items in
     let told : IsTrue c.in_ok-is_once.is_once = c.in_ok-is_once.ensures.1 (subst (λ bs. AreDistinct bs) (sym (c.deref.ensures.value ∙ found_is)) once) in
     absurd cc

@@ -19,7 +19,7 @@ use Rattle.dnode_tree.proofs.Spots.{HavePlacesAt, LackPlacesAt, parts_begin, par
 use Rattle.dnode_tree.specs.Spots.{spots_in, spots_below}
 use Rattle.dnode_tree.proofs.Roots.{indirect_length, leaf_rewritten, part_has_root}
 use Rattle.block_store.proofs.Steps.{steps_none, steps_on, steps_read}
-use Rattle.dnode_tree.proofs.Steps.{true_sooner, true_later, no_room_on}
+use Rattle.dnode_tree.proofs.Steps.{told_sooner, told_later, no_room_on}
 use Rattle.dnode_tree.proofs.WritingParts.{writing_skips, writing_goes_on, writing_fails, run_is_between, run_in_order, run_whole, root_filled}
 use Rattle.dnode_tree.specs.Subtree.{asked_of}
 use Rattle.dnode_tree.specs.Tree.{property_of}
@@ -34,7 +34,7 @@ write_part-returns-then-part-eq0-clause-rewritten g t c =
     let range = c.requires.between 0 c.index-writes-0.result c.requires.some in
     let here : (get_or c.args.writes.now 0 c.index-writes-0.result).id ≡ c.args.first = omega (arith, range.0, range.1, one) in
     IfOk-weaker c.plan_block.result _ _
-    (λ block made ages stored planned array blocks plans part aged honest.
+    (λ block made ages stored planned array blocks plans part aged tell.
     let added = made.0 stored planned plans in (
       added.0,
       added.1,
@@ -59,7 +59,7 @@ part_reached (write ∷ writes) level first some between =
 pub write_part-returns-in_err-parts-clause-known : goal.write_part-returns-in_err-parts-clause-known
 write_part-returns-in_err-parts-clause-known g t c =
     passed_on _ _ _ c.from_residual-in_err-parts.ensures.1
-    (λ stored planned array blocks plans part honest. loss_in_plan _ (c.in_err-parts.ensures.known stored c.args.first array blocks plans.held part honest))
+    (λ stored planned array blocks plans part tell. loss_in_plan _ (c.in_err-parts.ensures.known stored c.args.first array blocks plans.held part tell))
 
 pub write_part-returns-clause-steps : goal.write_part-returns-clause-steps
 write_part-returns-clause-steps g t c = steps_on _ _ _ _ (steps_read _ _ _ c.in_ok-parts.ensures.reads) c.write_parts.ensures.steps
@@ -69,16 +69,16 @@ write_part-returns-clause-rewritten g t c =
     let e : c.args.part.level ≡ suc c.in_ok-parts.parts.level = omega (arith, c.in_ok-parts.ensures.level) in
     let reads = steps_read _ _ _ c.in_ok-parts.ensures.reads in
     IfOk-weaker c.write_parts.result _ _
-    (λ block is ages stored planned array blocks plans part aged honest.
-    let below = c.in_ok-parts.ensures.parts stored c.args.first array blocks plans.held part (true_sooner _ _ _ _ reads c.write_parts.ensures.steps honest) in
+    (λ block is ages stored planned array blocks plans part aged tell.
+    let below = c.in_ok-parts.ensures.parts stored c.args.first array blocks plans.held part (told_sooner _ _ _ _ reads c.write_parts.ensures.steps tell) in
     let begun = rewriting_begins stored planned (property_of c.args.self.node.now) c.in_ok-parts.parts.level c.args.first c.in_ok-parts.parts.birth c.args.self.birth c.in_ok-parts.parts.pointers
     array (written c.args.writes.now array) below.0 c.note.new.replaced.items plans.kept below.1
-    (λ told told_is. c.in_ok-parts.ensures.births stored c.args.first told.old plans.held (aged told told_is).0 (true_sooner _ _ _ _ reads c.write_parts.ensures.steps honest)) in
+    (λ told told_is. c.in_ok-parts.ensures.births stored c.args.first told.old plans.held (aged told told_is).0 (told_sooner _ _ _ _ reads c.write_parts.ensures.steps tell)) in
     let reached : reaches c.args.writes.now c.args.part.level c.args.first ≡ true = part_reached c.args.writes.now c.args.part.level c.args.first c.requires.some c.requires.between in
     let aged_below = λ (told : Ages) (told_is : ages ≡ Some told).
     ages_below c.args.self.birth c.args.writes.now told.old told.new c.args.part.level c.in_ok-parts.parts.level c.args.first e (aged told told_is).1 reached in
     let done = is ages stored planned planned array (written c.args.writes.now array) below.0 [] c.note.new.replaced.items (c.in_ok-parts.ensures.reads.plans stored planned plans) begun
-    (λ id above under. refl) aged_below (true_later _ _ _ _ reads c.write_parts.ensures.steps honest) in (
+    (λ id above under. refl) aged_below (told_later _ _ _ _ reads c.write_parts.ensures.steps tell) in (
       done.0,
       done.1,
       part_has_root planned done.0 (property_of c.args.self.node.now) c.args.part.level c.in_ok-parts.parts.level c.args.first c.args.self.birth block c.args.part.pointer (written c.args.writes.now array) below.0
@@ -95,12 +95,12 @@ pub write_part-returns-clause-known : goal.write_part-returns-clause-known
 write_part-returns-clause-known g t c =
     let reads = steps_read _ _ _ c.in_ok-parts.ensures.reads in
     IfErr-weaker c.write_parts.result _ _
-    (λ refusal is stored planned array blocks plans part honest.
-    let below = c.in_ok-parts.ensures.parts stored c.args.first array blocks plans.held part (true_sooner _ _ _ _ reads c.write_parts.ensures.steps honest) in
+    (λ refusal is stored planned array blocks plans part tell.
+    let below = c.in_ok-parts.ensures.parts stored c.args.first array blocks plans.held part (told_sooner _ _ _ _ reads c.write_parts.ensures.steps tell) in
     let begun = rewriting_begins stored planned (property_of c.args.self.node.now) c.in_ok-parts.parts.level c.args.first c.in_ok-parts.parts.birth c.args.self.birth c.in_ok-parts.parts.pointers
     array (written c.args.writes.now array) below.0 c.note.new.replaced.items plans.kept below.1 (λ told told_is. absurd cc) in
     is None stored planned planned array (written c.args.writes.now array) below.0 [] c.note.new.replaced.items (c.in_ok-parts.ensures.reads.plans stored planned plans) begun
-    (λ id above under. refl) (λ told told_is. absurd cc) (true_later _ _ _ _ reads c.write_parts.ensures.steps honest))
+    (λ id above under. refl) (λ told told_is. absurd cc) (told_later _ _ _ _ reads c.write_parts.ensures.steps tell))
     c.write_parts.ensures.known
 
 pub write_parts-loop-place-preserved-then-is_empty : goal.write_parts-loop-place-preserved-then-is_empty
@@ -155,8 +155,8 @@ write_parts-loop-place-preserved g t c =
 
 pub write_parts-returns-in_default-clause-known : goal.write_parts-returns-in_default-clause-known
 write_parts-returns-in_default-clause-known g t c =
-    λ ages stored planned now array new_array before after noted plans rewritten has aged honest.
-    let there = c.loop-place.invariant.1.rewriting ages stored planned now array new_array before after noted plans rewritten has aged honest in
+    λ ages stored planned now array new_array before after noted plans rewritten has aged tell.
+    let there = c.loop-place.invariant.1.rewriting ages stored planned now array new_array before after noted plans rewritten has aged tell in
     let fits = sum_fits _ _ _ _ _ _ _ _ _ _ _ _ _ _ _ _ there.3 c.requires.low in
     absurd (omega (arith, fits, c.in_default.ensures.none.0 refl))
 
@@ -176,9 +176,9 @@ pub write_parts-returns-clause-rewritten : goal.write_parts-returns-clause-rewri
 write_parts-returns-clause-rewritten g t c =
     let all : c.loop-place.place ≡ 128 = omega (arith, c.loop-place-test.false, c.loop-place.auto.place-end, c.requires.from) in
     IfOk-weaker c.plan_block.result _ _
-    (λ block made ages stored planned now array new_array before after noted plans rewritten has aged honest.
+    (λ block made ages stored planned now array new_array before after noted plans rewritten has aged tell.
     let planned_step = c.plan_block.ensures.steps c.args.self.missing.now in
-    let there = c.loop-place.invariant.1.rewriting ages stored planned now array new_array before after noted plans rewritten has aged (true_sooner _ _ _ _ c.loop-place.invariant.1.steps planned_step honest) in
+    let there = c.loop-place.invariant.1.rewriting ages stored planned now array new_array before after noted plans rewritten has aged (told_sooner _ _ _ _ c.loop-place.invariant.1.steps planned_step tell) in
     let added = made.0.0 stored there.0 there.2 in
     let asks : Asks (asked_of (property_of c.args.self.node.now (suc c.args.parts.level)) c.args.self.birth) block = rw add-one at made.0.1 in (
       added.0,
@@ -212,7 +212,7 @@ write_parts-loop-place-init g t c = (
     filled = c.requires.some;
     count = c.requires.count;
     placed = parts_begin _ _ _ _ _ _ _;
-    rewriting = λ ages stored planned begun array new_array before after noted plans rewritten has aged honest. (begun, after, plans, rewritten, has, aged);
+    rewriting = λ ages stored planned begun array new_array before after noted plans rewritten has aged tell. (begun, after, plans, rewritten, has, aged);
   },
 )
 

@@ -18,25 +18,25 @@ write_parts-requires-clause-room g c = omega (arith, six_levels c.args.level c.r
 pub returns-in_err-block-clause-known : goal.returns-in_err-block-clause-known
 returns-in_err-block-clause-known g c =
     passed_on _ _ _ c.from_residual-in_err-block.ensures.1
-    (λ ages stored planned now array new_array before noted plans part behind has aged honest.
+    (λ ages stored planned now array new_array before noted plans part behind has aged tell.
     c.in_err-block.ensures.known ages stored planned now array new_array (before ∷ replicate 127 []) (part.blocks ∷ []) noted plans
     (raising_begins stored planned now (property_of c.args.self.node.now) c.args.level c.args.self.birth c.args.root _ array new_array before noted _
     (c.set.ensures ∙ ap (λ ps. set ps 0 c.args.root) c.in_ok-pointers.ensures) behind part)
     (λ id above under. has id (omega (arith, above)) (omega (arith, under)))
     (λ told told_is.
     let both = aged told told_is in
-    (both.0, (λ low first under above before. both.1 low first under (omega (arith, above)) (omega (arith, before))))) honest)
+    (both.0, (λ low first under above before. both.1 low first under (omega (arith, above)) (omega (arith, before))))) tell)
 
 pub returns-clause-rewritten : goal.returns-clause-rewritten
 returns-clause-rewritten g c =
-    λ ages stored planned now array new_array before noted plans part behind has aged honest.
+    λ ages stored planned now array new_array before noted plans part behind has aged tell.
     let done = c.in_ok-block.ensures.rewritten ages stored planned now array new_array (before ∷ replicate 127 []) (part.blocks ∷ []) noted plans
     (raising_begins stored planned now (property_of c.args.self.node.now) c.args.level c.args.self.birth c.args.root _ array new_array before noted _
     (c.set.ensures ∙ ap (λ ps. set ps 0 c.args.root) c.in_ok-pointers.ensures) behind part)
     (λ id above under. has id (omega (arith, above)) (omega (arith, under)))
     (λ told told_is.
     let both = aged told told_is in
-    (both.0, (λ low first under above before. both.1 low first under (omega (arith, above)) (omega (arith, before))))) honest in (
+    (both.0, (λ low first under above before. both.1 low first under (omega (arith, above)) (omega (arith, before))))) tell in (
       done.0,
       done.1,
       raised planned done.0 (property_of c.args.self.node.now) c.args.level c.args.self.birth c.in_ok-block.block new_array before noted _ done.2,
@@ -52,7 +52,7 @@ pub returns-then-is_empty-clause-rewritten : goal.returns-then-is_empty-clause-r
 returns-then-is_empty-clause-rewritten g c =
     let is : c.args.root ≡ Hole = search rules in
     let none : length c.args.writes.now ≡ 0 = search rules in
-    λ ages stored planned now array new_array before noted plans part behind has aged honest. (
+    λ ages stored planned now array new_array before noted plans part behind has aged tell. (
       now,
       plans,
       hole_raised planned now (property_of c.args.self.node.now) c.args.level c.args.self.birth c.args.root array new_array before noted _ c.args.writes.now is (nil_from_length c.args.writes.now none) behind has part,

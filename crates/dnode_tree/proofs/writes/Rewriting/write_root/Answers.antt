@@ -17,7 +17,7 @@ pub returns-then-is_empty-clause-rewritten : goal.returns-then-is_empty-clause-r
 returns-then-is_empty-clause-rewritten g c =
     let none : length c.args.writes.now ≡ 0 = search rules in
     let nil = nil_from_length c.args.writes.now none in
-    λ ages stored planned array blocks plans part aged honest. (
+    λ ages stored planned array blocks plans part aged tell. (
       planned,
       plans,
       root_stays stored planned _ _ 0 c.args.self.birth c.args.self.node.now.pointer array blocks _ _ plans.kept nil part

@@ -43,10 +43,10 @@ returns-in_err-write-clause-known g c =
     c.loop-change.writes.items c.args.replaced.now.items c.loop-change.replaced.items c.loop-change.invariant.0 c.loop-change-test.true c.change-item.is c.requires.numbers c.requires.order
     c.in_err-write.ensures.steps
     (λ (objects : ℕ → Option Object). (IsForRoom refusal ⊎ (refusal ≡ DiskFault)) ⊎ ((refusal ≡ BadPointer) × Any (λ (change : ObjectChange). ¬ MayChange change.change (objects change.number)) c.args.changes.now))
-    (λ stored planned bound objects own before plans are le honest.
+    (λ stored planned bound objects own before plans are le tell.
     ⊎_elim (λ room. inl room)
     (λ bad. inr (bad.0, (c.loop-change.change-index, c.change-item.result, c.loop-change-test.true, sym c.change-item.is, bad.1)))
-    (c.in_err-write.ensures.known stored planned bound objects own before plans are le honest)))
+    (c.in_err-write.ensures.known stored planned bound objects own before plans are le tell)))
 
 pub returns-in_err-push-clause-steps : goal.returns-in_err-push-clause-steps
 returns-in_err-push-clause-steps g c = steps_on _ _ _ _ c.loop-change.invariant.0.steps c.in_ok-write.ensures.steps
@@ -68,7 +68,7 @@ loop-change-preserved g c =
 pub returns-clause-changed : goal.returns-clause-changed
 returns-clause-changed g c =
     subst
-    (λ (changes : List ObjectChange). HasChanged c.args.self.copies c.args.store.now c.loop-change.store c.args.set.now c.args.self.birth changes c.loop-change.writes.items c.args.replaced.now.items c.loop-change.replaced.items)
+    (λ (changes : List ObjectChange). HasChanged c.args.self.copies c.args.store.now c.loop-change.store c.args.self.missing.now c.args.set.now c.args.self.birth changes c.loop-change.writes.items c.args.replaced.now.items c.loop-change.replaced.items)
     (take_all c.loop-change.change-index c.args.changes.now c.loop-change-test.false) c.loop-change.invariant.0.has_changed
 
 pub returns-clause-numbers : goal.returns-clause-numbers

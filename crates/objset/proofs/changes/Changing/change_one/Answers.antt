@@ -1,7 +1,7 @@
 use Rattle.std.proofs.Common.{inl, sym, subst}
 use Rattle.dnode_tree.proofs.Refusing.{passed_on}
 use Rattle.block_store.proofs.Steps.{steps_on, steps_read}
-use Rattle.dnode_tree.proofs.Steps.{true_sooner, true_later}
+use Rattle.dnode_tree.proofs.Steps.{told_sooner, told_later}
 use Rattle.objset.proofs.Kept.{births_of_later, nodes_later, within_set}
 use Rattle.objset.proofs.Room.{no_room_sooner}
 use Rattle.dnode_tree.proofs.Losses.{loss_in_plan}
@@ -20,8 +20,8 @@ use Rattle.objset.proofs.changes.Changing.change_one.Goals as goal
 pub returns-in_err-found-clause-known : goal.returns-in_err-found-clause-known
 returns-in_err-found-clause-known g c =
     passed_on _ _ _ c.from_residual.ensures.1
-    (λ stored planned bound objects own before plans are le honest.
-    inl (loss_in_plan _ (c.in_err-found.ensures.known stored are.nodes own plans.held (nodes_later stored bound c.args.self.birth c.args.set.now are.nodes own le are.dnodes) honest)))
+    (λ stored planned bound objects own before plans are le tell.
+    inl (loss_in_plan _ (c.in_err-found.ensures.known stored are.nodes own plans.held (nodes_later stored bound c.args.self.birth c.args.set.now are.nodes own le are.dnodes) tell)))
 
 pub returns-in_err-node-clause-steps : goal.returns-in_err-node-clause-steps
 returns-in_err-node-clause-steps g c = steps_on _ _ _ _ (steps_read _ _ _ c.in_ok-found.ensures.reads) c.in_err-node.ensures.steps
@@ -35,12 +35,12 @@ pub returns-in_err-node-clause-known : goal.returns-in_err-node-clause-known
 returns-in_err-node-clause-known g c =
     let read = steps_read _ _ _ c.in_ok-found.ensures.reads in
     passed_on _ _ _ c.from_residual-in_err-node.ensures.1
-    (λ stored planned bound objects own before plans are le honest.
+    (λ stored planned bound objects own before plans are le tell.
     let same = c.in_ok-found.ensures.value stored are.nodes own plans.held (nodes_later stored bound c.args.self.birth c.args.set.now are.nodes own le are.dnodes)
-    (true_sooner _ _ _ _ read c.in_err-node.ensures.steps honest) in
+    (told_sooner _ _ _ _ read c.in_err-node.ensures.steps tell) in
     c.in_err-node.ensures.known stored planned bound (objects c.args.change.now.number) (before c.args.change.now.number) (c.in_ok-found.ensures.reads.plans stored planned plans)
     (subst (λ dnode. IsObject stored bound dnode (objects c.args.change.now.number) (before c.args.change.now.number)) (sym same) (within_set stored bound c.args.set.now objects own before c.requires.set are c.args.change.now.number)) le
-    (true_later _ _ _ _ read c.in_err-node.ensures.steps honest))
+    (told_later _ _ _ _ read c.in_err-node.ensures.steps tell))
 
 pub returns-clause-steps : goal.returns-clause-steps
 returns-clause-steps g c = steps_on _ _ _ _ (steps_read _ _ _ c.in_ok-found.ensures.reads) c.in_ok-node.ensures.steps
@@ -48,12 +48,12 @@ returns-clause-steps g c = steps_on _ _ _ _ (steps_read _ _ _ c.in_ok-found.ensu
 pub returns-clause-changed : goal.returns-clause-changed
 returns-clause-changed g c =
     let read = steps_read _ _ _ c.in_ok-found.ensures.reads in
-    λ stored planned bound objects own before plans are le honest.
+    λ stored planned bound objects own before plans are le tell.
     let same = c.in_ok-found.ensures.value stored are.nodes own plans.held (nodes_later stored bound c.args.self.birth c.args.set.now are.nodes own le are.dnodes)
-    (true_sooner _ _ _ _ read c.in_ok-node.ensures.steps honest) in
+    (told_sooner _ _ _ _ read c.in_ok-node.ensures.steps tell) in
     c.in_ok-node.ensures.changed stored planned bound (objects c.args.change.now.number) (before c.args.change.now.number) (c.in_ok-found.ensures.reads.plans stored planned plans)
     (subst (λ dnode. IsObject stored bound dnode (objects c.args.change.now.number) (before c.args.change.now.number)) (sym same) (within_set stored bound c.args.set.now objects own before c.requires.set are c.args.change.now.number)) le
-    (true_later _ _ _ _ read c.in_ok-node.ensures.steps honest)
+    (told_later _ _ _ _ read c.in_ok-node.ensures.steps tell)
 
 pub returns-in_err-found-clause-steps : goal.returns-in_err-found-clause-steps
 returns-in_err-found-clause-steps g c = steps_read _ _ _ c.in_err-found.ensures.reads
@@ -86,12 +86,12 @@ returns-in_err-check_dnode-clause-steps g c = steps_read _ _ _ c.in_ok-found.ens
 pub returns-in_err-check_dnode-clause-known : goal.returns-in_err-check_dnode-clause-known
 returns-in_err-check_dnode-clause-known g c =
     passed_on _ _ _ c.from_residual-in_err-check_dnode.ensures.1
-    (λ stored planned bound objects own before plans are le honest.
+    (λ stored planned bound objects own before plans are le tell.
     let whole = nodes_later stored bound c.args.self.birth c.args.set.now are.nodes own le are.dnodes in
     absurd (c.in_err-check_dnode.ensures.late.1
     (found_born stored _ c.in_ok-found.found.birth (are.nodes c.args.change.now.number) c.in_ok-found.found.dnode (objects c.args.change.now.number) (before c.args.change.now.number)
-    (c.in_ok-found.ensures.value stored are.nodes own plans.held whole honest) (are.each c.args.change.now.number)
-    (λ some. c.in_ok-found.ensures.born stored are.nodes own plans.held whole honest some
+    (c.in_ok-found.ensures.value stored are.nodes own plans.held whole tell) (are.each c.args.change.now.number)
+    (λ some. c.in_ok-found.ensures.born stored are.nodes own plans.held whole tell some
     ∙ births_of_later stored bound c.args.self.birth c.args.set.now are.nodes own le are.dnodes c.args.change.now.number))))
 
 pub returns-in_err-check_dnode-clause-refused : goal.returns-in_err-check_dnode-clause-refused

@@ -3,7 +3,7 @@ use Rattle.std.proofs.lemmas.Result.{IfOk-weaker, IfErr-weaker}
 use Rattle.block_store.proofs.Steps.{steps_on}
 use Rattle.dnode_tree.proofs.Refusing.{passed_on}
 use Rattle.dnode_tree.proofs.Standing.{empty_trees}
-use Rattle.dnode_tree.proofs.Steps.{true_sooner, true_later}
+use Rattle.dnode_tree.proofs.Steps.{told_sooner, told_later}
 use Rattle.objset.proofs.Room.{no_room_sooner}
 use Rattle.dnode_tree.proofs.Losses.{loss_in_plan}
 use Rattle.objset.proofs.Trees.{tree_replaced}
@@ -22,7 +22,7 @@ use Rattle.objset.proofs.changes.Changing.replace_object.Goals as goal
 pub returns-in_err-free_object-clause-known : goal.returns-in_err-free_object-clause-known
 returns-in_err-free_object-clause-known g c =
     passed_on _ _ _ c.from_residual.ensures.1
-    (λ stored planned bound array blocks plans tree le honest. loss_in_plan _ (c.in_err-free_object.ensures.known stored planned bound array blocks plans tree le honest))
+    (λ stored planned bound array blocks plans tree le tell. loss_in_plan _ (c.in_err-free_object.ensures.known stored planned bound array blocks plans tree le tell))
 
 pub returns-clause-steps : goal.returns-clause-steps
 returns-clause-steps g c = steps_on _ _ _ _ c.in_ok-free_object.ensures.steps c.write_object.ensures.steps
@@ -30,9 +30,9 @@ returns-clause-steps g c = steps_on _ _ _ _ c.in_ok-free_object.ensures.steps c.
 pub returns-clause-changed : goal.returns-clause-changed
 returns-clause-changed g c =
     IfOk-weaker c.write_object.result _ _
-    (λ after is stored planned bound array blocks plans tree le honest.
-    let mid = c.in_ok-free_object.ensures.noted stored planned bound array blocks plans tree le (true_sooner _ _ _ _ c.in_ok-free_object.ensures.steps c.write_object.ensures.steps honest) in
-    let made = is stored planned bound (λ id. None) [] mid.0 (empty_trees stored bound _ refl) le (true_later _ _ _ _ c.in_ok-free_object.ensures.steps c.write_object.ensures.steps honest) in (
+    (λ after is stored planned bound array blocks plans tree le tell.
+    let mid = c.in_ok-free_object.ensures.noted stored planned bound array blocks plans tree le (told_sooner _ _ _ _ c.in_ok-free_object.ensures.steps c.write_object.ensures.steps tell) in
+    let made = is stored planned bound (λ id. None) [] mid.0 (empty_trees stored bound _ refl) le (told_later _ _ _ _ c.in_ok-free_object.ensures.steps c.write_object.ensures.steps tell) in (
       made.0,
       made.1,
       tree_replaced (object_copies c.args.self.copies) planned made.0 c.args.self.birth after _ blocks _ _ _ mid.1 made.2,
@@ -46,9 +46,9 @@ returns-clause-no_room g c =
 pub returns-clause-known : goal.returns-clause-known
 returns-clause-known g c =
     IfErr-weaker c.write_object.result _ _
-    (λ refusal is stored planned bound array blocks plans tree le honest.
-    let mid = c.in_ok-free_object.ensures.noted stored planned bound array blocks plans tree le (true_sooner _ _ _ _ c.in_ok-free_object.ensures.steps c.write_object.ensures.steps honest) in
-    is stored planned bound (λ id. None) [] mid.0 (empty_trees stored bound _ refl) le (true_later _ _ _ _ c.in_ok-free_object.ensures.steps c.write_object.ensures.steps honest))
+    (λ refusal is stored planned bound array blocks plans tree le tell.
+    let mid = c.in_ok-free_object.ensures.noted stored planned bound array blocks plans tree le (told_sooner _ _ _ _ c.in_ok-free_object.ensures.steps c.write_object.ensures.steps tell) in
+    is stored planned bound (λ id. None) [] mid.0 (empty_trees stored bound _ refl) le (told_later _ _ _ _ c.in_ok-free_object.ensures.steps c.write_object.ensures.steps tell))
     c.write_object.ensures.known
 
 pub returns-in_err-free_object-clause-refused : goal.returns-in_err-free_object-clause-refused

@@ -15,8 +15,8 @@ returns-in_err-done-clause-no_room g c =
     (subst (λ counts. HasNoRoom c.args.store.now c.put_many.new.store c.args.self.missing.now c.args.node.now counts) c.of_objects.ensures (c.in_err-done.ensures.no_room is)))
 
 pub returns-clause-changed : goal.returns-clause-changed
-returns-clause-changed g c = λ stored planned bound array blocks plans tree le honest.
-    let there = c.in_ok-done.ensures.rewritten stored planned bound array blocks plans tree le honest in
+returns-clause-changed g c = λ stored planned bound array blocks plans tree le tell.
+    let there = c.in_ok-done.ensures.rewritten stored planned bound array blocks plans tree le tell in
     let noted_are : c.extend_from_slice.new.self.items ≡ c.args.replaced.now.items ++ c.in_ok-done.done.replaced.items =
     appended c.args.replaced.now.items c.deref.result.now c.extend_from_slice.new.self.items c.in_ok-done.done.replaced.items c.in_ok-extend_from_slice.ensures.items c.deref.ensures.value in (
       there.0,

@@ -121,6 +121,7 @@ returns-in-Ok-clause-writes g c =
         flushes = λ disk due. flushed_now c.make_flushes.new.store c.make_flushes.new.flushes.items disk (c.make_flushes.ensures.due ∙ c.requires.written)
             (c.in-Ok.ensures.flushed.flushed disk due);
       };
+      stale = (c.in-Ok.ensures.made phases.BlocksFlush (λ disk number. refl)).same.stale;
       out = none_goes_out c.args.self.now.store.out c.make_flushes.new.store.out (c.in-Ok.ensures.made phases.BlocksFlush (λ disk number. refl)).out;
     }) c.go_on.ensures
 
@@ -130,5 +131,6 @@ returns-in-Err-clause-writes g c =
     writes_dropped old c.make_flushes.new.store c.args.planned c.in-Err.failed.disk (state_of c.drop_plan.new.self) (spelled_fits c.args.planned.uberblock (c.requires.there c.args.planned refl).fits)
     (nothing_at_all old c.args.planned c.make_flushes.new.store c.make_flushes.ensures.makes)
     (c.in-Err.ensures.failed phases.BlocksFlush (λ disk number. refl)).0.same.spaces
+    (c.in-Err.ensures.failed phases.BlocksFlush (λ disk number. refl)).0.same.stale
     (c.in-Err.ensures.failed phases.BlocksFlush (λ disk number. refl)).0.out
     c.drop_plan.ensures.store c.drop_plan.ensures.kept (c.drop_plan.ensures.planned ∙ c.requires.none) c.drop_plan.ensures.stamp

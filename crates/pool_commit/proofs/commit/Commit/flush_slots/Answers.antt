@@ -133,6 +133,7 @@ returns-in-Ok-clause-writes g c =
       makes = nothing_at_all old c.args.planned c.make_flushes.new.store c.make_flushes.ensures.makes;
       goes = same_flushes c.args.self.now.store c.args.planned c.make_flushes.new.store later
           (c.in-Ok.ensures.made phases.SlotsFlush (λ disk number. refl)).same.spaces (λ none. c.make_flushes.ensures.due ∙ none) refl refl refl;
+      stale = (c.in-Ok.ensures.made phases.SlotsFlush (λ disk number. refl)).same.stale;
       out = none_goes_out c.args.self.now.store.out c.make_flushes.new.store.out (c.in-Ok.ensures.made phases.SlotsFlush (λ disk number. refl)).out;
     }) c.go_on.ensures
 
@@ -146,6 +147,7 @@ returns-in-Err-clause-writes g c =
       makes = nothing_at_all old c.args.planned c.make_flushes.new.store c.make_flushes.ensures.makes;
       goes = same_flushes c.args.self.now.store c.args.planned c.make_flushes.new.store popped
           (c.in-Err.ensures.failed phases.SlotsFlush (λ disk number. refl)).0.same.spaces (λ none. c.make_flushes.ensures.due ∙ none) refl refl refl;
+      stale = (c.in-Err.ensures.failed phases.SlotsFlush (λ disk number. refl)).0.same.stale;
       out = one_goes_out c.args.self.now.store.out c.in-Err.failed.disk c.make_flushes.new.store.out
           (c.in-Err.ensures.failed phases.SlotsFlush (λ disk number. refl)).0.out;
     }) (c.in-Err.ensures.failed phases.SlotsFlush (λ disk number. refl)).0.out c.requires.none c.go_without.ensures.goes

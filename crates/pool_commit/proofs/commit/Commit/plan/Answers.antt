@@ -1,7 +1,7 @@
 use Rattle.std.proofs.Common.{ℕ, suc, ◌≡◌, ◌≤◌, ⊎_elim, inl, inr, ◌-◌, ◌++◌, Bool, List, [], length, Option, Some, None, refl, sym, ap, ◌∙◌, subst, arith}
 use Rattle.block_pointer.specs.declared.block.Block.{Block}
 use Rattle.model_disk.specs.Joint.{Disks}
-use Rattle.raidz_io.specs.Reads.{AreUntouched, IsHonestSince}
+use Rattle.raidz_io.specs.Reads.{AreUntouched}
 use Rattle.block_store.specs.declared.refusal.Refusal.{Refusal as StoreRefusal}
 use Rattle.block_store.specs.Store.{outs}
 use Rattle.pool_model.specs.View.{Unplanned}
@@ -29,7 +29,8 @@ use Rattle.pool_commit.proofs.Unread.{lost_for_plan}
 use Rattle.block_store.proofs.Planning.{marks_by_map}
 use Rattle.block_store.specs.Places.{filled as filled_marks}
 use Rattle.block_store.specs.Store.{Spans, Store}
-use Rattle.block_store.specs.Steps.{OnlyReadsAndPlans}
+use Rattle.block_store.specs.Steps.{OnlyReadsAndPlans, AnswersTell}
+use Rattle.block_store.proofs.Telling.{lost_same, tell_between}
 use Rattle.block_store.specs.Places.{shapes_of}
 use Rattle.block_store.specs.Store.{is_out}
 use Rattle.std.specs.Prelude.{filter, not}
@@ -134,22 +135,22 @@ returns-else-is_err-clause-untouched g c =
     (subst (AreUntouched (outs c.begin_plan.new.self ++ []) c.begin_plan.new.self.disks) (sym c.give_back.ensures.gives.disks) c.in-Ok.ensures.steps.untouched)
 
 pub returns-else-is_err-clause-planned : goal.returns-else-is_err-clause-planned
-returns-else-is_err-clause-planned g c = λ v backs none few items effects honest.
+returns-else-is_err-clause-planned g c = λ v backs none few items effects tell.
     let begins : Begins c.args.self.now.store c.begin_plan.new.self c.saturating_add-group.result =
     record { free = c.begin_plan.ensures.free; stays = c.begin_plan.ensures.stays; plans = c.begin_plan.ensures.plans; some = c.begin_plan.ensures.some; stale = ap (λ (s : Spans). s.stale) c.begin_plan.ensures.spans } in
     let below : c.saturating_add-group.result ≤ suc c.args.self.now.kept.committed = let same = c.committed.ensures in omega arith in
     let begun = backs_begun (state_of c.args.self.now) c.begin_plan.new.self c.saturating_add-group.result v c.begin_plan.ensures.out c.begin_plan.ensures.shapes begins below v.sync none backs in
     let s : State = record { store = c.begin_plan.new.self; kept = c.args.self.now.kept; planned = None; stamp = c.args.self.now.stamp } in
     let next : c.saturating_add-group.result ≡ suc v.committed = let same = c.committed.ensures ∙ backs.committed in omega arith in
-    let honest_since : IsHonestSince c.begin_plan.new.self.disks c.group_after.new.store.disks =
-    subst (λ (disks : Disks). IsHonestSince disks c.group_after.new.store.disks) (sym c.begin_plan.ensures.disks)
-    (subst (λ (disks : Disks). IsHonestSince c.args.self.now.store.disks disks) c.give_back.ensures.gives.disks honest) in
+    let told : AnswersTell c.begin_plan.new.self c.group_after.new.store [] =
+    tell_between c.args.self.now.store c.give_back.new.store c.begin_plan.new.self c.group_after.new.store [] c.begin_plan.ensures.disks (sym c.give_back.ensures.gives.disks)
+    (lost_same c.begin_plan.new.self c.args.self.now.store (sym c.begin_plan.ensures.shapes) (sym c.begin_plan.ensures.out) (sym (ap (λ (s : Spans). s.stale) c.begin_plan.ensures.spans))) tell in
     plan_is_backed s c.group_after.new.store c.give_back.new.store c.saturating_add-group.result c.last-last.result.now
     (record { after = c.in-Ok.next.after; uberblock = c.uberblock-uberblock.result; behind = c.in_ok-behind.behind }) c.in-Ok.next.replaced.items
     c.args.items.now v begun c.begin_plan.ensures.due next c.last-last.ensures items effects c.in_ok-behind.ensures.are
     (record { root = c.in-Ok.next.root; is_root = c.in-Ok.ensures.is_root; timestamp = c.args.timestamp; is = c.uberblock-uberblock.ensures.is }) c.in-Ok.ensures.steps
     (subst (λ gone. GivesBack c.group_after.new.store c.give_back.new.store gone c.saturating_add-group.result) c.deref.ensures.value c.give_back.ensures.gives)
-    c.begin_plan.ensures.free honest_since
+    c.begin_plan.ensures.free told
     (begun_plans (state_of c.args.self.now) c.begin_plan.new.self c.saturating_add-group.result v c.begin_plan.ensures.out c.begin_plan.ensures.shapes begins below v.sync none backs) c.in-Ok.ensures.value
     (was_ok c.give_back.result _ (sym c.is_err.ensures.value ∙ c.if-is_err.false) c.give_back.ensures.whole)
     (subst (λ gone. AreGivenBack c.group_after.new.store c.give_back.new.store gone c.saturating_add-group.result) c.deref.ensures.value
@@ -219,9 +220,9 @@ returns-in-Err-clause-refused g c = λ v backs none few items good effects.
     (λ space. inr (c.from.ensures ∙ space))
     (λ fault. inl (lost_for_plan v (state_of c.args.self.now) new c.args.items.now c.from.result
     (record { cause = c.in-Err.refusal; refused = refused g c; answered = c.from.ensures }) begun c.in-Err.ensures.steps.reads
-    (subst (IsFaultIn c.begin_plan.new.self c.group_after.new.store) (sym c.from.ensures) fault))) other))
+    (subst (IsFaultIn c.begin_plan.new.self c.group_after.new.store []) (sym c.from.ensures) fault))) other))
     (plan_faults c.begin_plan.new.self c.group_after.new.store c.in-Err.refusal
-    (λ honest. c.in-Err.ensures.known begun.blocks.stored begun.blocks.planned (v.pools v.committed) begun.blocks.plans spelled begins honest good (subst (λ (n : ℕ). GroupTakesEffect n (v.pools v.committed) c.args.items.now) (let same = c.committed.ensures ∙ backs.committed in omega arith) effects)))
+    (λ tell. c.in-Err.ensures.known begun.blocks.stored begun.blocks.planned (v.pools v.committed) begun.blocks.plans spelled begins tell good (subst (λ (n : ℕ). GroupTakesEffect n (v.pools v.committed) c.args.items.now) (let same = c.committed.ensures ∙ backs.committed in omega arith) effects)))
 
 pub returns-in-Err-clause-bad : goal.returns-in-Err-clause-bad
 returns-in-Err-clause-bad g c = λ is. absurd (no_config c.in-Err.refusal (sym c.from.ensures ∙ is))
@@ -265,11 +266,11 @@ invariant_of-self-in-Err-1 g c = record {
 -- a plan that was begun, and what was planned of it
 stepped : (s : State) (begun made : Store) (group : ℕ) → s.planned ≡ None → PlansFrom s (record s { store = begun }) → OnlyReadsAndPlans begun made []
     → PlansFrom s (record s { store = made })
-stepped s begun made group none from steps = from_then s begun made none from steps.out steps.shapes (marks_by_map filled_marks begun.spaces made.spaces steps.filled)
+stepped s begun made group none from steps = from_then s begun made none from steps.out steps.stale steps.shapes (marks_by_map filled_marks begun.spaces made.spaces steps.filled)
 
 given_back : (s : State) (made mid : Store) (gone : List Block) (group : ℕ) → s.planned ≡ None → PlansFrom s (record s { store = made }) → GivesBack made mid gone group
     → PlansFrom s (record s { store = mid })
-given_back s made mid gone group none from gives = from_then s made mid none from gives.out gives.shapes gives.filled_stays
+given_back s made mid gone group none from gives = from_then s made mid none from gives.out gives.stale gives.shapes gives.filled_stays
 
 -- the disks in use are the same
 in_use_still : (s : State) (begun : Store) → begun.out ≡ s.store.out → shapes_of begun.spaces ≡ shapes_of s.store.spaces → in_use_of (record s { store = begun }) ≡ in_use_of s
@@ -280,30 +281,30 @@ returns-then-group-gt-LAST_COUNT-clause-from g c = from_none (state_of c.args.se
 
 pub returns-in_err-begin_plan-clause-from : goal.returns-in_err-begin_plan-clause-from
 returns-in_err-begin_plan-clause-from g c =
-    from_begun (state_of c.args.self.now) c.begin_plan.new.self c.saturating_add-group.result c.requires.unplanned c.begin_plan.ensures.out c.begin_plan.ensures.shapes c.begin_plan.ensures.some
+    from_begun (state_of c.args.self.now) c.begin_plan.new.self c.saturating_add-group.result c.requires.unplanned c.begin_plan.ensures.out (ap (λ (spans : Spans). spans.stale) c.begin_plan.ensures.spans) c.begin_plan.ensures.shapes c.begin_plan.ensures.some
 
 pub returns-in_err-behind-clause-from : goal.returns-in_err-behind-clause-from
 returns-in_err-behind-clause-from g c =
-    from_begun (state_of c.args.self.now) c.begin_plan.new.self c.saturating_add-group.result c.requires.unplanned c.begin_plan.ensures.out c.begin_plan.ensures.shapes c.begin_plan.ensures.some
+    from_begun (state_of c.args.self.now) c.begin_plan.new.self c.saturating_add-group.result c.requires.unplanned c.begin_plan.ensures.out (ap (λ (spans : Spans). spans.stale) c.begin_plan.ensures.spans) c.begin_plan.ensures.shapes c.begin_plan.ensures.some
 
 pub returns-then-not-makes_good_volumes-clause-from : goal.returns-then-not-makes_good_volumes-clause-from
 returns-then-not-makes_good_volumes-clause-from g c =
-    from_begun (state_of c.args.self.now) c.begin_plan.new.self c.saturating_add-group.result c.requires.unplanned c.begin_plan.ensures.out c.begin_plan.ensures.shapes c.begin_plan.ensures.some
+    from_begun (state_of c.args.self.now) c.begin_plan.new.self c.saturating_add-group.result c.requires.unplanned c.begin_plan.ensures.out (ap (λ (spans : Spans). spans.stale) c.begin_plan.ensures.spans) c.begin_plan.ensures.shapes c.begin_plan.ensures.some
 
 pub returns-then-is_err-clause-from : goal.returns-then-is_err-clause-from
 returns-then-is_err-clause-from g c =
     let s : State = state_of c.args.self.now in
     let none = c.requires.unplanned in
-    let begun = from_begun s c.begin_plan.new.self c.saturating_add-group.result none c.begin_plan.ensures.out c.begin_plan.ensures.shapes c.begin_plan.ensures.some in
+    let begun = from_begun s c.begin_plan.new.self c.saturating_add-group.result none c.begin_plan.ensures.out (ap (λ (spans : Spans). spans.stale) c.begin_plan.ensures.spans) c.begin_plan.ensures.shapes c.begin_plan.ensures.some in
     let made = stepped s c.begin_plan.new.self c.group_after.new.store c.saturating_add-group.result none begun c.in-Ok.ensures.steps in
     from_then s c.give_back.new.store c.drop_plan.new.self none (given_back s c.group_after.new.store c.give_back.new.store _ c.saturating_add-group.result none made c.give_back.ensures.gives)
-    c.drop_plan.ensures.out c.drop_plan.ensures.shapes c.drop_plan.ensures.filled
+    c.drop_plan.ensures.out (ap (λ (spans : Spans). spans.stale) c.drop_plan.ensures.spans) c.drop_plan.ensures.shapes c.drop_plan.ensures.filled
 
 pub returns-else-is_err-clause-from : goal.returns-else-is_err-clause-from
 returns-else-is_err-clause-from g c =
     let s : State = state_of c.args.self.now in
     let none = c.requires.unplanned in
-    let begun = from_begun s c.begin_plan.new.self c.saturating_add-group.result none c.begin_plan.ensures.out c.begin_plan.ensures.shapes c.begin_plan.ensures.some in
+    let begun = from_begun s c.begin_plan.new.self c.saturating_add-group.result none c.begin_plan.ensures.out (ap (λ (spans : Spans). spans.stale) c.begin_plan.ensures.spans) c.begin_plan.ensures.shapes c.begin_plan.ensures.some in
     let made = stepped s c.begin_plan.new.self c.group_after.new.store c.saturating_add-group.result none begun c.in-Ok.ensures.steps in
     from_made s c.give_back.new.store (record { after = c.in-Ok.next.after; uberblock = c.uberblock-uberblock.result; behind = c.in_ok-behind.behind })
     (given_back s c.group_after.new.store c.give_back.new.store _ c.saturating_add-group.result none made c.give_back.ensures.gives)
@@ -317,7 +318,7 @@ pub returns-in-Err-clause-from : goal.returns-in-Err-clause-from
 returns-in-Err-clause-from g c =
     let s : State = state_of c.args.self.now in
     let none = c.requires.unplanned in
-    let begun = from_begun s c.begin_plan.new.self c.saturating_add-group.result none c.begin_plan.ensures.out c.begin_plan.ensures.shapes c.begin_plan.ensures.some in
+    let begun = from_begun s c.begin_plan.new.self c.saturating_add-group.result none c.begin_plan.ensures.out (ap (λ (spans : Spans). spans.stale) c.begin_plan.ensures.spans) c.begin_plan.ensures.shapes c.begin_plan.ensures.some in
     stepped s c.begin_plan.new.self c.group_after.new.store c.saturating_add-group.result none begun c.in-Err.ensures.steps
 
 -- ---- the timestamp of the plan

@@ -32,7 +32,7 @@ invariant_of-self g c = record {
 }
 
 pub returns-in_default-clause-bytes : goal.returns-in_default-clause-bytes
-returns-in_default-clause-bytes g c = λ v size backs honest there within.
+returns-in_default-clause-bytes g c = λ v size backs tell there within.
     let items : c.in_ok-vec.field-0.items ≡ replicate {A = ℕ} c.args.len 0 = search rules in
     subst (λ (name : Option (List ℕ)). HasRangeAt c.in_ok-vec.field-0.items name (v.pools v.committed) size c.args.offset) (sym (ap option_copied c.in_default.is))
     (subst (λ (bytes : List ℕ). HasRangeAt bytes None (v.pools v.committed) size c.args.offset) (sym items) (zeros_there (v.pools v.committed) size c.args.offset c.args.len within))
@@ -41,13 +41,13 @@ pub returns-clause-reads : goal.returns-clause-reads
 returns-clause-reads g c = only_reads (state_of c.args.self.now) c.read_of.new.store [] c.read_of.ensures.reads
 
 pub returns-clause-bytes : goal.returns-clause-bytes
-returns-clause-bytes g c = IfOk-both c.read_of.result _ _ _ (λ bytes count known v size backs honest stands within.
+returns-clause-bytes g c = IfOk-both c.read_of.result _ _ _ (λ bytes count known v size backs tell stands within.
     let there = known backs.blocks.stored (v.pools v.committed) backs.blocks.plans.held
     (subst (λ (kept : KeptGroup). SpellsGroup backs.blocks.stored c.committed-committed.result kept (v.pools v.committed)) (sym c.last-last.ensures)
     (subst (λ (group : ℕ). SpellsGroup backs.blocks.stored group c.args.self.now.kept.last (v.pools v.committed)) (sym (c.committed-committed.ensures ∙ backs.committed))
     (last_spelled (state_of c.args.self.now) v backs))) in
     subst (λ (name : Option (List ℕ)). HasRangeAt bytes.items name (v.pools v.committed) size c.args.offset) (sym (ap option_copied c.in-Some.is))
-    (bytes_there (v.pools v.committed) c.in-Some.name.now size c.args.offset c.args.len bytes.items count (there.1 honest))) c.read_of.ensures.len c.read_of.ensures.bytes
+    (bytes_there (v.pools v.committed) c.in-Some.name.now size c.args.offset c.args.len bytes.items count (there.1 tell))) c.read_of.ensures.len c.read_of.ensures.bytes
 
 pub returns-clause-refused : goal.returns-clause-refused
 returns-clause-refused g c = IfErr-weaker c.read_of.result _ _ (λ refusal known v size backs stands within.

@@ -1,5 +1,6 @@
-use Rattle.std.proofs.Common.{◌≡◌, Option, None, Some, refl, sym, ◌∙◌, subst}
+use Rattle.std.proofs.Common.{◌≡◌, ap, Option, None, Some, refl, sym, ◌∙◌, subst}
 use Rattle.model_disk.specs.Joint.{Disks}
+use Rattle.block_store.specs.Places.{shapes_of}
 use Rattle.pool_model.specs.Machine.{gone_out}
 use Rattle.pool_model.specs.View.{View}
 use Rattle.pool_commit.specs.declared.kept.Planned.{Planned}
@@ -20,7 +21,7 @@ pub returns-in-Some-clause-takes : goal.returns-in-Some-clause-takes
 returns-in-Some-clause-takes g c =
     let s : State = state_of c.args.self.now in
     leaves_takes s c.put_out.new.self c.in-Some.planned c.args.disk (state_of c.leave_out.new.self) (sym c.in-Some.is ∙ c.take.ensures.value) c.put_out.ensures.disks
-    c.put_out.ensures.spaces c.put_out.ensures.out
+    c.put_out.ensures.spaces (gone_stale c.args.self.now.store c.args.disk c.put_out.new.self c.put_out.ensures.gone) c.put_out.ensures.out
     (subst (λ (o : Option Planned). LeavesPlan c.args.disk (record s { store = c.put_out.new.self; planned = o }) c.in-Some.planned (state_of c.leave_out.new.self))
     c.take.ensures.after c.leave_out.ensures)
 
@@ -38,6 +39,17 @@ returns-in-Some-clause-backs g c v backs =
     c.put_out.ensures.disks c.put_out.ensures.due c.put_out.ensures.out
     (subst (λ (o : Option Planned). LeavesPlan c.args.disk (record s { store = c.put_out.new.self; planned = o }) c.in-Some.planned (state_of c.leave_out.new.self))
     c.take.ensures.after c.leave_out.ensures)
+
+pub returns-in_default-clause-takes : goal.returns-in_default-clause-takes
+returns-in_default-clause-takes g c = record {
+  disks = c.put_out.ensures.disks;
+  out = c.put_out.ensures.out;
+  stale = gone_stale c.args.self.now.store c.args.disk c.put_out.new.self c.put_out.ensures.gone;
+  shapes = ap shapes_of c.put_out.ensures.spaces;
+  kept = refl;
+  stamp = refl;
+  plan = λ later is. absurd (let no : None ≡ Some later = sym c.take.ensures.after ∙ is in cc);
+}
 
 pub returns-in_default-clause-backs : goal.returns-in_default-clause-backs
 returns-in_default-clause-backs g c v backs =

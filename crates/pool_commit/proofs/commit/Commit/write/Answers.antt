@@ -74,6 +74,7 @@ returns-in-Ok-clause-writes g c =
       makes = blocks_only old c.args.planned c.make_writes.new.store c.make_writes.ensures.makes;
       goes = same_flushes c.args.self.now.store c.args.planned c.make_writes.new.store c.args.planned (c.in-Ok.ensures.made (λ disk. 0)).1.same.spaces
           (λ none. absurd (no_due c.args.self.now.store c.requires.some none)) refl refl refl;
+      stale = (c.in-Ok.ensures.made (λ disk. 0)).1.same.stale;
       out = none_goes_out c.args.self.now.store.out c.make_writes.new.store.out (c.in-Ok.ensures.made (λ disk. 0)).1.out;
     }) c.go_on.ensures
 
@@ -82,5 +83,6 @@ returns-in-Err-clause-writes g c =
     let old : State = state_of c.args.self.now in
     writes_dropped old c.make_writes.new.store c.args.planned c.in-Err.failed.disk (state_of c.drop_plan.new.self) (spelled_fits c.args.planned.uberblock (c.requires.there c.args.planned refl).fits)
     (blocks_only old c.args.planned c.make_writes.new.store c.make_writes.ensures.makes) (c.in-Err.ensures.failed (λ disk. 0)).same.spaces
+    (c.in-Err.ensures.failed (λ disk. 0)).same.stale
     (c.in-Err.ensures.failed (λ disk. 0)).out
     c.drop_plan.ensures.store c.drop_plan.ensures.kept (c.drop_plan.ensures.planned ∙ c.requires.none) c.drop_plan.ensures.stamp

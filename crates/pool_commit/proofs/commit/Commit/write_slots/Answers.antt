@@ -152,6 +152,7 @@ returns-in-Ok-clause-writes g c =
       makes = slots_only old c.args.planned c.make_slots.new.store c.requires.written c.requires.flushed c.make_slots.ensures.makes;
       goes = same_flushes c.args.self.now.store c.args.planned c.make_slots.new.store later (c.in-Ok.ensures.made (λ disk. 0)).1.same.spaces
           (λ none. c.make_slots.ensures.due ∙ none) refl refl refl;
+      stale = (c.in-Ok.ensures.made (λ disk. 0)).1.same.stale;
       out = none_goes_out c.args.self.now.store.out c.make_slots.new.store.out (c.in-Ok.ensures.made (λ disk. 0)).1.out;
     }) c.go_on.ensures
 
@@ -165,5 +166,6 @@ returns-in-Err-clause-writes g c =
       makes = slots_only old c.args.planned c.make_slots.new.store c.requires.written c.requires.flushed c.make_slots.ensures.makes;
       goes = same_flushes c.args.self.now.store c.args.planned c.make_slots.new.store popped (c.in-Err.ensures.failed (λ disk. 0)).0.same.spaces
           (λ none. c.make_slots.ensures.due ∙ none) refl refl refl;
+      stale = (c.in-Err.ensures.failed (λ disk. 0)).0.same.stale;
       out = one_goes_out c.args.self.now.store.out c.in-Err.failed.disk c.make_slots.new.store.out (c.in-Err.ensures.failed (λ disk. 0)).0.out;
     }) (c.in-Err.ensures.failed (λ disk. 0)).0.out c.requires.none c.go_without.ensures.goes

@@ -15,15 +15,16 @@ use Rattle.pool_model.specs.declared.step.Reply.TheVariants as replies
 use Rattle.pool_core.specs.Steps.{Goes}
 use Rattle.pool_core.proofs.Fronting.{refused}
 use Rattle.pool_core.proofs.ReadSteps.{shape_there, reads_now, refuses_now}
+use Rattle.pool_core.proofs.Telling.{tell_read}
 use Rattle.pool_core.proofs.pool.Core.read.Goals as goal
 
 pub returns-in-Some-clause-goes : goal.returns-in-Some-clause-goes
-returns-in-Some-clause-goes g c v trusted r honest plans =
+returns-in-Some-clause-goes g c v trusted r tell plans =
     refused (state_of c.args.self.now) v trusted (steps.Read c.args.name.now c.args.offset c.args.len) c.in-Some.cause r
     (sym (c.against_read.ensures (volume_at c.args.name.now (now_of v)) (c.find-found.ensures v r.follows)) ∙ c.in-Some.is)
 
 pub returns-in_default-clause-goes : goal.returns-in_default-clause-goes
-returns-in_default-clause-goes g c v trusted r honest plans = absurd (let no : None ≡ Some _ = sym c.in-None.is ∙ c.against_read.ensures None c.in_default.is in cc)
+returns-in_default-clause-goes g c v trusted r tell plans = absurd (let no : None ≡ Some _ = sym c.in-None.is ∙ c.against_read.ensures None c.in_default.is in cc)
 
 pub read_committed-requires : goal.read_committed-requires
 read_committed-requires g c = record {
@@ -37,7 +38,7 @@ read_pending-requires g c =
     omega (arith, range.0, count)
 
 pub returns-in-Ok-clause-goes : goal.returns-in-Ok-clause-goes
-returns-in-Ok-clause-goes g c v trusted r honest plans =
+returns-in-Ok-clause-goes g c v trusted r tell plans =
     let found = shape_there c.args.name.now (now_of v) c.in-Some-found.shape (sym c.in-Some-found.is ∙ c.find-found.ensures v r.follows) in
     let buffer : List ℕ = c.read_pending.new.buffer in
     let whole : length buffer ≡ length c.as_mut_slice.result.now = c.read_pending.auto.buffer in
@@ -45,7 +46,7 @@ returns-in-Ok-clause-goes g c v trusted r honest plans =
     let range : trusted ≡ true → HasRange buffer found.0.bytes c.args.offset = λ e.
     let base : HasRange c.in-Ok.bytes.items (base_of v c.args.name.now found.0) c.args.offset =
     subst (λ (name : Option (List ℕ)). HasRangeAt c.in-Ok.bytes.items name (v.pools v.committed) (length found.0.bytes) c.args.offset) (c.base_name-base.ensures v r.follows)
-    (c.in-Ok.ensures.bytes v (length found.0.bytes) r.backs (honest e)
+    (c.in-Ok.ensures.bytes v (length found.0.bytes) r.backs (tell_read (state_of c.args.self.now) (record (state_of c.args.self.now) { commit = commit_state c.read_committed.new.self }) c.in-Ok.ensures.reads (tell e))
     (subst (λ (name : Option (List ℕ)). StandsThere name (v.pools v.committed) (length found.0.bytes)) (sym (c.base_name-base.ensures v r.follows)) (base_stands v c.args.name.now found.0 r.follows.effects found.1))
     (shape_within c.args.offset c.args.len c.in-Some-found.shape found.0 (sym found.2) fits.0)) in
     c.read_pending.ensures.laid v found.0 r.follows found.1 found.2 (subst (λ (xs : List ℕ). HasRange xs (base_of v c.args.name.now found.0) c.args.offset) (sym c.as_mut_slice.ensures.value) base) in
@@ -56,11 +57,12 @@ returns-in-Ok-clause-goes g c v trusted r honest plans =
     (sym (c.against_read.ensures (volume_at c.args.name.now (now_of v)) (c.find-found.ensures v r.follows)) ∙ c.in-None.is) found.1 count range)
 
 pub returns-in-Err-clause-goes : goal.returns-in-Err-clause-goes
-returns-in-Err-clause-goes g c v trusted r honest plans =
+returns-in-Err-clause-goes g c v trusted r tell plans =
     let found = shape_there c.args.name.now (now_of v) c.in-Some-found.shape (sym c.in-Some-found.is ∙ c.find-found.ensures v r.follows) in
     let fits = in_range c.args.offset c.args.len c.in-Some-found.shape c.against_read.result (λ volume is. c.against_read.ensures volume (c.in-Some-found.is ∙ is)) (ap is_some c.in-None.is) in
     refuses_now (state_of c.args.self.now) (commit_state c.read_committed.new.self) v trusted c.args.name.now c.args.offset c.args.len c.in-Err.refusal c.from.result c.from.ensures r c.in-Err.ensures.reads
-    (sym (c.against_read.ensures (volume_at c.args.name.now (now_of v)) (c.find-found.ensures v r.follows)) ∙ c.in-None.is) honest
+    (sym (c.against_read.ensures (volume_at c.args.name.now (now_of v)) (c.find-found.ensures v r.follows)) ∙ c.in-None.is)
+    (λ e. tell_read (state_of c.args.self.now) (record (state_of c.args.self.now) { commit = commit_state c.read_committed.new.self }) c.in-Err.ensures.reads (tell e))
     (subst (λ (name : Option (List ℕ)). (c.in-Err.refusal ≡ NoMemory) ⊎ IsLostAt v (commit_state c.args.self.now.commit) (commit_state c.read_committed.new.self) name c.args.offset c.args.len c.in-Err.refusal)
     (c.base_name-base.ensures v r.follows)
     (c.in-Err.ensures.refused v (length found.0.bytes) r.backs
@@ -68,7 +70,7 @@ returns-in-Err-clause-goes g c v trusted r honest plans =
     (shape_within c.args.offset c.args.len c.in-Some-found.shape found.0 (sym found.2) fits.0)))
 
 pub returns-then-is_covered-clause-goes : goal.returns-then-is_covered-clause-goes
-returns-then-is_covered-clause-goes g c v trusted r honest plans =
+returns-then-is_covered-clause-goes g c v trusted r tell plans =
     let found = shape_there c.args.name.now (now_of v) c.in-Some-found.shape (sym c.in-Some-found.is ∙ c.find-found.ensures v r.follows) in
     c.read_covered.ensures v trusted found.0 r found.1 found.2
     (sym (c.against_read.ensures (volume_at c.args.name.now (now_of v)) (c.find-found.ensures v r.follows)) ∙ c.in-None.is)

@@ -7,7 +7,7 @@ use Rattle.pool_core.proofs.pool.Core.read_under.Goals as goal
 pub returns-in-Ok-clause-bytes : goal.returns-in-Ok-clause-bytes
 returns-in-Ok-clause-bytes g c v r =
     let p = c.in-Ok.ensures.bytes v r.backs in
-    (p.0, λ honest. subst (λ (bytes : List ℕ). AreBytesOf (v.pools c.args.group) c.args.name.now c.args.offset c.args.len bytes) (sym c.new.ensures) (p.1 honest))
+    (p.0, λ tell. subst (λ (bytes : List ℕ). AreBytesOf (v.pools c.args.group) c.args.name.now c.args.offset c.args.len bytes) (sym c.new.ensures) (p.1 tell))
 
 pub returns-in-Err-clause-refused : goal.returns-in-Err-clause-refused
 returns-in-Err-clause-refused g c v r =

@@ -10,7 +10,7 @@ use Rattle.pool_maps.proofs.steps.MapPlan.plan_metaslab.Goals as goal
 pub returns-then-is_empty-clause-advances : goal.returns-then-is_empty-clause-advances
 returns-then-is_empty-clause-advances g c =
     let none : length c.in_ok-update.update.entries.items ≡ 0 = grind (arith, nat_tests, c.is_empty.ensures, c.if-is_empty.true) in
-    λ stored objects own blocks held are honest sound unmade.
+    λ stored objects own blocks held are tell sound unmade.
     stays_so objects c.args.store.now.spaces c.args.gone.now c.args.place c.in_ok-update.update c.in_ok-update.ensures.update c.args.self.now (empty_of c.in_ok-update.update.entries.items none)
 
 pub returns-in-Some-clause-step : goal.returns-in-Some-clause-step
@@ -24,21 +24,21 @@ returns-in-Some-clause-step g c =
 pub returns-in-Some-clause-advances : goal.returns-in-Some-clause-advances
 returns-in-Some-clause-advances g c =
     ok_by c.rewrite.result
-    (λ value stored objects own blocks held are honest sound unmade.
+    (λ value stored objects own blocks held are tell sound unmade.
     rewritten_advances objects c.args.store.now.spaces c.args.gone.now c.args.place c.in_ok-update.update c.in_ok-update.ensures.update c.args.self.now c.rewrite.new.self
     c.in-Some.map value.0 c.in-Some.ensures.found.0 c.in-Some.ensures.found.1 value.1 sound
-    (λ before has leads. value.2 stored objects own blocks before held are honest has leads) c.requires.place)
+    (λ before has leads. value.2 stored objects own blocks before held are tell has leads) c.requires.place)
     c.rewrite.ensures.value
 
 pub returns-in-Some-clause-known : goal.returns-in-Some-clause-known
 returns-in-Some-clause-known g c =
     IfErr-weaker c.rewrite.result _ _
-    (λ refusal known stored objects own blocks held are honest sound unmade below ahead after group released.
+    (λ refusal known stored objects own blocks held are tell sound unmade below ahead after group released.
     let is = c.in_ok-update.ensures.update in
     let here = ahead c.args.place refl c.requires.place in
     let had = had_map objects c.args.store.now.spaces c.args.self.now c.args.place c.in-Some.map is.before sound c.in-Some.ensures.found.0 c.in-Some.ensures.found.1 here.1
     (here.0 is.before is.are_before is.was) in
-    elim (known stored objects own blocks is.before held are honest had) [
+    elim (known stored objects own blocks is.before held are tell had) [
       | inl loss ↦ inl loss
       | inr taken ↦ absurd (not_taken c.args.store.now.spaces c.args.self.now c.args.place c.in-Some.map sound c.in-Some.ensures.found.0 c.in-Some.ensures.found.1 here.1 taken)
     ])
@@ -54,7 +54,7 @@ returns-clause-step g c =
 pub returns-clause-advances : goal.returns-clause-advances
 returns-clause-advances g c =
     ok_by c.make.result
-    (λ made stored objects own blocks held are honest sound unmade.
+    (λ made stored objects own blocks held are tell sound unmade.
     made_advances objects c.args.store.now.spaces c.args.gone.now c.args.place c.in_ok-update.update c.in_ok-update.ensures.update c.args.self.now c.make.new.self
     made.0 made.1 sound unmade made.2 made.3)
     c.make.ensures.made

@@ -7,7 +7,7 @@ use Rattle.pool_maps.proofs.steps.MapPlan.rewrite.Goals as goal
 pub returns-in_err-change-clause-known : goal.returns-in_err-change-clause-known
 returns-in_err-change-clause-known g c =
     passed_on _ _ _ c.from_residual.ensures.1
-    (λ stored objects own blocks before held are honest has. inl (c.in_err-change.ensures.known stored objects own blocks before held are honest has))
+    (λ stored objects own blocks before held are tell has. inl (c.in_err-change.ensures.known stored objects own blocks before held are tell has))
 
 pub returns-in_err-change-clause-refused : goal.returns-in_err-change-clause-refused
 returns-in_err-change-clause-refused g c =

@@ -12,9 +12,9 @@ invariant_of-self g c =
     let room : length r.entries.items < 65536 = grind (arith, c.self.invariant.0.fits, c.if-len-eq-ROOM.false, c.len.ensures, r.entries.ok.0) in
     let new = c.plan_with-reply.new.self in
     let step = steps.Plan c.args.timestamp in
-    let goes = subst (λ (a : Reply). Goes g.C.PoolSteps.represents g.C.PoolSteps.answers_truly g.C.PoolSteps.links r.core step a new) (sym c.copy_of_reply-copied.ensures.copy) c.plan_with-reply.ensures.goes in (
+    let goes = subst (λ (a : Reply). Goes g.C.PoolSteps.represents g.C.PoolSteps.answers_tell g.C.PoolSteps.links r.core step a new) (sym c.copy_of_reply-copied.ensures.copy) c.plan_with-reply.ensures.goes in (
       record_more g.C.PoolSteps r.core new r.origin.value r.start.value r.entries.items c.append.new.entries.items (entry step c.copy_of_reply-copied.result) r.sealed r.books.steps.total c.count.new.self.steps.total r.begun.value.total r.books.calls.total c.count.new.self.calls.total
-          room c.append.ensures.items c.count.ensures.steps c.count.ensures.calls c.plan_with-reply.ensures.follows goes g.met.C.PoolSteps.came_further g.met.C.PoolSteps.parts_are_true c.self.invariant.0,
+          room c.append.ensures.items c.count.ensures.steps c.count.ensures.calls c.plan_with-reply.ensures.follows goes g.met.C.PoolSteps.came_further g.met.C.PoolSteps.parts_tell c.self.invariant.0,
       grind (arith, c.self.invariant.1, c.append.ensures.room),
     )
 
@@ -24,6 +24,6 @@ returns-clause-after g c =
     let room : length r.entries.items < 65536 = grind (arith, c.self.invariant.0.fits, c.if-len-eq-ROOM.false, c.len.ensures, r.entries.ok.0) in
     let new = c.plan_with-reply.new.self in
     let step = steps.Plan c.args.timestamp in
-    let goes = subst (λ (a : Reply). Goes g.C.PoolSteps.represents g.C.PoolSteps.answers_truly g.C.PoolSteps.links r.core step a new) (sym c.copy_of_reply-copied.ensures.copy) c.plan_with-reply.ensures.goes in
+    let goes = subst (λ (a : Reply). Goes g.C.PoolSteps.represents g.C.PoolSteps.answers_tell g.C.PoolSteps.links r.core step a new) (sym c.copy_of_reply-copied.ensures.copy) c.plan_with-reply.ensures.goes in
     record_more g.C.PoolSteps r.core new r.origin.value r.start.value r.entries.items c.append.new.entries.items (entry step c.copy_of_reply-copied.result) r.sealed r.books.steps.total c.count.new.self.steps.total r.begun.value.total r.books.calls.total c.count.new.self.calls.total
-    room c.append.ensures.items c.count.ensures.steps c.count.ensures.calls c.plan_with-reply.ensures.follows goes g.met.C.PoolSteps.came_further g.met.C.PoolSteps.parts_are_true c.self.invariant.0
+    room c.append.ensures.items c.count.ensures.steps c.count.ensures.calls c.plan_with-reply.ensures.follows goes g.met.C.PoolSteps.came_further g.met.C.PoolSteps.parts_tell c.self.invariant.0

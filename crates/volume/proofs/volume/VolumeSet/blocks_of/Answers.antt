@@ -38,7 +38,7 @@ returns-in_err-old-clause-known g c =
     let IsOut : ℕ → Type 0 = IsCovered c.args.self.now c.args.changes.now.name.now c.args.changes.now.items.now.writes in
     let IsBelow : ℕ → Type 0 = λ id. id < c.args.self.now.size / c.args.self.now.block_size in
     passed_on _ _ _ c.from_residual-in_err-old.ensures.1
-    (λ stored array held has honest. c.in_err-old.ensures.known stored array held has honest
+    (λ stored array held has tell. c.in_err-old.ensures.known stored array held has tell
     (subst (All IsBelow) (sym c.deref.ensures.value) (all_needed IsOut IsBelow c.args.ids.now c.in_ok-needed.needed.items c.in_ok-needed.ensures c.requires.ids)))
 
 pub laid_all-requires-clause-old : goal.laid_all-requires-clause-old
@@ -54,14 +54,14 @@ returns-in_err-laid_all-clause-unread g c = λ all.
     c.whole_blocks.ensures.idle (c.deref.ensures.value ∙ none_needed IsOut (λ id same. same ≡ id) c.args.ids.now c.in_ok-needed.needed.items c.in_ok-needed.ensures all)
 
 pub returns-clause-value : goal.returns-clause-value
-returns-clause-value g c = λ stored volume held named writable has honest.
+returns-clause-value g c = λ stored volume held named writable has tell.
     let IsOut : ℕ → Type 0 = IsCovered c.args.self.now c.args.changes.now.name.now c.args.changes.now.items.now.writes in
     let IsBelow : ℕ → Type 0 = λ id. id < c.args.self.now.size / c.args.self.now.block_size in
     let Has : ℕ → Vec ℕ Global → Type 0 = λ id bytes. bytes.items ≡ part volume.bytes c.args.self.now.block_size id in
     c.in_ok-laid_all.ensures.value volume named writable has.data_is.size_is
     (in_turn_items IsOut Has c.args.ids.now c.in_ok-needed.needed.items c.in_ok-old.old.items c.in_ok-needed.ensures
     (subst (λ (ids : List ℕ). AllZip Has ids c.in_ok-old.old.items) c.deref.ensures.value
-    (c.in_ok-old.ensures.value stored volume.bytes held has honest
+    (c.in_ok-old.ensures.value stored volume.bytes held has tell
     (subst (All IsBelow) (sym c.deref.ensures.value) (all_needed IsOut IsBelow c.args.ids.now c.in_ok-needed.needed.items c.in_ok-needed.ensures c.requires.ids)))))
 
 pub returns-clause-found : goal.returns-clause-found

@@ -6,7 +6,7 @@ use Rattle.std.proofs.lemmas.Result.{IfOk-weaker, IfErr-weaker}
 use Rattle.block_store.proofs.Steps.{reads_on}
 use Rattle.block_store.specs.Spaces.{VdevSpace}
 use Rattle.dnode.specs.declared.object_set.ObjectSet.{ObjectSet}
-use Rattle.dnode_tree.proofs.FurtherReads.{true_before, true_after}
+use Rattle.dnode_tree.proofs.FurtherReads.{told_before, told_after}
 use Rattle.dnode_tree.proofs.Refusing.{ok_both}
 use Rattle.dnode_tree.specs.declared.writes.BlockWrite.{BlockWrite}
 use Rattle.volume.specs.Reading.{IsFound, IsWayRead}
@@ -24,7 +24,7 @@ returns-then-is_empty-clause-changed g c =
     (empty_ids c.new.result.items c.in_ok-ids.ids.items c.new.ensures.items none) c.in_ok-ids.ensures.ids
 
 pub returns-then-is_empty-clause-value : goal.returns-then-is_empty-clause-value
-returns-then-is_empty-clause-value g c = λ stored volume held named writable is honest.
+returns-then-is_empty-clause-value g c = λ stored volume held named writable is tell.
     let none : length c.in_ok-ids.ids.items ≡ 0 = grind (arith, nat_tests, c.is_empty.ensures, c.if-is_empty.true) in
     after_is_with c.args.self.now volume c.args.changes.now.name.now c.args.changes.now.items.now.writes c.new.result.items named is.has.data_is.size_is
     (same_ids c.new.result.items c.in_ok-ids.ids.items (IsChanged c.args.self.now c.args.changes.now.name.now c.args.changes.now.items.now.writes)
@@ -41,7 +41,7 @@ returns-in_err-set-clause-refused g c = passed_on _ _ _ c.from_residual-in_err-s
 
 pub returns-in_err-set-clause-known : goal.returns-in_err-set-clause-known
 returns-in_err-set-clause-known g c =
-    passed_on _ _ _ c.from_residual-in_err-set.ensures.1 (λ stored array held is honest. c.in_err-set.ensures.known stored _ array held is (omega arith) honest)
+    passed_on _ _ _ c.from_residual-in_err-set.ensures.1 (λ stored array held is tell. c.in_err-set.ensures.known stored _ array held is (omega arith) tell)
 
 pub blocks_of-requires-clause-ids : goal.blocks_of-requires-clause-ids
 blocks_of-requires-clause-ids g c =
@@ -73,12 +73,12 @@ returns-clause-value g c =
     let first = c.in_ok-set.ensures.reads in
     let rest = c.blocks_of.ensures.reads in
     IfOk-weaker c.blocks_of.result _ _
-    (λ blocks both stored volume held named writable is honest.
+    (λ blocks both stored volume held named writable is tell.
     after_is_with c.args.self.now volume c.args.changes.now.name.now c.args.changes.now.items.now.writes blocks.items named is.has.data_is.size_is
     (same_ids blocks.items c.in_ok-ids.ids.items (IsChanged c.args.self.now c.args.changes.now.name.now c.args.changes.now.items.now.writes) (both.0 ∙ c.deref.ensures.value) c.in_ok-ids.ensures.ids)
     (both.1 stored volume (first.keeps stored held) named writable
-    (subst (λ (set : ObjectSet). HasData stored _ set _ _ volume.bytes) (sym (c.in_ok-set.ensures.value stored _ _ held is (omega arith) (true_before _ _ _ _ first rest honest))) is.has)
-    (true_after _ _ _ _ first rest honest)))
+    (subst (λ (set : ObjectSet). HasData stored _ set _ _ volume.bytes) (sym (c.in_ok-set.ensures.value stored _ _ held is (omega arith) (told_before _ _ _ _ first rest tell))) is.has)
+    (told_after _ _ _ _ first rest tell)))
     (ok_both c.blocks_of.result _ _ c.blocks_of.ensures.ids c.blocks_of.ensures.value)
 
 pub returns-clause-found : goal.returns-clause-found
@@ -125,10 +125,10 @@ returns-clause-known g c =
     let first = c.in_ok-set.ensures.reads in
     let rest = c.blocks_of.ensures.reads in
     IfErr-weaker c.blocks_of.result _ _
-    (λ refusal known stored array held is honest.
+    (λ refusal known stored array held is tell.
     known stored array (first.keeps stored held)
-    (subst (λ (set : ObjectSet). HasData stored _ set _ _ array) (sym (c.in_ok-set.ensures.value stored _ _ held is (omega arith) (true_before _ _ _ _ first rest honest))) is.has)
-    (true_after _ _ _ _ first rest honest))
+    (subst (λ (set : ObjectSet). HasData stored _ set _ _ array) (sym (c.in_ok-set.ensures.value stored _ _ held is (omega arith) (told_before _ _ _ _ first rest tell))) is.has)
+    (told_after _ _ _ _ first rest tell))
     c.blocks_of.ensures.known
 
 pub returns-in_err-set-clause-caused : goal.returns-in_err-set-clause-caused

@@ -7,12 +7,12 @@ use Rattle.volume.proofs.volume.VolumeSet.create.Goals as goal
 
 pub returns-in_err-planned-clause-known : goal.returns-in_err-planned-clause-known
 returns-in_err-planned-clause-known g c =
-    passed_on _ _ _ c.from_residual.ensures.1 (λ stored planned plans honest.
-    c.in_err-planned.ensures.known stored planned 0 (λ number. None) [] (λ number. []) plans (no_objects stored 0 _ refl) (omega arith) (omega arith) refl honest)
+    passed_on _ _ _ c.from_residual.ensures.1 (λ stored planned plans tell.
+    c.in_err-planned.ensures.known stored planned 0 (λ number. None) [] (λ number. []) plans (no_objects stored 0 _ refl) (omega arith) (omega arith) refl tell)
 
 pub returns-clause-value : goal.returns-clause-value
-returns-clause-value g c = λ stored planned plans honest.
-    let did = c.in_ok-planned.ensures.value stored planned 0 (λ number. None) [] (λ number. []) plans (no_objects stored 0 _ refl) (omega arith) honest in (
+returns-clause-value g c = λ stored planned plans tell.
+    let did = c.in_ok-planned.ensures.value stored planned 0 (λ number. None) [] (λ number. []) plans (no_objects stored 0 _ refl) (omega arith) tell in (
       did.0,
       did.1,
       λ block bytes known. did.2.adds.kept block bytes (did.2.objects_are.kept block bytes known),

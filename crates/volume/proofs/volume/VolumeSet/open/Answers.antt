@@ -2,7 +2,7 @@ use Rattle.std.proofs.Common.{◌≡◌, ◌∙◌, true, false, true≢false, L
 use Rattle.block_store.proofs.Steps.{reads_on}
 use Rattle.block_store.specs.Spaces.{VdevSpace}
 use Rattle.dnode.specs.declared.object_set.ObjectSet.{ObjectSet}
-use Rattle.dnode_tree.proofs.FurtherReads.{true_before, true_after}
+use Rattle.dnode_tree.proofs.FurtherReads.{told_before, told_after}
 use Rattle.objset.specs.Objects.{AreObjects}
 use Rattle.volume.specs.Reading.{IsObjectFound}
 use Rattle.volume.proofs.Judging.{data_shape, judged}
@@ -16,8 +16,8 @@ returns-in_err-set-clause-refused g c = passed_on _ _ _ c.from_residual.ensures.
 
 pub returns-in_err-set-clause-known : goal.returns-in_err-set-clause-known
 returns-in_err-set-clause-known g c =
-    passed_on _ _ _ c.from_residual.ensures.1 (λ stored bound array held is le honest.
-    c.in_err-set.ensures.known stored is.set held (set_later stored bound c.args.birth c.args.self.now.block is.set le is.is_set) honest)
+    passed_on _ _ _ c.from_residual.ensures.1 (λ stored bound array held is le tell.
+    c.in_err-set.ensures.known stored is.set held (set_later stored bound c.args.birth c.args.self.now.block is.set le is.is_set) tell)
 
 pub returns-then-not-is_of_volume-clause-refused : goal.returns-then-not-is_of_volume-clause-refused
 returns-then-not-is_of_volume-clause-refused g c =
@@ -31,9 +31,9 @@ returns-then-not-is_of_volume-clause-refused g c =
     ))
 
 pub returns-then-not-is_of_volume-clause-known : goal.returns-then-not-is_of_volume-clause-known
-returns-then-not-is_of_volume-clause-known g c = λ stored bound array held is le honest.
+returns-then-not-is_of_volume-clause-known g c = λ stored bound array held is le tell.
     let same : c.in_ok-set.set ≡ is.set =
-    c.in_ok-set.ensures.value stored is.set held (set_later stored bound c.args.birth c.args.self.now.block is.set le is.is_set) honest in
+    c.in_ok-set.ensures.value stored is.set held (set_later stored bound c.args.birth c.args.self.now.block is.set le is.is_set) tell in
     let no : false ≡ true = c.if-not-is_of_volume.ensures.1 (ap (λ set. set.kind) same ∙ is.kind) in
     absurd (true≢false (sym no))
 
@@ -54,12 +54,12 @@ pub returns-in_err-found-clause-known : goal.returns-in_err-found-clause-known
 returns-in_err-found-clause-known g c =
     let first = c.in_ok-set.ensures.reads in
     let rest = c.in_err-found.ensures.reads in
-    passed_on _ _ _ c.from_residual-in_err-found.ensures.1 (λ stored bound array held is le honest.
+    passed_on _ _ _ c.from_residual-in_err-found.ensures.1 (λ stored bound array held is le tell.
     let same : c.in_ok-set.set ≡ is.set =
-    c.in_ok-set.ensures.value stored is.set held (set_later stored bound c.args.birth c.args.self.now.block is.set le is.is_set) (true_before _ _ _ _ first rest honest) in
+    c.in_ok-set.ensures.value stored is.set held (set_later stored bound c.args.birth c.args.self.now.block is.set le is.is_set) (told_before _ _ _ _ first rest tell) in
     c.in_err-found.ensures.known stored is.has.objects is.has.own is.has.blocks (first.keeps stored held)
     (subst (λ (set : ObjectSet). AreObjects stored c.args.self.now.block.birth set is.has.objects is.has.own is.has.blocks) (sym same) is.has.are)
-    (true_after _ _ _ _ first rest honest))
+    (told_after _ _ _ _ first rest tell))
 
 pub returns-then-not-has_shape-clause-reads : goal.returns-then-not-has_shape-clause-reads
 returns-then-not-has_shape-clause-reads g c = reads_on _ _ _ _ c.in_ok-set.ensures.reads c.in_ok-found.ensures.reads
@@ -81,14 +81,14 @@ returns-then-not-has_shape-clause-refused g c =
     ))
 
 pub returns-then-not-has_shape-clause-known : goal.returns-then-not-has_shape-clause-known
-returns-then-not-has_shape-clause-known g c = λ stored bound array held is le honest.
+returns-then-not-has_shape-clause-known g c = λ stored bound array held is le tell.
     let first = c.in_ok-set.ensures.reads in
     let rest = c.in_ok-found.ensures.reads in
     let same : c.in_ok-set.set ≡ is.set =
-    c.in_ok-set.ensures.value stored is.set held (set_later stored bound c.args.birth c.args.self.now.block is.set le is.is_set) (true_before _ _ _ _ first rest honest) in
+    c.in_ok-set.ensures.value stored is.set held (set_later stored bound c.args.birth c.args.self.now.block is.set le is.is_set) (told_before _ _ _ _ first rest tell) in
     let shape = c.in_ok-found.ensures.value stored is.has.objects is.has.own is.has.blocks (first.keeps stored held)
     (subst (λ (set : ObjectSet). AreObjects stored c.args.self.now.block.birth set is.has.objects is.has.own is.has.blocks) (sym same) is.has.are)
-    (true_after _ _ _ _ first rest honest) in
+    (told_after _ _ _ _ first rest tell) in
     let no : false ≡ true = c.if-not-has_shape.ensures.1 (data_shape c.args.self.now is.has.objects array c.in_ok-found.found is.has.data_is shape) in
     absurd (true≢false (sym no))
 
@@ -96,9 +96,9 @@ pub returns-clause-reads : goal.returns-clause-reads
 returns-clause-reads g c = reads_on _ _ _ _ c.in_ok-set.ensures.reads c.in_ok-found.ensures.reads
 
 pub returns-clause-value : goal.returns-clause-value
-returns-clause-value g c = λ stored bound array held is le honest.
+returns-clause-value g c = λ stored bound array held is le tell.
     c.in_ok-set.ensures.value stored is.set held (set_later stored bound c.args.birth c.args.self.now.block is.set le is.is_set)
-    (true_before _ _ _ _ c.in_ok-set.ensures.reads c.in_ok-found.ensures.reads honest)
+    (told_before _ _ _ _ c.in_ok-set.ensures.reads c.in_ok-found.ensures.reads tell)
 
 pub returns-clause-found : goal.returns-clause-found
 returns-clause-found g c =

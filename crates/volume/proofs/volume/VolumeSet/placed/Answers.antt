@@ -6,7 +6,7 @@ use Rattle.volume.proofs.Putting.{stays_with, no_items}
 use Rattle.volume.proofs.volume.VolumeSet.placed.Goals as goal
 
 pub returns-then-is_empty-clause-value : goal.returns-then-is_empty-clause-value
-returns-then-is_empty-clause-value g c = λ stored planned bound array plans is le honest.
+returns-then-is_empty-clause-value g c = λ stored planned bound array plans is le tell.
     let none : c.args.blocks.items ≡ [] = no_items c.args.blocks.items (grind (arith, nat_tests, c.is_empty.ensures, c.if-is_empty.true)) in (
       planned,
       plans,
@@ -21,7 +21,7 @@ returns-clause-idle g c = λ none. absurd (grind (arith, nat_tests, c.is_empty.e
 pub returns-clause-value : goal.returns-clause-value
 returns-clause-value g c =
     IfOk-weaker c.put.result _ _
-    (λ done value stored planned bound array plans is le honest. let did = value stored planned bound array plans is le honest in (did.0, did.1, did.2, did.3, λ some. did.4))
+    (λ done value stored planned bound array plans is le tell. let did = value stored planned bound array plans is le tell in (did.0, did.1, did.2, did.3, λ some. did.4))
     c.put.ensures.value
 
 pub returns-then-is_empty-clause-steps : goal.returns-then-is_empty-clause-steps

@@ -1,6 +1,7 @@
 use Rattle.std.proofs.Common.{◌≡◌, [], inl, inr, refl, sym, subst, arith}
 use Rattle.block_pointer.specs.declared.block.Block.{Block}
-use Rattle.block_store.proofs.Steps.{steps_read, steps_on, true_before, true_after}
+use Rattle.block_store.proofs.Steps.{steps_read, steps_on}
+use Rattle.block_store.proofs.Telling.{tell_after, tell_before}
 use Rattle.dnode.specs.declared.object_set.ObjectSet.{ObjectSet}
 use Rattle.dnode_tree.proofs.Losses.{loss_in_plan}
 use Rattle.objset.specs.Objects.{AreObjects}
@@ -17,8 +18,8 @@ returns-in_err-set-clause-steps g c = steps_read _ _ _ c.in_err-set.ensures.read
 
 pub returns-in_err-set-clause-known : goal.returns-in_err-set-clause-known
 returns-in_err-set-clause-known g c =
-    passed_on _ _ _ c.from_residual.ensures.1 (λ stored planned bound array plans is le honest.
-    loss_in_plan _ (c.in_err-set.ensures.known stored bound array plans.held is le honest))
+    passed_on _ _ _ c.from_residual.ensures.1 (λ stored planned bound array plans is le tell.
+    loss_in_plan _ (c.in_err-set.ensures.known stored bound array plans.held is le tell))
 
 pub plan_change-requires-clause-good : goal.plan_change-requires-clause-good
 plan_change-requires-clause-good g c = good_writes c.args.self.now c.args.blocks.items c.requires.blocks
@@ -34,36 +35,36 @@ returns-in_err-planned-clause-no_room g c =
 pub returns-in_err-planned-clause-known : goal.returns-in_err-planned-clause-known
 returns-in_err-planned-clause-known g c =
     let first = steps_read c.args.store.now c.open.new.store [] c.in_ok-set.ensures.reads in
-    passed_on _ _ _ c.from_residual-in_err-planned.ensures.1 (λ stored planned bound array plans is le honest.
+    passed_on _ _ _ c.from_residual-in_err-planned.ensures.1 (λ stored planned bound array plans is le tell.
     let same : c.in_ok-set.set ≡ is.set =
     c.in_ok-set.ensures.value stored bound array plans.held is le
-    (true_before c.args.store.now c.open.new.store c.plan_change.new.store c.plan_change.ensures.steps.reads honest) in
+    (tell_before c.args.store.now c.open.new.store c.plan_change.new.store [] first c.plan_change.ensures.steps tell) in
     c.in_err-planned.ensures.known stored planned c.args.self.now.block.birth is.has.objects is.has.own is.has.blocks (c.in_ok-set.ensures.reads.plans stored planned plans)
     (subst (λ (set : ObjectSet). AreObjects stored c.args.self.now.block.birth set is.has.objects is.has.own is.has.blocks) (sym same) is.has.are) (omega arith)
     (let early = is.is_set.asks.birth in omega arith)
     (may_put c.args.self.now is.has.objects array c.args.blocks is.has.data_is c.requires.blocks)
-    (true_after c.args.store.now c.open.new.store c.plan_change.new.store first.reads honest))
+    (tell_after c.args.store.now c.open.new.store c.plan_change.new.store [] first c.plan_change.ensures.steps tell))
 
 pub returns-in_err-rewritten-clause-steps : goal.returns-in_err-rewritten-clause-steps
 returns-in_err-rewritten-clause-steps g c = steps_on _ _ _ _ (steps_read _ _ _ c.in_ok-set.ensures.reads) c.plan_change.ensures.steps
 
 pub returns-in_err-rewritten-clause-known : goal.returns-in_err-rewritten-clause-known
 returns-in_err-rewritten-clause-known g c =
-    passed_on _ _ _ c.from_residual-in_err-rewritten.ensures.1 (λ stored planned bound array plans is le honest. inl (inl refl))
+    passed_on _ _ _ c.from_residual-in_err-rewritten.ensures.1 (λ stored planned bound array plans is le tell. inl (inl refl))
 
 pub returns-clause-steps : goal.returns-clause-steps
 returns-clause-steps g c = steps_on _ _ _ _ (steps_read _ _ _ c.in_ok-set.ensures.reads) c.plan_change.ensures.steps
 
 pub returns-clause-value : goal.returns-clause-value
-returns-clause-value g c = λ stored planned bound array plans is le honest.
+returns-clause-value g c = λ stored planned bound array plans is le tell.
     let first = steps_read c.args.store.now c.open.new.store [] c.in_ok-set.ensures.reads in
     let same : c.in_ok-set.set ≡ is.set =
     c.in_ok-set.ensures.value stored bound array plans.held is le
-    (true_before c.args.store.now c.open.new.store c.plan_change.new.store c.plan_change.ensures.steps.reads honest) in
+    (tell_before c.args.store.now c.open.new.store c.plan_change.new.store [] first c.plan_change.ensures.steps tell) in
     let did = c.in_ok-planned.ensures.value stored planned c.args.self.now.block.birth is.has.objects is.has.own is.has.blocks (c.in_ok-set.ensures.reads.plans stored planned plans)
     (subst (λ (set : ObjectSet). AreObjects stored c.args.self.now.block.birth set is.has.objects is.has.own is.has.blocks) (sym same) is.has.are)
     (let early = is.is_set.asks.birth in omega arith)
-    (true_after c.args.store.now c.open.new.store c.plan_change.new.store first.reads honest) in
+    (tell_after c.args.store.now c.open.new.store c.plan_change.new.store [] first c.plan_change.ensures.steps tell) in
     let planned_is : IsSetPlanned planned did.0 c.args.birth is.set (Put c.args.blocks) is.has.objects is.has.own is.has.blocks c.in_ok-planned.planned.block c.in_ok-planned.planned.replaced.items =
     subst (λ (set : ObjectSet). IsSetPlanned planned did.0 c.args.birth set (Put c.args.blocks) is.has.objects is.has.own is.has.blocks c.in_ok-planned.planned.block c.in_ok-planned.planned.replaced.items) same did.2 in (
       did.0,

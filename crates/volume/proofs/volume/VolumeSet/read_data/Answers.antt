@@ -27,12 +27,12 @@ pub returns-in_err-blocks-clause-known : goal.returns-in_err-blocks-clause-known
 returns-in_err-blocks-clause-known g c =
     let IsBelow : ℕ → Type 0 = λ id. id < c.args.self.now.size / c.args.self.now.block_size in
     passed_on _ _ _ c.from_residual-in_err-blocks.ensures.1
-    (λ stored array held has honest. c.in_err-blocks.ensures.known stored array held has honest
+    (λ stored array held has tell. c.in_err-blocks.ensures.known stored array held has tell
     (subst (All IsBelow) (sym c.deref.ensures.value)
     (λ k d low. lies_below c.args.self.now c.args.offset (c.args.offset + c.args.len) (get_or c.in_ok-ids.ids.items k d) c.requires.within (c.in_ok-ids.ensures.lie k d low))))
 
 pub returns-clause-value : goal.returns-clause-value
-returns-clause-value g c = λ stored array held has honest.
+returns-clause-value g c = λ stored array held has tell.
     let IsBelow : ℕ → Type 0 = λ id. id < c.args.self.now.size / c.args.self.now.block_size in
     let Has : ℕ → Vec ℕ Global → Type 0 = λ id bytes. bytes.items ≡ part array c.args.self.now.block_size id in
     let first : ℕ = c.args.offset / c.args.self.now.block_size in
@@ -42,7 +42,7 @@ returns-clause-value g c = λ stored array held has honest.
     c.in_ok-joined.ensures.value array has.data_is.size_is
     (subst (λ (blocks : List (Vec ℕ Global)). AllZip Has (range_with_len first (length c.deref-2.result.now)) blocks) (sym c.deref-2.ensures.value)
     (subst (λ (ids : List ℕ). AllZip Has ids c.in_ok-blocks.blocks.items) ids_are
-    (c.in_ok-blocks.ensures.value stored array held has honest
+    (c.in_ok-blocks.ensures.value stored array held has tell
     (subst (All IsBelow) (sym c.deref.ensures.value)
     (λ k d low. lies_below c.args.self.now c.args.offset (c.args.offset + c.args.len) (get_or c.in_ok-ids.ids.items k d) c.requires.within (c.in_ok-ids.ensures.lie k d low))))))
 

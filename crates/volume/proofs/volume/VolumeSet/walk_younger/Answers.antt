@@ -3,7 +3,7 @@ use Rattle.block_store.proofs.Steps.{reads_on}
 use Rattle.block_store.specs.Spaces.{VdevSpace}
 use Rattle.block_store.specs.Store.{Store}
 use Rattle.dnode.specs.declared.object_set.ObjectSet.{ObjectSet}
-use Rattle.dnode_tree.proofs.FurtherReads.{true_before, true_after}
+use Rattle.dnode_tree.proofs.FurtherReads.{told_before, told_after}
 use Rattle.dnode_tree.specs.Younger.{younger}
 use Rattle.objset.specs.Objects.{AreObjects}
 use Rattle.objset.specs.Within.{blocks_of_objects, blocks_of_set, reads_of}
@@ -14,7 +14,7 @@ use Rattle.block_store.proofs.Causes.{caused_behind_reads}
 use Rattle.volume.proofs.volume.VolumeSet.walk_younger.Goals as goal
 
 pub returns-then-self-since-clause-blocks : goal.returns-then-self-since-clause-blocks
-returns-then-self-since-clause-blocks g c = λ stored bound array held is le honest.
+returns-then-self-since-clause-blocks g c = λ stored bound array held is le tell.
     c.new.ensures.items ∙ sym (none_younger c.args.since stored bound c.args.self.now.size c.args.self.now.block_size array c.args.self.now.block is c.if-self-since.true)
 
 pub returns-then-self-since-clause-count : goal.returns-then-self-since-clause-count
@@ -25,9 +25,9 @@ returns-in_err-set-clause-refused g c = passed_on _ _ _ c.from_residual.ensures.
 
 pub returns-in_err-set-clause-known : goal.returns-in_err-set-clause-known
 returns-in_err-set-clause-known g c =
-    passed_on _ _ _ c.from_residual.ensures.1 (λ stored bound array held is le once enough honest.
+    passed_on _ _ _ c.from_residual.ensures.1 (λ stored bound array held is le once enough tell.
     c.in_err-set.ensures.known stored bound array held is le
-    (some_read c.args.since c.args.left.now c.args.self.now.block is.set is.has.own is.has.blocks c.if-self-since.false enough) honest)
+    (some_read c.args.since c.args.left.now c.args.self.now.block is.set is.has.own is.has.blocks c.if-self-since.false enough) tell)
 
 pub returns-in_err-below-clause-reads : goal.returns-in_err-below-clause-reads
 returns-in_err-below-clause-reads g c = reads_on _ _ _ _ c.in_ok-set.ensures.reads c.in_err-below.ensures.reads
@@ -51,15 +51,15 @@ pub returns-in_err-below-clause-known : goal.returns-in_err-below-clause-known
 returns-in_err-below-clause-known g c =
     let first = c.in_ok-set.ensures.reads in
     let rest = c.in_err-below.ensures.reads in
-    passed_on _ _ _ c.from_residual-in_err-below.ensures.1 (λ stored bound array held is le once enough honest.
+    passed_on _ _ _ c.from_residual-in_err-below.ensures.1 (λ stored bound array held is le once enough tell.
     let block = c.args.self.now.block in
-    let same : c.in_ok-set.set ≡ is.set = c.in_ok-set.ensures.value stored bound array held is le (true_before _ _ _ _ first rest honest) in
+    let same : c.in_ok-set.set ≡ is.set = c.in_ok-set.ensures.value stored bound array held is le (told_before _ _ _ _ first rest tell) in
     c.in_err-below.ensures.known stored is.has.objects is.has.own is.has.blocks (first.keeps stored held)
     (subst (λ (set : ObjectSet). AreObjects stored block.birth set is.has.objects is.has.own is.has.blocks) (sym same) is.has.are)
     (volume_once stored block.birth block is.set is.has.objects is.has.own is.has.blocks is.has.are once)
     (subst (λ (set : ObjectSet). reads_of (younger c.args.since is.has.own) (younger c.args.since (blocks_of_objects set is.has.blocks)) ≤ c.count_set.new.left) (sym same)
     (few_reads c.args.since c.count_set.new.left block is.set is.has.own is.has.blocks c.if-self-since.false (omega (arith, enough, c.in_ok-set.ensures.count))))
-    (true_after _ _ _ _ first rest honest))
+    (told_after _ _ _ _ first rest tell))
 
 pub returns-in_err-with_first-clause-reads : goal.returns-in_err-with_first-clause-reads
 returns-in_err-with_first-clause-reads g c = reads_on _ _ _ _ c.in_ok-set.ensures.reads c.in_ok-below.ensures.reads
@@ -69,22 +69,22 @@ returns-in_err-with_first-clause-refused g c = passed_on _ _ _ c.from_residual-i
 
 pub returns-in_err-with_first-clause-known : goal.returns-in_err-with_first-clause-known
 returns-in_err-with_first-clause-known g c =
-    passed_on _ _ _ c.from_residual-in_err-with_first.ensures.1 (λ stored bound array held is le once enough honest. inl refl)
+    passed_on _ _ _ c.from_residual-in_err-with_first.ensures.1 (λ stored bound array held is le once enough tell. inl refl)
 
 pub returns-clause-reads : goal.returns-clause-reads
 returns-clause-reads g c = reads_on _ _ _ _ c.in_ok-set.ensures.reads c.in_ok-below.ensures.reads
 
 pub returns-clause-blocks : goal.returns-clause-blocks
-returns-clause-blocks g c = λ stored bound array held is le honest.
+returns-clause-blocks g c = λ stored bound array held is le tell.
     let first = c.in_ok-set.ensures.reads in
     let rest = c.in_ok-below.ensures.reads in
     let block = c.args.self.now.block in
-    let same : c.in_ok-set.set ≡ is.set = c.in_ok-set.ensures.value stored bound array held is le (true_before _ _ _ _ first rest honest) in
+    let same : c.in_ok-set.set ≡ is.set = c.in_ok-set.ensures.value stored bound array held is le (told_before _ _ _ _ first rest tell) in
     c.in_ok-with_first.ensures
     ∙ ap (λ blocks. block ∷ blocks)
     (c.in_ok-below.ensures.blocks stored is.has.objects is.has.own is.has.blocks (first.keeps stored held)
     (subst (λ (set : ObjectSet). AreObjects stored block.birth set is.has.objects is.has.own is.has.blocks) (sym same) is.has.are)
-    (true_after _ _ _ _ first rest honest)
+    (told_after _ _ _ _ first rest tell)
     ∙ ap (λ (set : ObjectSet). younger c.args.since (blocks_of_set set is.has.own is.has.blocks)) same)
     ∙ first_younger c.args.since block is.set is.has.own is.has.blocks c.if-self-since.false
 

@@ -28,9 +28,9 @@ returns-in_err-found-clause-refused g c =
 pub returns-in_err-found-clause-known : goal.returns-in_err-found-clause-known
 returns-in_err-found-clause-known g c =
     passed_on _ _ _ c.from_residual.ensures.1
-    (λ stored array held has honest below.
+    (λ stored array held has tell below.
     ⊎_elim (λ loss. loss) (λ none. no_clash (has.objects 1) has.data_is.there has.data_is.there_is none.1)
-    (c.in_err-found.ensures.known stored has.objects has.own has.blocks held has.are honest))
+    (c.in_err-found.ensures.known stored has.objects has.own has.blocks held has.are tell))
 
 pub returns-clause-count : goal.returns-clause-count
 returns-clause-count g c =
@@ -41,7 +41,7 @@ returns-clause-count g c =
 pub returns-clause-value : goal.returns-clause-value
 returns-clause-value g c =
     IfOk-weaker c.all_whole.result _ _
-    (λ blocks are stored array held has honest below.
+    (λ blocks are stored array held has tell below.
     zip_weaker (λ id. id < c.args.self.now.size / c.args.self.now.block_size) _ _ c.args.ids.now blocks.items
     (λ id bytes low is. is low) below
     (zip_through
@@ -50,7 +50,7 @@ returns-clause-value g c =
     (λ id (bytes : Vec ℕ Global). id < c.args.self.now.size / c.args.self.now.block_size → bytes.items ≡ part array c.args.self.now.block_size id)
     c.args.ids.now c.in_ok-found.found.items blocks.items
     (λ id block bytes has_it is low. same_bytes c.args.self.now.block_size (bytes_of block) bytes.items _ is (block_has stored _ _ _ _ array has (bytes_of block) id has_it low))
-    (c.in_ok-found.ensures.value stored has.objects has.own has.blocks held has.are honest) are))
+    (c.in_ok-found.ensures.value stored has.objects has.own has.blocks held has.are tell) are))
     c.all_whole.ensures.value
 
 pub returns-clause-found : goal.returns-clause-found
@@ -77,11 +77,11 @@ returns-clause-refused g c =
 pub returns-clause-known : goal.returns-clause-known
 returns-clause-known g c =
     IfErr-weaker c.all_whole.result _ _
-    (λ refusal why stored array held has honest below.
+    (λ refusal why stored array held has tell below.
     ⊎_elim (λ memory. inl memory)
     (λ bad.
     let there = zip_right _ c.args.ids.now c.in_ok-found.found.items bad.1.0 bad.1.1
-    (c.in_ok-found.ensures.value stored has.objects has.own has.blocks held has.are honest) bad.1.2 bad.1.3 in
+    (c.in_ok-found.ensures.value stored has.objects has.own has.blocks held has.are tell) bad.1.2 bad.1.3 in
     absurd (bad.1.4.2 (block_len stored _ _ _ _ array bad.1.4.0 has (bytes_of bad.1.1) there.0 there.2
     (All-contains (λ id. id < c.args.self.now.size / c.args.self.now.block_size) c.args.ids.now there.0 below there.1) bad.1.4.1)))
     why)

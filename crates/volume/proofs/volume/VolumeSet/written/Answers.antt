@@ -1,6 +1,7 @@
 use Rattle.std.proofs.Common.{◌∙◌, [], inl, inr, ⊎_elim}
 use Rattle.std.proofs.lemmas.Result.{IfOk-weaker, IfErr-weaker, on_ok_weaker}
-use Rattle.block_store.proofs.Steps.{steps_read, steps_on, true_before, true_after}
+use Rattle.block_store.proofs.Steps.{steps_read, steps_on}
+use Rattle.block_store.proofs.Telling.{tell_after, tell_before}
 use Rattle.dnode_tree.proofs.Losses.{loss_in_plan}
 use Rattle.volume_rules.specs.Overlay.{after_writes}
 use Rattle.volume.proofs.Demanding.{all_behind}
@@ -15,7 +16,7 @@ returns-in_err-blocks-clause-steps g c = steps_read _ _ _ c.in_err-blocks.ensure
 
 pub returns-in_err-blocks-clause-known : goal.returns-in_err-blocks-clause-known
 returns-in_err-blocks-clause-known g c =
-    passed_on _ _ _ c.from_residual.ensures.1 (λ stored planned array plans is le honest. loss_in_plan _ (c.in_err-blocks.ensures.known stored array plans.held is honest))
+    passed_on _ _ _ c.from_residual.ensures.1 (λ stored planned array plans is le tell. loss_in_plan _ (c.in_err-blocks.ensures.known stored array plans.held is tell))
 
 pub returns-clause-steps : goal.returns-clause-steps
 returns-clause-steps g c = steps_on _ _ _ _ (steps_read _ _ _ c.in_ok-blocks.ensures.reads) c.placed.ensures.steps
@@ -28,14 +29,14 @@ pub returns-clause-value : goal.returns-clause-value
 returns-clause-value g c =
     let first = steps_read c.args.store.now c.changed_blocks.new.store [] c.in_ok-blocks.ensures.reads in
     IfOk-weaker c.placed.result _ _
-    (λ done value stored planned volume plans named writable is le honest.
+    (λ done value stored planned volume plans named writable is le tell.
     let did = value stored planned c.args.birth_before volume.bytes (c.in_ok-blocks.ensures.reads.plans stored planned plans) is le
-    (true_after c.args.store.now c.changed_blocks.new.store c.placed.new.store first.reads honest) in (
+    (tell_after c.args.store.now c.changed_blocks.new.store c.placed.new.store [] first c.placed.ensures.steps tell) in (
       did.0,
       did.1,
       did.2,
       did.3 (after_writes volume c.args.changes.now.items.now.writes).bytes (c.in_ok-blocks.ensures.value stored volume plans.held named writable is
-          (true_before c.args.store.now c.changed_blocks.new.store c.placed.new.store c.placed.ensures.steps.reads honest)),
+          (tell_before c.args.store.now c.changed_blocks.new.store c.placed.new.store [] first c.placed.ensures.steps tell)),
     ))
     c.placed.ensures.value
 
@@ -49,9 +50,9 @@ pub returns-clause-known : goal.returns-clause-known
 returns-clause-known g c =
     let first = steps_read c.args.store.now c.changed_blocks.new.store [] c.in_ok-blocks.ensures.reads in
     IfErr-weaker c.placed.result _ _
-    (λ refusal known stored planned array plans is le honest.
+    (λ refusal known stored planned array plans is le tell.
     known stored planned c.args.birth_before array (c.in_ok-blocks.ensures.reads.plans stored planned plans) is le
-    (true_after c.args.store.now c.changed_blocks.new.store c.placed.new.store first.reads honest))
+    (tell_after c.args.store.now c.changed_blocks.new.store c.placed.new.store [] first c.placed.ensures.steps tell))
     c.placed.ensures.known
 
 pub returns-in_err-blocks-clause-refused : goal.returns-in_err-blocks-clause-refused

@@ -21,5 +21,5 @@ returns g c =
     record { follows = has.follows; name = has.name; flushed = tt; refused = has.same; caused = has.caused }
 
 pub returns-then-self-eq0-clause-flushed : goal.returns-then-self-eq0-clause-flushed
-returns-then-self-eq0-clause-flushed g c contents shows truly =
+returns-then-self-eq0-clause-flushed g c contents shows tell =
     (contents, shows, record { now = refl; safe = shows_safe g.P.PoolSteps g.met.P.PoolSteps.is_sound c.args.self.now contents c.requires.goes_on c.if-self-eq0.true shows })

@@ -10,13 +10,13 @@ pub returns-clause-flushed : goal.returns-clause-flushed
 returns-clause-flushed g c =
     let p = g.P.PoolSteps in
     let first = c.in_ok-release.ensures in
-    on_ok_weaker c.commit.result (same_then p g.met.P.PoolSteps.parts_are_true c.args.self.now c.release.new.self c.commit.new.self IsFlushed first.follows c.commit.ensures.follows first.same) c.commit.ensures.flushed
+    on_ok_weaker c.commit.result (same_then p g.met.P.PoolSteps.parts_tell c.args.self.now c.release.new.self c.commit.new.self IsFlushed first.follows c.commit.ensures.follows first.same) c.commit.ensures.flushed
 
 pub returns-clause-refused : goal.returns-clause-refused
 returns-clause-refused g c =
     let p = g.P.PoolSteps in
     let first = c.in_ok-release.ensures in
-    IfErr-weaker c.commit.result _ _ (λ (cause : Refusal). same_then p g.met.P.PoolSteps.parts_are_true c.args.self.now c.release.new.self c.commit.new.self IsSame first.follows c.commit.ensures.follows first.same) c.commit.ensures.refused
+    IfErr-weaker c.commit.result _ _ (λ (cause : Refusal). same_then p g.met.P.PoolSteps.parts_tell c.args.self.now c.release.new.self c.commit.new.self IsSame first.follows c.commit.ensures.follows first.same) c.commit.ensures.refused
 
 pub returns-clause-caused : goal.returns-clause-caused
 returns-clause-caused g c =

@@ -12,7 +12,7 @@ returns-in-Held-clause-same g c =
     let old = c.args.self.now in
     let taken = c.take_step-reply in
     hold_leads p g.met.P.PoolSteps.is_sound old taken.new.self c.in-Held.field-0 c.requires c.if-self.false
-    (subst (λ (r : Reply). Goes p.represents p.answers_truly p.links old.core (Hold 1) r taken.new.self) c.in-Held.is taken.ensures.goes)
+    (subst (λ (r : Reply). Goes p.represents p.answers_tell p.links old.core (Hold 1) r taken.new.self) c.in-Held.is taken.ensures.goes)
 
 pub returns : goal.returns
 returns g c =

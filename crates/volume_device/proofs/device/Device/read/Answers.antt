@@ -22,7 +22,7 @@ returns-in_err-piece-clause-refused g c =
     let new = c.read_piece-in-loop-done.new.self in
     let call = c.in_err-piece.ensures in
     passed_on c.from_residual-in_err-piece.result c.in_err-piece.field-0.0 (λ cause. Leads p old new IsSame) c.from_residual-in_err-piece.ensures.1
-    (then_stays p g.met.P.PoolSteps.parts_are_true old c.args.offset c.args.len c.loop-done.done c.loop-done.bytes.items c.loop-done.self new c.loop-done.invariant call.follows call.refused)
+    (then_stays p g.met.P.PoolSteps.parts_tell old c.args.offset c.args.len c.loop-done.done c.loop-done.bytes.items c.loop-done.self new c.loop-done.invariant call.follows call.refused)
 
 pub returns-in_err-piece-clause-caused : goal.returns-in_err-piece-clause-caused
 returns-in_err-piece-clause-caused g c =
@@ -49,7 +49,7 @@ loop-done-preserved g c =
     let p = g.P.PoolSteps in
     let laws = g.met.P.PoolSteps in
     let call = c.in_ok-piece.ensures in
-    with_more p laws.came_further laws.parts_are_true c.args.self.now c.loop-done.self c.read_piece-in-loop-done.new.self c.args.offset c.args.len c.loop-done.done c.min-more.result c.in-Some.at c.loop-done.bytes.items c.in_ok-piece.piece
+    with_more p laws.came_further laws.parts_tell c.args.self.now c.loop-done.self c.read_piece-in-loop-done.new.self c.args.offset c.args.len c.loop-done.done c.min-more.result c.in-Some.at c.loop-done.bytes.items c.in_ok-piece.piece
     c.as_slice.result.now c.append.new.bytes.items c.loop-done.invariant (omega (arith, c.in-Some.ensures)) (omega (arith, c.min-more.ensures)) call.follows call.kept call.read c.as_slice.ensures c.in_ok-append.ensures.appended
 
 pub loop-done-preserved-in_ok-append : goal.loop-done-preserved-in_ok-append
@@ -57,7 +57,7 @@ loop-done-preserved-in_ok-append g c =
     let p = g.P.PoolSteps in
     let laws = g.met.P.PoolSteps in
     let call = c.in_ok-piece.ensures in
-    with_more p laws.came_further laws.parts_are_true c.args.self.now c.loop-done.self c.read_piece-in-loop-done.new.self c.args.offset c.args.len c.loop-done.done c.min-more.result c.in-Some.at c.loop-done.bytes.items c.in_ok-piece.piece
+    with_more p laws.came_further laws.parts_tell c.args.self.now c.loop-done.self c.read_piece-in-loop-done.new.self c.args.offset c.args.len c.loop-done.done c.min-more.result c.in-Some.at c.loop-done.bytes.items c.in_ok-piece.piece
     c.as_slice.result.now c.append.new.bytes.items c.loop-done.invariant (omega (arith, c.in-Some.ensures)) (omega (arith, c.min-more.ensures)) call.follows call.kept call.read c.as_slice.ensures c.in_ok-append.ensures.appended
 
 pub returns-clause-read : goal.returns-clause-read
@@ -78,5 +78,5 @@ returns-in_err-append-clause-refused g c =
     let piece = c.in_ok-piece.piece in
     passed_on c.from_residual-in_err-append.result c.in_err-append.field-0.0 (λ cause. Leads p old new IsSame) c.from_residual-in_err-append.ensures.1
     (stays p old c.args.offset c.args.len (c.loop-done.done + c.min-more.result) (bytes ++ piece) new
-    (more p laws.came_further laws.parts_are_true old c.loop-done.self new c.args.offset c.args.len c.loop-done.done c.min-more.result c.in-Some.at bytes piece c.loop-done.invariant (omega (arith, c.in-Some.ensures)) (omega (arith, c.min-more.ensures))
+    (more p laws.came_further laws.parts_tell old c.loop-done.self new c.args.offset c.args.len c.loop-done.done c.min-more.result c.in-Some.at bytes piece c.loop-done.invariant (omega (arith, c.in-Some.ensures)) (omega (arith, c.min-more.ensures))
     call.follows call.kept call.read))

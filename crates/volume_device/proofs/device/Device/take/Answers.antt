@@ -15,7 +15,7 @@ returns-in-Receipt-clause-written g c =
     take_leads p g.met.P.PoolSteps.is_sound old taken.new.self x c.in-Receipt.field-0 c.saturating_add-self.result c.saturating_add-self-in-Receipt.result c.requires.goes_on c.requires.held c.requires.numbered.0 c.requires.numbered.1
     (λ below. next_number old.number c.saturating_add-self.result below c.saturating_add-self.ensures)
     (still_some old.pending c.len-len.result c.saturating_add-self-in-Receipt.result c.saturating_add-self-in-Receipt.ensures (omega (arith, c.len-len.ensures, c.requires.some)))
-    (subst (λ (r : Reply). Goes p.represents p.answers_truly p.links old.core (WriteStep x) r taken.new.self) c.in-Receipt.is taken.ensures.goes)
+    (subst (λ (r : Reply). Goes p.represents p.answers_tell p.links old.core (WriteStep x) r taken.new.self) c.in-Receipt.is taken.ensures.goes)
 
 pub returns : goal.returns
 returns g c =

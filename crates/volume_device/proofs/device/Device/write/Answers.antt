@@ -9,13 +9,13 @@ returns-in-Some-clause-refused g c = none_written g.P.PoolSteps c.args.self.now 
 pub returns-clause-written : goal.returns-clause-written
 returns-clause-written g c =
     let first = c.in_ok-write_pieces.ensures in
-    on_ok_weaker c.settle.result (then_settled g.P.PoolSteps g.met.P.PoolSteps.parts_are_true c.args.self.now c.write_pieces.new.self c.settle.new.self c.args.offset c.args.bytes.now first.follows c.settle.ensures.follows first.written) c.settle.ensures.settled
+    on_ok_weaker c.settle.result (then_settled g.P.PoolSteps g.met.P.PoolSteps.parts_tell c.args.self.now c.write_pieces.new.self c.settle.new.self c.args.offset c.args.bytes.now first.follows c.settle.ensures.follows first.written) c.settle.ensures.settled
 
 pub returns-clause-refused : goal.returns-clause-refused
 returns-clause-refused g c =
     let first = c.in_ok-write_pieces.ensures in
     IfErr-weaker c.settle.result _ _
-    (λ (cause : Refusal). then_not_settled g.P.PoolSteps g.met.P.PoolSteps.parts_are_true c.args.self.now c.write_pieces.new.self c.settle.new.self c.args.offset c.args.bytes.now first.follows c.settle.ensures.follows first.written) c.settle.ensures.refused
+    (λ (cause : Refusal). then_not_settled g.P.PoolSteps g.met.P.PoolSteps.parts_tell c.args.self.now c.write_pieces.new.self c.settle.new.self c.args.offset c.args.bytes.now first.follows c.settle.ensures.follows first.written) c.settle.ensures.refused
 
 pub returns-clause-caused : goal.returns-clause-caused
 returns-clause-caused g c =

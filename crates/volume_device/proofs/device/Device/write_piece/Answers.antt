@@ -25,14 +25,14 @@ returns-clause-written g c =
     let is = c.in_ok-write.ensures.write in
     on_ok_weaker c.take.result
     (λ leads. subst (λ (x : Write). Leads p old new (IsWrittenOn x.volume x.offset x.bytes)) is
-    (same_then p g.met.P.PoolSteps.parts_are_true old mid new (IsWrittenOn c.in_ok-write.write.volume c.in_ok-write.write.offset c.in_ok-write.write.bytes) first.follows c.take.ensures.follows first.same leads))
+    (same_then p g.met.P.PoolSteps.parts_tell old mid new (IsWrittenOn c.in_ok-write.write.volume c.in_ok-write.write.offset c.in_ok-write.write.bytes) first.follows c.take.ensures.follows first.same leads))
     c.take.ensures.written
 
 pub returns-clause-refused : goal.returns-clause-refused
 returns-clause-refused g c =
     let p = g.P.PoolSteps in
     let first = c.in_ok-hold.ensures in
-    IfErr-weaker c.take.result _ _ (λ (cause : Refusal). same_then p g.met.P.PoolSteps.parts_are_true c.args.self.now c.hold.new.self c.take.new.self IsSame first.follows c.take.ensures.follows first.same) c.take.ensures.refused
+    IfErr-weaker c.take.result _ _ (λ (cause : Refusal). same_then p g.met.P.PoolSteps.parts_tell c.args.self.now c.hold.new.self c.take.new.self IsSame first.follows c.take.ensures.follows first.same) c.take.ensures.refused
 
 pub returns-clause-caused : goal.returns-clause-caused
 returns-clause-caused g c =

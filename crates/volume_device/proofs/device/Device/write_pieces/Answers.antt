@@ -19,7 +19,7 @@ returns-in_err-write_piece-clause-refused g c =
     let old = c.args.self.now in
     let new = c.write_piece.new.self in
     passed_on c.from_residual.result c.in_err-write_piece.field-0.0 (λ cause. Leads p old new (IsCutOff old.name c.args.offset c.args.bytes.now)) c.from_residual.ensures.1
-    (then_cut_off p g.met.P.PoolSteps.parts_are_true old c.args.offset c.args.bytes.now c.loop-done.done c.loop-done.self new c.loop-done.invariant c.in_err-write_piece.ensures.follows c.in_err-write_piece.ensures.refused)
+    (then_cut_off p g.met.P.PoolSteps.parts_tell old c.args.offset c.args.bytes.now c.loop-done.done c.loop-done.self new c.loop-done.invariant c.in_err-write_piece.ensures.follows c.in_err-write_piece.ensures.refused)
 
 pub returns-in_err-write_piece-clause-caused : goal.returns-in_err-write_piece-clause-caused
 returns-in_err-write_piece-clause-caused g c =
@@ -46,7 +46,7 @@ loop-done-preserved g c =
     let laws = g.met.P.PoolSteps in
     let one = c.parts_are_one.ensures in
     let call = c.in_ok-write_piece.ensures in
-    more p laws.came_further laws.parts_are_true one.fits one.now old c.loop-done.self new c.args.offset bytes done len c.in-Some.at (slice_range bytes done (done + len)) c.loop-done.invariant (omega (arith, c.in-Some.ensures))
+    more p laws.came_further laws.parts_tell one.fits one.now old c.loop-done.self new c.args.offset bytes done len c.in-Some.at (slice_range bytes done (done + len)) c.loop-done.invariant (omega (arith, c.in-Some.ensures))
     (ap (λ n. take n (drop done bytes)) (omega arith)) within call.follows call.name call.goes_on call.written
 
 pub returns-clause-written : goal.returns-clause-written
