@@ -13,7 +13,8 @@ use Rattle.pool_core.specs.Moves.{Moves}
 use Rattle.pool_core.specs.State.{CoreState, disks_of}
 use Rattle.pool_core.specs.Steps.{AnswersTellThroughout, CameFrom, IsPlanned, Link, TakesStep}
 use Rattle.pool_core.specs.Represents.{Represents}
-use Rattle.pool_core.proofs.Telling.{came_by, came_none, came_on, tell_first, tell_rest}
+use Rattle.pool_core.specs.Parts.{came_none, came_on, tell_first, tell_rest}
+use Rattle.pool_core.proofs.Telling.{came_by}
 
 -- ---- chains
 
@@ -71,6 +72,7 @@ parted : (old : CoreState) (steps : List Step) (replies : List Reply) (mid : Cor
     (came : CameFrom mid new) (moves : Moves step mid.commit new.commit) (flags : List Bool)
     → TellIn old (steps ++ step ∷ []) (replies ++ reply ∷ []) new (passes_more old steps replies mid step reply new passes came moves) flags
     → IsParted old steps replies mid passes reply new flags
+unfolding passes_more
 parted old [] [] mid step reply new passes came moves (trusted ∷ []) tell = record {
   front = [];
   last = trusted;
@@ -101,6 +103,7 @@ trusts replies = map (λ reply. true) replies
 
 pub tell_in : (old : CoreState) (steps : List Step) (replies : List Reply) (new : CoreState) (passes : Passes old steps replies new) → AnswersTellThroughout old new
     → TellIn old steps replies new passes (trusts replies)
+unfolding trusts
 tell_in old [] [] new passes tell = tt
 tell_in old (step ∷ steps) (reply ∷ replies) new passes tell =
     let rest = came_through passes.0 steps replies new passes.3 in

@@ -1,6 +1,5 @@
 -- What the disks answered, in the parts of a run.
-use Rattle.std.proofs.Common.{ℕ, ◌≡◌, inl, inr, [], Contains, refl, ap, ◌∙◌}
-use Rattle.model_disk.specs.Joint.{Disks}
+use Rattle.std.proofs.Common.{ℕ, ◌≡◌, inl, inr, [], Contains, refl, ap}
 use Rattle.raidz_io.specs.Reads.{OnlyReads, IsHonestSince}
 use Rattle.block_store.specs.Places.{shapes_of}
 use Rattle.block_store.specs.Steps.{AnswersTell, StaysLost}
@@ -13,16 +12,13 @@ use Rattle.pool_commit.specs.Calls.{GrewTo}
 use Rattle.pool_commit.specs.Reading.{OnlyReadsPool, PoolAnswersTell}
 use Rattle.pool_commit.specs.State.{State}
 use Rattle.pool_commit.specs.Writing.{PlansFrom}
-use Rattle.pool_commit.proofs.Growing.{GrewTo-on, true_after, true_before}
+use Rattle.pool_commit.proofs.Growing.{true_after, true_before}
 use Rattle.pool_commit.proofs.Made.{GrewTo-none}
 use Rattle.pool_core.specs.Moves.{Moves}
 use Rattle.pool_core.specs.State.{CoreState, disks_of}
 use Rattle.pool_core.specs.Steps.{AnswersTellThroughout, CameFrom}
 
 -- ---- what was lost stays lost
-
-nothing_more : (store : Store) → StaysLost store store
-nothing_more store = lost_same store store refl refl refl
 
 same_loss : (old new : State) → new ≡ old → StaysLost old.store new.store
 same_loss old new same =
@@ -69,33 +65,7 @@ still_lost (steps.ReadUnder group name offset len) old new moves = reads_lose_no
 pub came_by : (step : Step) (old new : CoreState) → GrewTo (disks_of old) (disks_of new) → Moves step old.commit new.commit → CameFrom old new
 came_by step old new grew moves = record { grew = grew; lost = still_lost step old.commit new.commit moves }
 
-pub came_none : (s : CoreState) → CameFrom s s
-came_none s = record { grew = GrewTo-none (disks_of s); lost = nothing_more s.commit.store }
-
-pub came_on : (old mid new : CoreState) → CameFrom old mid → CameFrom mid new → CameFrom old new
-came_on old mid new first rest = record {
-  grew = GrewTo-on (disks_of old) (disks_of mid) (disks_of new) first.grew rest.grew;
-  lost = record {
-    shapes = rest.lost.shapes ∙ first.lost.shapes;
-    out = λ disk held. rest.lost.out disk (first.lost.out disk held);
-    stale = λ birth disk held. rest.lost.stale birth disk (first.lost.stale birth disk held);
-  };
-}
-
--- ---- where answers tell throughout, they do in each part
-
-lost_at : (old new : Store) (disks : Disks) → StaysLost old new → StaysLost (record old { disks = disks }) (record new { disks = disks })
-lost_at old new disks lost = record { shapes = lost.shapes; out = lost.out; stale = lost.stale }
-
-pub tell_first : (old mid new : CoreState) → CameFrom mid new → AnswersTellThroughout old new → AnswersTellThroughout old mid
-tell_first old mid new rest tell from to part =
-    tell_between (record new.commit.store { disks = from }) (record new.commit.store { disks = to }) (record mid.commit.store { disks = from })
-    (record mid.commit.store { disks = to }) [] refl refl (lost_at mid.commit.store new.commit.store from rest.lost)
-    (tell from to (record { before = part.before; reads = part.reads; after = GrewTo-on to (disks_of mid) (disks_of new) part.after rest.grew }))
-
-pub tell_rest : (old mid new : CoreState) → CameFrom old mid → AnswersTellThroughout old new → AnswersTellThroughout mid new
-tell_rest old mid new first tell from to part =
-    tell from to (record { before = GrewTo-on (disks_of old) (disks_of mid) from first.grew part.before; reads = part.reads; after = part.after })
+-- ---- where answers tell throughout
 
 -- in a step that only reads
 only_reads : (old new : CoreState) → OnlyReads (disks_of old) (disks_of new) → StaysLost old.commit.store new.commit.store → AnswersTellThroughout old new

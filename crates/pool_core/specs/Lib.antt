@@ -7,6 +7,7 @@ pub mod Reading
 pub mod Moves
 pub mod Exporting
 pub mod Linked
+pub mod Parts
 pub use Rattle.pool_commit.specs.Contents
 pub use Rattle.pool_commit.specs.SnapshotsFinding
 pub use Rattle.pool_commit.specs.Mapped

@@ -1,5 +1,5 @@
 //! The core as those see it who run a pool.
-ghost use Rattle.pool_core.proofs.Telling.{came_none, came_on, tell_first, tell_rest};
+ghost use Rattle.pool_core.specs.Parts.{came_none, came_on, tell_first, tell_rest};
 ghost use Rattle.pool_core.specs.Linked.{IsLinked};
 ghost use Rattle.pool_core.specs.Represents.{Represents};
 ghost use Rattle.pool_core.specs.StateOf.{state_of};
