@@ -1,5 +1,6 @@
 use Rattle.std.proofs.Common.{List, subst}
 use Rattle.pool_open.proofs.CommitMade.{GrewTo-none}
+use Rattle.pool_open.proofs.CoreRunning.{came_through}
 use Rattle.pool_open.specs.CoreRuns.{Ran}
 use Rattle.pool_open.specs.CoreState.{disks_of}
 use Rattle.pool_open.specs.CoreStateOf.{state_of}
@@ -17,4 +18,12 @@ returns-in-Ok-clause-ran g c = record {
 }
 
 pub returns-in-Ok-clause-grew : goal.returns-in-Ok-clause-grew
-returns-in-Ok-clause-grew g c = c.in-Ok.ensures.all.2
+returns-in-Ok-clause-grew g c =
+    let ran = c.in-Ok.ensures.all in
+    (came_through (state_of c.args.core.now) c.in_ok-steps.steps.items ran.0 (state_of c.run.new.core) ran.2).grew
+
+pub returns-in-Err-clause-grew : goal.returns-in-Err-clause-grew
+returns-in-Err-clause-grew g c =
+    let front = c.in-Err.ensures.front in
+    let ran = front.3 in
+    (came_through (state_of c.args.core.now) front.0 ran.0 (state_of c.run.new.core) ran.2).grew
