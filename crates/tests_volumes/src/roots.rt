@@ -1,121 +1,190 @@
-//! Roots of pools.
-ghost use Rattle.std.specs.Prelude.{◌<◌, ◌^◌, length, IfOk};
-ghost use Rattle.dnode.specs.ObjectSet.{FitsObjectSet};
-ghost use Rattle.meta_objset.specs.Record.{FitsRecord};
-
-use crate::sets::{EMPTY, name_of, record_of, root_block, volume_block, with};
-use crate::stores::{Store, store_plan};
-use block_pointer::Block;
-use dataset_snapshots::{Dataset, FirstRoot, NextGroup, find, first_group};
-use dnode::ObjectSet;
-use meta_objset::{DatasetRecord, Directory, is_name, record_creation};
+//! What is under roots.
+use crate::lines::Call;
+use crate::stores::Store;
+use crate::texts::{bytes_text, contents_text};
+use block_pointer::{Block, Copies};
+use block_store::Refusal as Cause;
+use dataset_snapshots::{
+    NextRoot, VolumeRange, contents_under, find, find_in, reach, read_range, read_range_in,
+};
+use dnode_tree::are_distinct;
+use meta_objset::DatasetRecord;
 use pool_model::Name;
+use pool_open::read_root;
+use space_map_objects::Refusal;
 use std::alloc::Global;
 use std::test::Fail;
-use txg_pipeline::Pipeline;
-use vdev_label::Config;
-use volume_rules::part;
 
-/// A directory in which the name `v` has object 5.
-fn directory_of_one(alloc: Global) -> Result<Directory, Fail>
-    ensures { IfOk result (λ directory. length directory < 2 ^ 40) }
-{
-    let mut directory = Directory::new(alloc);
-    let name = name_of(b'v');
-    if is_name(&name) {
-        directory.insert(&name, 5)?;
+/// What a root has of a name: the number of its `object`, by the directory that is kept where it is `object_in`; its `size`; whether its
+/// record is the `same` as the last that was made by hand; or that something is `there`.
+pub(crate) fn dataset_text(
+    at: &NextRoot,
+    store: &mut Store,
+    alloc: Global,
+    call: &Call,
+    last: Option<DatasetRecord>,
+) -> Result<String, Fail> {
+    let name = Name::new(Vec::from_slice(alloc, call.names.as_bytes())?);
+    let (root, birth) = (&at.root, at.root.birth);
+    let found = if call.name == "object_in" {
+        let directory = at.directory.directory();
+        find_in(root, store, alloc, birth, directory, &name, &[])?
+    } else {
+        find(root, store, alloc, birth, &name, &[])?
+    };
+    let Some(dataset) = found else {
+        return Ok(format!(in alloc; "none")?);
+    };
+    let text = match (call.name, last) {
+        ("same", Some(record)) => format!(in alloc; "{}", dataset.record == record),
+        ("size", _) => format!(in alloc; "{}", dataset.volume.size()),
+        ("there", _) => format!(in alloc; "there"),
+        _ => format!(in alloc; "{}", dataset.object),
+    };
+    Ok(text?)
+}
+
+/// The bytes of a volume under a root, by the directory that is kept where it is `read_in`, or why they were not read: behind the root's
+/// number a call has where they begin and how many they are.
+pub(crate) fn range_text(
+    at: &NextRoot,
+    store: &mut Store,
+    alloc: Global,
+    call: &Call,
+) -> Result<String, Fail> {
+    let name = Name::new(Vec::from_slice(alloc, call.names.as_bytes())?);
+    let range = VolumeRange {
+        name: &name,
+        offset: call.number(1),
+        len: call.number(2).min(1 << 20),
+    };
+    let (root, birth) = (&at.root, at.root.birth);
+    let read = if call.name == "read_in" {
+        let directory = at.directory.directory();
+        read_range_in(root, store, alloc, birth, directory, &range, &[])
+    } else {
+        read_range(root, store, alloc, birth, &range, &[])
+    };
+    match read {
+        Ok(bytes) => Ok(bytes_text(alloc, &bytes)?),
+        Err(refusal) => Ok(format!(in alloc; "{refusal:?}")?),
     }
-    if directory.rows().len() > 1 {
-        return Ok(Directory::new(alloc));
-    }
-    Ok(directory)
 }
 
-/// A meta object set with that directory, and a record.
-fn set_with(store: &mut Store, alloc: Global, one: &DatasetRecord) -> Result<ObjectSet, Fail>
-    requires { FitsRecord one.now }
-    ensures { IfOk result FitsObjectSet }
-{
-    let made = record_creation(alloc, one)?;
-    let set = with(&EMPTY, store, alloc, 5, made, 1)?;
-    let made = directory_of_one(alloc)?.creation(alloc)?;
-    Ok(with(&set, store, alloc, 1, made, 2)?)
-}
-
-/// A root, once it is stored.
-fn root_with(store: &mut Store, alloc: Global, one: &DatasetRecord) -> Result<Block, Fail>
-    requires { FitsRecord one.now }
-{
-    let set = set_with(store, alloc, one)?;
-    Ok(root_block(&set, store, alloc)?)
-}
-
-/// What a root has of a name of one letter.
-pub(crate) fn find_letter(
+/// How many of the blocks that a root leads to have one copy, two and three, and how many are left to be read of so many.
+pub(crate) fn reached(
     root: &Block,
     store: &mut Store,
     alloc: Global,
-    letter: u8,
-) -> Result<Option<Dataset>, Fail> {
-    let name = Name::new(vec![in alloc; letter; 1]?);
-    Ok(find(root, store, alloc, root.birth, &name, &[])?)
-}
-
-/// What the root has of the name `v`: its object, its record and its size; and whether it has nothing of `w`.
-pub(crate) fn outcomes(store: &mut Store, alloc: Global) -> Result<[bool; 4], Fail> {
-    let record = record_of(volume_block(store, alloc)?, 1);
-    let root = root_with(store, alloc, &record)?;
-    let found = find_letter(&root, store, alloc, b'v')?;
-    let none = find_letter(&root, store, alloc, b'w')?;
-    let Some(dataset) = found else {
-        return Ok([false; 4]);
+    most: u64,
+) -> Result<String, Fail> {
+    let mut left = most;
+    let blocks = match reach(root, store, alloc, root.birth, &mut left, &[]) {
+        Ok(blocks) => blocks,
+        Err(refusal) => return Ok(format!(in alloc; "{refusal:?}")?),
     };
-    Ok([
-        dataset.object == 5,
-        dataset.record == record,
-        dataset.volume.size() == record.size,
-        none.is_none(),
-    ])
+    let one = blocks
+        .iter()
+        .filter(|block| matches!(block.copies, Copies::One(..)));
+    let two = blocks
+        .iter()
+        .filter(|block| matches!(block.copies, Copies::Two(..)));
+    let three = blocks
+        .iter()
+        .filter(|block| matches!(block.copies, Copies::Three(..)));
+    let (one, two, three) = (one.count(), two.count(), three.count());
+    Ok(format!(in alloc; "{one} {two} {three}, {left} left")?)
 }
 
-/// The first root of a pool, born in group 1, after what a group has accepted, once it is stored.
-pub(crate) fn first_root(
+/// Whether the blocks that were replaced are those that the root before leads to and the one after doesn't, each once.
+pub(crate) fn has_left(
+    before: &Block,
+    next: &NextRoot,
     store: &mut Store,
     alloc: Global,
-    pipeline: &Pipeline,
-) -> Result<Block, Fail> {
-    Ok(first_with(store, alloc, pipeline)?.root)
+) -> Result<String, Fail> {
+    let mut most = 100;
+    let old = reach(before, store, alloc, before.birth, &mut most, &[])?;
+    let new = reach(&next.root, store, alloc, next.root.birth, &mut most, &[])?;
+    let mut gone = 0usize;
+    let mut right = are_distinct(alloc, &next.replaced)?;
+    for block in &old {
+        let left = !new.contains(block);
+        right = right && left == next.replaced.contains(block);
+        gone = gone.saturating_add(usize::from(left));
+    }
+    right = right && gone == next.replaced.len();
+    Ok(format!(in alloc; "{right}")?)
 }
 
-/// And its directory.
-pub(crate) fn first_with(
+/// What is kept of a root, of which so many blocks may be read: its contents, or the `stale` span, or why not. `refused` tells
+/// whether it is, as a bad pointer, before any block is counted off.
+pub(crate) fn kept(
+    root: &Block,
     store: &mut Store,
     alloc: Global,
-    pipeline: &Pipeline,
-) -> Result<FirstRoot, Fail> {
-    let config = Config {
-        vdevs: Vec::new(alloc),
+    call: &Call,
+) -> Result<String, Fail> {
+    let most = call.number(1);
+    let mut left = most;
+    let read = contents_under(root, store, alloc, root.birth, &mut left, &[]);
+    if call.name == "refused" {
+        let is_refused = matches!(read, Err(Refusal::Unread(Cause::BadPointer)));
+        return Ok(format!(in alloc; "{}", is_refused && left == most)?);
+    }
+    let contents = match read {
+        Ok(contents) => contents,
+        Err(refusal) => return Ok(format!(in alloc; "{refusal:?}")?),
     };
-    store.drop_plan(1);
-    let items = pipeline.open_items();
-    let parted = part(alloc, items.actions())?;
-    let next = NextGroup {
-        number: 1,
-        spans: None,
+    if call.name == "kept" {
+        return Ok(contents_text(alloc, &contents, call.names)?);
+    }
+    let text = match contents.spans.rows() {
+        [] => format!(in alloc; "none"),
+        [span] => format!(in alloc; "{} {} {}", span.disk, span.from, span.to),
+        _ => format!(in alloc; "several"),
     };
-    let first = first_group(store, alloc, &config, &next, &parted, items);
-    store_plan(store);
-    first.map_err(Fail::from)
+    Ok(text?)
 }
 
-/// That of a pool with no volumes.
-pub(crate) fn create_empty(store: &mut Store, alloc: Global) -> Result<Block, Fail> {
-    first_root(store, alloc, &Pipeline::new(alloc, 3))
-}
-
-/// Whether a root with no volumes is born in its group, and has nothing of the name `v`.
-pub(crate) fn is_created(store: &mut Store, alloc: Global) -> Result<[bool; 2], Fail> {
-    let root = create_empty(store, alloc)?;
-    let found = find_letter(&root, store, alloc, b'v')?;
-    Ok([root.birth == 1, found.is_none()])
+/// What comes of the disks, when no store knows their blocks any more: how many `reads` they have counted; or what an open reads of a root,
+/// of which so many blocks may be read. The first of the names has a mark for each disk, which is `x` for one that is out. `open_maps`
+/// tells how many space maps and stale spans there are, or the number of the refusal.
+pub(crate) fn ended(
+    roots: &[NextRoot],
+    store: Store,
+    alloc: Global,
+    call: &Call,
+) -> Result<String, Fail> {
+    let Some(at) = roots.get(call.number(0) as usize) else {
+        return Err(Fail::new("no such root"));
+    };
+    if call.name == "reads" {
+        let disks = store.into_disks();
+        let sum = disks
+            .iter()
+            .fold(0u64, |sum, disk| sum.saturating_add(disk.reads));
+        return Ok(format!(in alloc; "{sum}")?);
+    }
+    let (marks, names) = call.names.split_once(" ").unwrap_or((call.names, ""));
+    let marks = marks.as_bytes().iter();
+    let out: Vec<bool> = marks.map(|mark| *mark == b'x').collect(alloc)?;
+    let mut shapes = Vec::new(alloc);
+    for index in 0..store.vdev_count() {
+        shapes.push(store.shape(index))?;
+    }
+    let (disks, left, root) = (store.into_array(), call.number(1), &at.root);
+    let read = match read_root(alloc, disks, &shapes, &out, root, root.birth, left) {
+        Ok(read) => read.contents,
+        Err((refusal, _)) if call.name == "open_maps" => {
+            let number = pool_open::Refusal::from(refusal).number();
+            return Ok(format!(in alloc; "{number}")?);
+        }
+        Err((refusal, _)) => return Ok(format!(in alloc; "{refusal:?}")?),
+    };
+    if call.name == "open_maps" {
+        let (maps, spans) = (read.maps.len(), read.spans.rows().len());
+        return Ok(format!(in alloc; "{maps} maps, {spans} spans")?);
+    }
+    Ok(contents_text(alloc, &read, names)?)
 }

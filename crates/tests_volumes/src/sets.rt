@@ -1,16 +1,23 @@
-//! Meta object sets, and what stands in them.
-ghost use Rattle.std.specs.Prelude.{◌*◌, ◌^◌, ◌<◌, IfOk};
+//! Meta object sets that are made by hand, and what stands in them.
+ghost use Rattle.std.specs.Prelude.{◌*◌, ◌^◌, ◌<◌, length, IfOk};
 ghost use Rattle.block_pointer.specs.Block.{FitsBlock};
 ghost use Rattle.dnode.specs.ObjectSet.{FitsObjectSet};
 ghost use Rattle.meta_objset.specs.Record.{FitsRecord};
 ghost use Rattle.objset.specs.Changes.{IsGoodChange};
 
+use crate::groups::one_span;
+use crate::lines::Call;
 use crate::stores::{Store, store_plan};
 use block_pointer::{Block, BlockPtr};
 use dnode::{ObjectNode, ObjectSet, ObjectSetKind};
-use meta_objset::{DatasetKind, DatasetRecord};
-use objset::{Change, ObjectChange, Refusal, change, plan_set};
+use meta_objset::{
+    DatasetKind, DatasetRecord, Directory, MetaslabMap, MetaslabPlace, SpaceMaps, is_name, padded,
+    record_creation,
+};
+use objset::{Change, ObjectChange, Refusal, change};
+use space_map::{FreeSet, Kind, Run};
 use std::alloc::Global;
+use std::test::Fail;
 use volume::VolumeSet;
 
 /// A meta object set with no object.
@@ -50,22 +57,8 @@ pub(crate) fn with(
     Ok(done.set)
 }
 
-/// The block of a set in group 3, once it is stored.
-pub(crate) fn root_block(
-    set: &ObjectSet,
-    store: &mut Store,
-    alloc: Global,
-) -> Result<Block, Refusal>
-    requires { FitsObjectSet set.now }
-{
-    store.drop_plan(3);
-    let root = plan_set(set, store, alloc, 3)?;
-    store_plan(store);
-    Ok(root)
-}
-
 /// The block of a volume of 1 MiB of zeros, once it is stored.
-pub(crate) fn volume_block(store: &mut Store, alloc: Global) -> Result<Block, Refusal>
+fn volume_block(store: &mut Store, alloc: Global) -> Result<Block, Refusal>
     ensures { IfOk result FitsBlock }
 {
     store.drop_plan(1);
@@ -74,26 +67,86 @@ pub(crate) fn volume_block(store: &mut Store, alloc: Global) -> Result<Block, Re
     Ok(volume.block())
 }
 
-/// A name of one byte and its padding.
-pub(crate) fn name_of(byte: u8) -> [u8; 56] {
-    let mut name = [0; 56];
-    name[0] = byte;
-    name
-}
-
-pub(crate) fn record_of(object_set: Block, created: u64) -> DatasetRecord
+/// The record of a volume of 1 MiB, or of a snapshot: behind the number of its object and the group a call has the previous and the next
+/// object, how many clones there are, and the dead list.
+fn record_of(call: &Call, object_set: Block) -> DatasetRecord
     requires { FitsBlock object_set }
     ensures { FitsRecord result }
 {
+    let (kind, next) = match call.names {
+        "snapshot" => (DatasetKind::Snapshot, call.number(3)),
+        _ => (DatasetKind::Volume, 0),
+    };
     DatasetRecord {
-        kind: DatasetKind::Volume,
+        kind,
         size: 1 << 20,
         block_size: 4096,
-        created,
-        previous: 0,
-        next: 0,
-        clones: 0,
-        dead_list: 9,
+        created: 1,
+        previous: call.number(2),
+        next,
+        clones: call.number(4),
+        dead_list: call.number(5),
         object_set,
+    }
+}
+
+/// A directory of names: behind the number of its object and the group a call has the objects of these.
+fn directory_of(alloc: Global, call: &Call) -> Result<Directory, Fail>
+    ensures { IfOk result (λ directory. length directory < 2 ^ 40) }
+{
+    let mut directory = Directory::new(alloc);
+    let mut at = 2usize;
+    for word in call.names.split_whitespace() {
+        if let Some(name) = padded(word.as_bytes())
+            && is_name(&name)
+        {
+            directory.insert(&name, call.number(at))?;
+        }
+        at = at.saturating_add(1);
+    }
+    if directory.rows().len() > 2 {
+        return Ok(Directory::new(alloc));
+    }
+    Ok(directory)
+}
+
+/// The change that makes an object. A `record` points to a volume that is made in group 1, and is the last one then. `space` is the map
+/// of a metaslab of so many sectors, all free but eight from one on, and `maps` has a vdev, a metaslab and the object of its map; `spans`
+/// has a disk and the first and last group that it missed; else it is a directory.
+pub(crate) fn object_made(
+    store: &mut Store,
+    alloc: Global,
+    call: &Call,
+    last: &mut Option<DatasetRecord>,
+) -> Result<Change, Fail>
+    ensures { IfOk result IsGoodChange }
+{
+    let (first, second, third) = (call.number(2), call.number(3), call.number(4));
+    match call.name {
+        "record" => {
+            let record = record_of(call, volume_block(store, alloc)?);
+            *last = Some(record);
+            Ok(record_creation(alloc, &record)?)
+        }
+        "space" => {
+            let sectors = first.clamp(64, 1 << 16);
+            let start = second.min(sectors - 8);
+            let mut free = FreeSet::new(alloc, sectors)?;
+            free.change(Kind::Allocated, Run { start, len: 8 })?;
+            Ok(space_map_objects::creation(alloc, &free)?)
+        }
+        "maps" => {
+            let mut maps = SpaceMaps::new(alloc);
+            let (vdev, index) = (first, second);
+            let metaslab = MetaslabPlace { vdev, index };
+            let object = third;
+            maps.set(MetaslabMap { metaslab, object })?;
+            if maps.rows().len() > 1 {
+                return Err(Fail::new("too many maps"));
+            }
+            Ok(maps.creation(alloc)?)
+        }
+        "spans" => Ok(one_span(alloc, first, second, third)?.creation(alloc)?),
+        _ => Ok(directory_of(alloc, call)?.creation(alloc)?),
     }
 }

@@ -1,8 +1,8 @@
-//! A store in memory: one vdev of three disks.
+//! A store in memory: one vdev of three disks, or two vdevs of which disks are lost.
 use block_store::{BlockStore, VdevConfig};
 use model_disk::{Disk, DiskError, Fault, FaultDisk, MemDisk};
 use raidz_map::Geometry;
-use std::alloc::{AllocError, Global};
+use std::alloc::Global;
 use std::test::Fail;
 
 /// A disk in memory that fails as it is told, and counts its reads. All tests have this one type: a store over another type is proved
@@ -10,18 +10,7 @@ use std::test::Fail;
 #[derive(Drop)]
 pub(crate) struct TestDisk {
     inner: FaultDisk<MemDisk>,
-    reads: u64,
-}
-
-impl TestDisk {
-    pub(crate) fn new(alloc: Global, bytes: usize, fault: Fault) -> Result<TestDisk, AllocError> {
-        let inner = FaultDisk::new(MemDisk::new(alloc, bytes)?, fault);
-        Ok(TestDisk { inner, reads: 0 })
-    }
-
-    pub(crate) fn reads(&self) -> u64 {
-        self.reads
-    }
+    pub(crate) reads: u64,
 }
 
 impl Disk for TestDisk {
@@ -31,19 +20,23 @@ impl Disk for TestDisk {
 
     ghost calls = { λ disk. calls_of disk.inner };
 
+    /// In bytes.
     fn size(&self) -> u64 {
         self.inner.size()
     }
 
+    /// Counts the read.
     fn read(&mut self, at: u64, buffer: &mut [u8]) -> Result<(), DiskError> {
         self.reads = self.reads.saturating_add(1);
         self.inner.read(at, buffer)
     }
 
+    /// Writes as the disk within.
     fn write_at(&mut self, at: u64, bytes: &[u8]) -> Result<(), DiskError> {
         self.inner.write_at(at, bytes)
     }
 
+    /// Flushes as the disk within.
     fn flush(&mut self) -> Result<(), DiskError> {
         self.inner.flush()
     }
@@ -53,26 +46,32 @@ impl Disk for TestDisk {
 
 pub(crate) type Store = BlockStore<TestDisk>;
 
-/// Fails at no call.
-pub(crate) const NEVER: Fault = Fault::At(u64::MAX);
-
-const DISK_BYTES: usize = 16 << 20;
-
-fn three_disks() -> Result<VdevConfig, Fail> {
-    Ok(VdevConfig {
+/// A store of one vdev over three disks. A lossy one has two vdevs over six of the smallest disks, of which the second and the third
+/// fail at their first flush: the first block of data goes to the first vdev and the next one to the second, and all else lies in both.
+pub(crate) fn new_store(alloc: Global, is_lossy: bool) -> Result<Store, Fail> {
+    let (count, bytes, meta_slabs) = if is_lossy {
+        (6u64, 0x80_0000, 1)
+    } else {
+        (3u64, 0x100_0000, 4)
+    };
+    let mut disks = Vec::new(alloc);
+    for which in 0..count {
+        let fault = if is_lossy && matches!(which, 1 | 2) {
+            Fault::Flush(0)
+        } else {
+            Fault::At(u64::MAX)
+        };
+        let inner = FaultDisk::new(MemDisk::new(alloc, bytes)?, fault);
+        disks.push(TestDisk { inner, reads: 0 })?;
+    }
+    let vdev = VdevConfig {
         geometry: Geometry::new(3, 1, 9)?,
         metaslab_shift: 12,
-        meta_slabs: 4,
-    })
-}
-
-/// A store of one vdev over three disks.
-pub(crate) fn new_store(alloc: Global) -> Result<Store, Fail> {
-    let mut disks = Vec::new(alloc);
-    for _ in 0..3 {
-        disks.push(TestDisk::new(alloc, DISK_BYTES, NEVER)?)?;
+        meta_slabs,
+    };
+    if is_lossy {
+        return Ok(BlockStore::new(alloc, disks, &[vdev, vdev])?);
     }
-    let vdev = three_disks()?;
     Ok(BlockStore::new(alloc, disks, &[vdev])?)
 }
 
