@@ -1,76 +1,75 @@
 //! Pools in files, which are closed and opened anew, also where some of them aren't what they were.
-ghost use Rattle.std.specs.Prelude.{◌<◌};
-
-use crate::pools::{DISK_BYTES, Shown, blocks_of, fill, made};
-use model_disk::{FileDisk, Member};
-use pool_open::{OpenedPool, Refusal, open};
+use crate::pools::{DISK_BYTES, blocks_of, fill, make};
+use model_disk::FileDisk;
+use pool_open::{OpenedPool, open};
 use std::alloc::Global;
 use std::fs::{self, File, Files, OpenOptions};
-use std::test::*;
-use vdev_label::Breach;
+use std::test::Fail;
 
-const PATHS: [&str; 3] = ["tests_open_0.img", "tests_open_1.img", "tests_open_2.img"];
+/// What is handed in for each of the three files of a pool that was filled, and what an open gives: the group and the first byte of each
+/// block of the volume, and the first child that is absent.
+///
+/// `whole` is the file as the pool left it, and `short` the file without the last of its four labels; `shrunk` loses the label once it was
+/// opened. `zeros` is a file of as many zeros, and `other` the file of another pool.
+///
+/// With one parity the pool opens without one of its files. A file that was cut has less than the 8 MiB of the least disk, so that
+/// nothing is read of it; of one that is cut later a label can't be read; and a file of zeros has no valid label: for each of them the
+/// child is absent. Without two of its files the pool is refused, and where no label is valid it isn't known whose they are.
+/// A valid label of another pool is refused even where the other files would do: whoever handed it in mistook it.
+const HANDED_IN: [(&str, &str); 7] = [
+    (
+        "whole whole whole",
+        "(Some(5), Some((0, 170))) absent: None",
+    ),
+    (
+        "short whole whole",
+        "(Some(5), Some((0, 170))) absent: Some(0)",
+    ),
+    (
+        "whole shrunk whole",
+        "(Some(5), Some((0, 170))) absent: Some(1)",
+    ),
+    (
+        "whole whole zeros",
+        "(Some(5), Some((0, 170))) absent: Some(2)",
+    ),
+    ("whole other whole", "PoolMismatch"),
+    ("short whole zeros", "TooManyMissing"),
+    ("zeros zeros zeros", "BadLabel(Tail)"),
+];
 
-/// Those of another pool.
-const OTHER_PATHS: [&str; 3] = ["tests_open_3.img", "tests_open_4.img", "tests_open_5.img"];
+/// The files of the pool, and beside each one of another pool.
+const PATHS: [(&str, &str); 3] = [
+    ("tests_open_0.img", "tests_open_3.img"),
+    ("tests_open_1.img", "tests_open_4.img"),
+    ("tests_open_2.img", "tests_open_5.img"),
+];
 
 /// Of a file without the last of its four labels.
 const SHORT_BYTES: u64 = 0x7c_0000;
 
-/// What is handed in as one of a pool's files.
-#[derive(Clone, Copy)]
-enum Given {
-    /// The file as the pool left it.
-    Whole,
-    /// The file without the last of its four labels.
-    Short,
-    /// The same file, which loses the label once it was opened.
-    Shrunk,
-    /// A file of as many zeros.
-    Zeros,
-    /// The file of another pool.
-    Other,
-}
-
-use Given::{Other, Short, Shrunk, Whole, Zeros};
-
+/// Removes the files of both pools.
 fn remove_all<R: Files<File = File>>(files: &R) {
-    for path in &PATHS {
-        let _ = fs::remove_file(files, path);
-    }
-    for path in &OTHER_PATHS {
-        let _ = fs::remove_file(files, path);
+    'paths: for (own, other) in &PATHS {
+        let _ = fs::remove_file(files, own);
+        let _ = fs::remove_file(files, other);
     }
 }
 
-/// Disks in new files.
-fn new_files<R: Files<File = File>>(
-    alloc: Global,
-    files: &R,
-    paths: &[&str],
-) -> Result<Vec<FileDisk>, Fail> {
+/// Makes the pool of guid 1, or the other one, of guid 2, in new files and fills it. The files are closed then.
+fn write_pool<R: Files<File = File>>(alloc: Global, files: &R, guid: u64) -> Result<(), Fail> {
     let mut disks = Vec::new(alloc);
-    for path in paths {
+    'paths: for (own, other) in &PATHS {
+        let path = if guid == 1 { own } else { other };
         disks.push(FileDisk::create(files, path, DISK_BYTES as u64)?)?;
     }
-    Ok(disks)
-}
-
-/// Makes a pool of this guid on these disks and fills it.
-fn fill_new(alloc: Global, disks: Vec<FileDisk>, guid: u64) -> Result<Shown, Refusal> {
-    let mut core = made(alloc, disks, guid)?;
-    fill(alloc, &mut core).map_err(Refusal::from)
-}
-
-/// Makes a pool of this guid in new files and fills it. The files are closed then.
-fn write_pool<R: Files<File = File>>(
-    alloc: Global,
-    files: &R,
-    paths: &[&str],
-    guid: u64,
-) -> Result<Shown, Fail> {
-    let disks = new_files(alloc, files, paths)?;
-    Ok(fill_new(alloc, disks, guid)?)
+    match make(alloc, disks, guid)? {
+        Ok(OpenedPool { mut core, .. }) => {
+            fill(alloc, &mut core)?;
+            Ok(())
+        }
+        Err((refusal, _)) => Err(Fail::from(refusal)),
+    }
 }
 
 /// Gives the file another length: its end is gone, or zeros are added.
@@ -80,123 +79,61 @@ fn resize<R: Files<File = File>>(files: &R, path: &str, size: u64) -> Result<(),
     Ok(())
 }
 
-/// The disk in that file, which is shorter from then on.
-fn shrunk<R: Files<File = File>>(files: &R, path: &str) -> Result<FileDisk, Fail> {
-    let disk = FileDisk::open(files, path)?;
-    resize(files, path, SHORT_BYTES)?;
-    Ok(disk)
-}
-
-/// A file of so many zeros in place of this one.
-fn clear<R: Files<File = File>>(files: &R, path: &str) -> Result<(), Fail> {
-    resize(files, path, 0)?;
-    resize(files, path, DISK_BYTES as u64)
-}
-
-/// The disk that is handed in for the pool's file of that number.
-fn disk_of<R: Files<File = File>>(files: &R, which: usize, given: Given) -> Result<FileDisk, Fail>
-    requires { which < 3 }
-{
-    let path = PATHS[which];
+/// The disk that is handed in for a file of the pool, beside which stands one of the other.
+fn disk_of<R: Files<File = File>>(
+    files: &R,
+    path: &str,
+    other: &str,
+    given: &str,
+) -> Result<FileDisk, Fail> {
     match given {
-        Given::Whole => {}
-        Given::Short => resize(files, path, SHORT_BYTES)?,
-        Given::Shrunk => return shrunk(files, path),
-        Given::Zeros => clear(files, path)?,
-        Given::Other => return Ok(FileDisk::open(files, OTHER_PATHS[which])?),
+        "whole" => {}
+        "short" => resize(files, path, SHORT_BYTES)?,
+        "shrunk" => {
+            let disk = FileDisk::open(files, path)?;
+            resize(files, path, SHORT_BYTES)?;
+            return Ok(disk);
+        }
+        "zeros" => {
+            resize(files, path, 0)?;
+            resize(files, path, DISK_BYTES as u64)?;
+        }
+        "other" => return Ok(FileDisk::open(files, other)?),
+        _ => return Err(Fail::new(format_args!("no file {given}"))),
     }
     Ok(FileDisk::open(files, path)?)
 }
 
-/// The disks that are handed in for the pool's files.
-fn disks_of<R: Files<File = File>>(
-    alloc: Global,
-    files: &R,
-    given: [Given; 3],
-) -> Result<Vec<FileDisk>, Fail> {
+/// Makes two pools, and opens the first on files that are handed in so.
+fn reopened<R: Files<File = File>>(alloc: Global, files: &R, line: &str) -> Result<String, Fail> {
+    remove_all(files);
+    write_pool(alloc, files, 1)?;
+    write_pool(alloc, files, 2)?;
     let mut disks = Vec::new(alloc);
-    for which in 0..3 {
-        disks.push(disk_of(files, which, given[which])?)?;
+    'given: for ((own, other), given) in PATHS.iter().zip(line.split_whitespace()) {
+        disks.push(disk_of(files, own, other, given)?)?;
     }
-    Ok(disks)
-}
-
-/// What an open gives: what the pool shows, and the first of its children that is absent.
-type Found = Result<(Shown, Option<usize>), Refusal>;
-
-fn first_absent(members: &[Member<FileDisk>]) -> Option<usize> {
-    for which in 0..members.len() {
-        if members[which].is_absent() {
-            return Some(which);
-        }
-    }
-    None
-}
-
-fn found_on(alloc: Global, disks: Vec<FileDisk>) -> Found {
-    let (pool, _) = open(alloc, disks, 0)?;
+    let (pool, _) = match open(alloc, disks, 0) {
+        Ok(opened) => opened,
+        Err(failed) => return Ok(format!(in alloc; "{:?}", failed.refusal())?),
+    };
     let OpenedPool {
         mut core,
         uberblock,
     } = pool;
-    let blocks = blocks_of(alloc, &mut core, "v");
-    let absent = first_absent(&core.into_disks());
-    Ok(((Some(uberblock.group), blocks?), absent))
+    let blocks = blocks_of(alloc, &mut core);
+    let members = core.into_disks();
+    let absent = members.iter().position(|member| member.is_absent());
+    let shown = (Some(uberblock.group), blocks?);
+    Ok(format!(in alloc; "{shown:?} absent: {absent:?}")?)
 }
 
-/// Makes two pools, and opens the first on files that are handed in so.
-fn reopened<R: Files<File = File>>(
-    alloc: Global,
-    files: &R,
-    given: [Given; 3],
-) -> Result<Found, Fail> {
-    remove_all(files);
-    write_pool(alloc, files, &PATHS, 1)?;
-    write_pool(alloc, files, &OTHER_PATHS, 2)?;
-    Ok(found_on(alloc, disks_of(alloc, files, given)?))
-}
-
-/// What the pool shows that was written.
-const WRITTEN: Shown = (Some(5), Some((0, 0xaa)));
-
-const BLANK: Refusal = Refusal::BadLabel(Breach::Tail);
-
-/// The files that are handed in, what an open gives, and which they are.
-const CASES: [([Given; 3], Found, &str); 7] = [
-    ([Whole, Whole, Whole], Ok((WRITTEN, None)), "all"),
-    ([Short, Whole, Whole], Ok((WRITTEN, Some(0))), "one is cut"),
-    (
-        [Whole, Shrunk, Whole],
-        Ok((WRITTEN, Some(1))),
-        "one is cut later",
-    ),
-    (
-        [Whole, Whole, Zeros],
-        Ok((WRITTEN, Some(2))),
-        "one has zeros",
-    ),
-    (
-        [Whole, Other, Whole],
-        Err(Refusal::PoolMismatch),
-        "one is another pool's",
-    ),
-    (
-        [Short, Whole, Zeros],
-        Err(Refusal::TooManyMissing),
-        "two are absent",
-    ),
-    ([Zeros, Zeros, Zeros], Err(BLANK), "all have zeros"),
-];
-
-/// With one parity the pool opens without one of its files. A file that was cut has less than the 8 MiB of the least disk, so that
-/// nothing is read of it; of one that is cut later a label can't be read; and a file of zeros has no valid label: for each of them the
-/// child is absent. Without two of its files the pool is refused, and where no label is valid it isn't known whose they are.
-/// A valid label of another pool is refused even where the other files would do: whoever handed it in mistook it.
+/// Each row's files are made anew, and removed in the end.
 #[test]
 fn pools_in_files_open_again(rt: HostRuntime) -> Result<(), Fail> {
-    for (given, wanted, which) in &CASES {
-        let found = reopened(rt.alloc(), &rt, *given)?;
-        assert!(rt; found == *wanted, "{which}");
+    'rows: for (line, wanted) in &HANDED_IN {
+        let came = reopened(rt.alloc(), &rt, line)?;
+        assert!(rt; came.as_str() == *wanted, "{line} -> {came}");
     }
     remove_all(&rt);
     Ok(())
