@@ -44,8 +44,8 @@ use Rattle.pool_stops.specs.OwnRunning.{CreatedPoolsAreOnTheirDisks, IsOnItsDisk
 use Rattle.pool_stops.specs.Reopening.{AreByGroup}
 use Rattle.pool_stops.specs.Running.{pool_of}
 use Rattle.pool_stops.specs.Unhindered.{AnswerTruly}
-use Rattle.pool_lives.specs.Lasting.{Keeps, LivesGoOn, LivesLoseNothing, served_first}
-use Rattle.pool_lives.specs.Lives.{Down, Exports, FindsNone, Goes, HandsBack, Happening, IsAnswered, IsExported, IsHandedBack, IsLife, IsOpenStopped, IsRun, IsRunStopped, Opens, Place, Runs, StopsOpening, StopsRunning, Up}
+use Rattle.pool_lives.specs.Lasting.{Keeps, CrashHistoriesGoOn, CrashHistoriesKeepTheLastGroup, served_first}
+use Rattle.pool_lives.specs.Lives.{Down, Exports, FindsNone, Goes, HandsBack, Happening, IsAnswered, IsExported, IsHandedBack, IsCrashHistory, IsOpenStopped, IsRun, IsRunStopped, Opens, Place, Runs, StopsOpening, StopsRunning, Up}
 use Rattle.pool_lives.specs.Tales.{IsTale, Known, Resting, Serving, Tells}
 use Rattle.pool_lives.proofs.Chains.{chain_on}
 use Rattle.pool_lives.proofs.Handing.{at_hand, begun_grew, safe_exported, safe_unexported, safe_unopened}
@@ -287,7 +287,7 @@ module _ {D : Type 0} (g : disk.Ghosts D) (laws : Laws g) (pool : PoolIdentity) 
   goes_on (Down images) (Resting p pools) it next is goes = down_goes images p pools it next is goes
   goes_on _ _ it next is goes = absurd is
 
-  pub lives_on : (from : Place) (known : Known) (its : List Happening) (to : Place) → Holds pool vdevs digest from known → IsLife g from its to
+  pub lives_on : (from : Place) (known : Known) (its : List Happening) (to : Place) → Holds pool vdevs digest from known → IsCrashHistory g from its to
       → (later : Known) × IsTale known its later × Holds pool vdevs digest to later
   lives_on from known [] to is same = (known, refl, subst (λ (place : Place). Holds pool vdevs digest place known) same is)
   lives_on from known (it ∷ its) to is (next, goes, life) =
@@ -305,8 +305,8 @@ module _ {D : Type 0} where
       (is.shapes, is.out, is.led, law pool (config_view config) digest images is.shapes is.out p pools is.led)
   keeps g law pool config digest _ _ is = absurd is
 
-  pub lives_lose_nothing : CreatedPoolsRunAs → CreatedPoolsAreOnTheirDisks → (g : disk.Ghosts D) → Laws g → LivesLoseNothing g
-  lives_lose_nothing run on g laws pool config u core made its to life =
+  pub crash_histories_keep_the_last_group : CreatedPoolsRunAs → CreatedPoolsAreOnTheirDisks → (g : disk.Ghosts D) → Laws g → CrashHistoriesKeepTheLastGroup g
+  crash_histories_keep_the_last_group run on g laws pool config u core made its to life =
       let vdevs : List PlainVdev = config_view config in
       let is = made.created.created in
       let own = on made.created.array pool config u core is in
@@ -321,13 +321,13 @@ module _ {D : Type 0} where
       }) life in
       (it.0, it.1, keeps g laws.opens pool config u.config_digest to it.0 it.2, rise (Serving (served_first made) u []) its it.0 it.1)
 
-  go_on : (g : disk.Ghosts D) (from to next : Place) (its : List Happening) (it : Happening) → IsLife g from its to → Goes g to it next
-      → IsLife g from (its ++ it ∷ []) next
+  go_on : (g : disk.Ghosts D) (from to next : Place) (its : List Happening) (it : Happening) → IsCrashHistory g from its to → Goes g to it next
+      → IsCrashHistory g from (its ++ it ∷ []) next
   go_on g from to next [] it same goes = (next, subst (λ (place : Place). Goes g place it next) (sym same) goes, refl)
   go_on g from to next (first ∷ its) it (place, began, life) goes = (place, began, go_on g place to next its it life goes)
 
-  pub lives_go_on : (g : disk.Ghosts D) → UnfoundDisksAreReturned g → ShownImagesAreLeft → ArraysComeBack g → LivesGoOn g
-  lives_go_on g law shown_left arrays = record {
+  pub crash_histories_go_on : (g : disk.Ghosts D) → UnfoundDisksAreReturned g → ShownImagesAreLeft → ArraysComeBack g → CrashHistoriesGoOn g
+  crash_histories_go_on g law shown_left arrays = record {
     on = λ from to next its it life goes. go_on g from to next its it life goes;
     runs = λ old new steps before after ran honest all. record {
       before = before;

@@ -113,6 +113,6 @@ module _ {D : Type 0} where
   Goes g _ _ _ = ⊥
 
   -- it goes on so, from place to place
-  abbrev pub IsLife : disk.Ghosts D → Place → List Happening → Place → Type 0
-  IsLife g from [] to = from ≡ to
-  IsLife g from (it ∷ its) to = (next : Place) × Goes g from it next × IsLife g next its to
+  abbrev pub IsCrashHistory : disk.Ghosts D → Place → List Happening → Place → Type 0
+  IsCrashHistory g from [] to = from ≡ to
+  IsCrashHistory g from (it ∷ its) to = (next : Place) × Goes g from it next × IsCrashHistory g next its to
