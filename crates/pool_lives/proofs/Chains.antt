@@ -1,5 +1,5 @@
 -- A run of a pool on its own disks: it runs on, with the uberblocks of the groups that were committed.
-use Rattle.std.proofs.Common.{◌≡◌, ⊎_elim, ℕ, suc, true, List, [], ◌∷◌, Option, Some, refl, sym, ap, subst, ◌∙◌}
+use Rattle.std.proofs.Common.{◌≡◌, ⊎_elim, ℕ, suc, List, [], ◌∷◌, Option, Some, refl, sym, ap, subst, ◌∙◌}
 use Rattle.uberblock_ring.specs.declared.uberblock.Uberblock.{Uberblock}
 use Rattle.vdev_label.specs.Plain.{PlainVdev}
 use Rattle.pool_create.specs.Backs.{HasPlan, IsPlanOf}

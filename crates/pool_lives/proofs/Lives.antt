@@ -14,10 +14,12 @@ use Rattle.stale_disks.specs.Rules.{guids_in}
 use Rattle.vdev_label.specs.Limits.{IsAllowed, IsAllowedVdev}
 use Rattle.vdev_label.specs.Plain.{PlainVdev, config_view}
 use Rattle.vdev_label.specs.declared.label.Config.{Config}
-use Rattle.pool_core.proofs.Running.{tell_in, trusts}
+use Rattle.pool_core.proofs.Running.{came_through}
+use Rattle.pool_core.specs.Parts.{tell_first, tell_rest}
+use Rattle.pool_core.specs.Steps.{AnswersTellThroughout}
 use Rattle.pool_core.proofs.Telling.{truth_tells}
 use Rattle.pool_create.specs.Backs.{pool_after}
-use Rattle.pool_create.specs.CoreRuns.{GiveTrust, Ran}
+use Rattle.pool_create.specs.CoreRuns.{GiveTrust, Passes, Ran, TellIn}
 use Rattle.pool_create.specs.CoreState.{CoreState, disks_of}
 use Rattle.pool_create.specs.OpenOpening.{IsKeptThrough}
 use Rattle.pool_create.specs.OpenRefusal.{Refusal}
@@ -122,11 +124,20 @@ all_trusted [] (given ∷ givens) trust = absurd trust
 all_trusted (reply ∷ replies) [] trust = absurd trust
 all_trusted (reply ∷ replies) (given ∷ givens) trust = (trust.0 refl, all_trusted replies givens trust.1)
 
--- true answers tell in each step
+-- answers that tell over all steps tell in each
+tells_each : (old : CoreState) (steps : List Step) (replies : List Reply) (new : CoreState) (passes : Passes old steps replies new) → AnswersTellThroughout old new
+    → TellIn old steps replies new passes (map (λ reply. true) replies)
+tells_each old [] [] new passes tell = tt
+tells_each old (step ∷ steps) (reply ∷ replies) new passes tell =
+    let rest = came_through passes.0 steps replies new passes.3 in
+    (λ e. tell_first old passes.0 new rest tell, λ planned. refl, tells_each passes.0 steps replies new passes.3 (tell_rest old passes.0 new passes.1 tell))
+tells_each old [] (reply ∷ replies) new passes tell = absurd passes
+tells_each old (step ∷ steps) [] new passes tell = absurd passes
+
+-- and so do true ones
 honest_tells : (old new : CoreState) (steps : List Step) (before after : List Reply) (ran : Ran old steps before new after) → IsHonestSince (disks_of old) (disks_of new)
     → AllTell old steps before new after ran
-unfolding trusts
-honest_tells old new steps before after ran honest = tell_in old steps ran.0 new ran.2 (truth_tells old new honest)
+honest_tells old new steps before after ran honest = tells_each old steps ran.0 new ran.2 (truth_tells old new honest)
 
 -- a pool is opened with none of its disks out
 none_out : (its : List Vdev) (out : List Bool) (group : ℕ) (pool : PlainPool) → ((disk : ℕ) → is_out out disk ≡ false)
