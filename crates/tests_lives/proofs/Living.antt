@@ -1,5 +1,5 @@
 -- By what the calls ensured the pool has lived.
-use Rattle.std.proofs.Common.{ℕ, ◌≡◌, Bool, List, [], ◌∷◌, ◌++◌, map, refl, sym, ap, subst, ◌∙◌}
+use Rattle.std.proofs.Common.{ℕ, ◌≡◌, inl, Bool, List, [], ◌∷◌, ◌++◌, map, refl, sym, ap, subst, ◌∙◌}
 use Rattle.model_disk.specs.Call.{Call}
 use Rattle.model_disk.specs.Joint.{Disks, calls_on, log_of}
 use Rattle.model_disk.specs.Member.{calls_of, start_of}
