@@ -39,7 +39,7 @@ module _ {D : Type 0} where
       let made : AllWell g created core → IsMade g pool config u first =
       λ well. record { disks = disks; created = created; known = well.known; truly = well.truly } in
       let life : AllWell g created core → IsCrashHistory g (Up first) (Runs steps ran.0 ∷ []) (Up core) =
-      λ well. on.on (Up first) (Up first) (Up core) [] (Runs steps ran.0) refl (on.runs first core steps before after ran well.honest well.all) in
+      λ well. on.on (Up first) (Up first) (Up core) [] (Runs steps ran.0) refl (on.runs first core steps before after ran (inl well.honest) well.all) in
       record {
         first = first;
         created = created;
@@ -128,7 +128,7 @@ module _ {D : Type 0} where
   pub runs_on : (g : disk.Ghosts D) → CrashHistoriesGoOn g → (old : CoreState) (steps : List Step) (new : CoreState) (before after : List Reply)
       → Ran old steps before new after → RunsOn g old steps new
   runs_on g on old steps new before after ran =
-      record { before = before; after = after; ran = ran; life = λ honest all. (Up new, on.runs old new steps before after ran honest all, refl) }
+      record { before = before; after = after; ran = ran; life = λ honest all. (Up new, on.runs old new steps before after ran (inl honest) all, refl) }
 
   pub has_lived_on : (g : disk.Ghosts D) → CrashHistoriesKeepTheLastGroup g → (disks : List D) (pool : PoolIdentity) (config : Config) (steps more : List Step)
       (first second u : Uberblock) (run again last core : CoreState) → HasLived g disks pool config steps first run → ExportsAndOpens g run second again
