@@ -65,11 +65,11 @@ ChosenAreOwn shapes old new stored =
     (block : Block) (bytes others : List ℕ) → stored block ≡ Some bytes → IsChosenOf shapes old new block others (dvas block.copies)
     → sha256 others ≡ block.checksum → others ≡ bytes
 
--- so it is in each part of a run in which disks were only read
+-- So it is in each part of a run in which disks were only read: of no block that is known could other bytes be chosen there that have its digest.
 abbrev pub ChosenAreOwnThroughout : List VdevShape → Disks → Disks → Contents → Type 0
 ChosenAreOwnThroughout shapes old new stored = (from to : Disks) → GoesOn old from → OnlyReads from to → GoesOn to new → ChosenAreOwn shapes from to stored
 
--- Over disks that answer truly it is so where digests tell the blocks by what stands.
+-- Over disks that answer truly no other bytes with its digest could be chosen of a block, where digests tell the blocks by what stands.
 abbrev pub HonestChoicesAreOwn : Type 0
 HonestChoicesAreOwn =
     (shapes : List VdevShape) (old new : Disks) (missing : List ℕ) (stored : Contents)
@@ -100,7 +100,8 @@ MendsSpareBlocks =
     → IsCopyOn shapes block i extent → ((disk : ℕ) → Contains missing disk → Contains absent disk)
     → ExtentStands (content old) absent extent bytes → ExtentStands (content new) absent extent bytes
 
--- So it is whatever the disks gave, true or not, if of no block other bytes that could be chosen had the digest, as long as they were only read.
+-- Where blocks were mended, whatever the disks gave, each column of them that stood stands, if in no part of it in which disks were only read other bytes with
+-- its digest could be chosen of a block.
 abbrev pub MendsSpareToldBlocks : Type 0
 MendsSpareToldBlocks =
     (shapes : List VdevShape) (old new : Disks) (missing : List ℕ) (blocks : List Block) (stored : Contents)
@@ -110,8 +111,8 @@ MendsSpareToldBlocks =
     → IsCopyOn shapes block i extent → ((disk : ℕ) → Contains missing disk → Contains absent disk)
     → ExtentStands (content old) absent extent bytes → ExtentStands (content new) absent extent bytes
 
--- Where blocks were looked at, and of none could other bytes be chosen, each column of which nothing was found stands, if its disk gave what stood there:
--- beside those columns that stood anyway.
+-- Where blocks were looked at, and of none other bytes with its digest could be chosen, each column of which nothing was found stands, if its disk gave what
+-- stood there: beside those columns that stood anyway.
 abbrev pub BlocksLookedAtStand : Type 0
 BlocksLookedAtStand =
     (shapes : List VdevShape) (old new : Disks) (missing left : List ℕ) (blocks : List Block) (found : List Finding) (stored : Contents)
