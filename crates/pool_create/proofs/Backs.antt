@@ -148,12 +148,12 @@ back_of keep old surveyed read it root u contents core are made =
       untouched = λ stored hold spells none honest.
           let honest_read = subst (λ (d : Disks). IsHonestSince old d) made.disks honest in
           let within = honest_within no_write old surveyed read read are.only (Makes-none no_write read) honest_read in
-          made.untouched (told_none surveyed read shapes out 3 root contents are.contents_are stored no_volumes (held_behind_reads keep old surveyed shapes out [] stored are.only hold) spells none within);
+          made.untouched (told_none surveyed read shapes out 3 root contents are.contents_are stored no_volumes (held_behind_reads keep old surveyed shapes out [] stored are.only hold) spells none (inl within));
       represents = λ stored hold spells configured named honest.
           let honest_read = subst (λ (d : Disks). IsHonestSince old d) made.disks honest in
           let within = honest_within no_write old surveyed read read are.only (Makes-none no_write read) honest_read in
           at stored no_volumes (held_behind_reads keep old read shapes out [] stored both hold)
-          (are.contents_are.are stored no_volumes (held_behind_reads keep old surveyed shapes out [] stored are.only hold) spells.0 within) spells (none_made_by 3)
+          (are.contents_are.are stored no_volumes (held_behind_reads keep old surveyed shapes out [] stored are.only hold) spells.0 (inl within)) spells (none_made_by 3)
           configured (subst (λ (kept : Config). IsStampOf (config_view kept) it.stamp.claim it.stamp) (sym made.config) named);
     }
 

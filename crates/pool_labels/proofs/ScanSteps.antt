@@ -1,5 +1,5 @@
 -- What was scanned of one disk, and of the first so many.
-use Rattle.std.proofs.Common.{◌≡◌, ◌⊎◌, inl, inr, ◌<◌, ◌≤◌, ◌∙◌, ◌↔◌, ℕ, zero, suc, ◌&&◌, nat_le, Bool, true, false, if◌then◌else◌, List, [], ◌∷◌, ◌++◌, length, map, Option, Some, None, All, Contains, IsTrue, Ok, refl, sym, ap, subst, arith}
+use Rattle.std.proofs.Common.{◌≡◌, ◌⊎◌, inl, inr, ◌<◌, ◌≤◌, ◌∙◌, ◌↔◌, ℕ, zero, suc, ◌&&◌, ◌*◌, nat_le, Bool, true, false, if◌then◌else◌, List, [], ◌∷◌, ◌++◌, length, map, Option, Some, None, All, Contains, IsTrue, Ok, refl, sym, ap, subst, arith}
 use Rattle.std.specs.Prelude.{Vec}
 use Rattle.std.specs.declared.alloc.Global.{Global}
 use Rattle.std.proofs.lemmas.Bool.Decides.{nat_tests}
@@ -21,7 +21,7 @@ use Rattle.pool_slots.specs.Slots.{is_disk}
 use Rattle.pool_slots.proofs.Failing.{fails_later}
 use Rattle.pool_slots.proofs.ReadRuns.{reads_failed, reads_made, reads_none, reads_more, reads_wider}
 use Rattle.pool_labels.specs.Choices.{AreSound, HasConfig}
-use Rattle.pool_labels.specs.Scans.{AreLost, AreScannedDisks, AreScannedSlots, AreSlotsOf, HasAllSlots, HasUnreadable, IsDiskScan, IsLabeled, IsScanOf, IsScannedDisk, IsScannedLabel, IsSlotLost, IsSoundReading, ScansSlotsOf, anywhere, four_of, has_allowed_size, is_allowed_disk, place_of, places_to}
+use Rattle.pool_labels.specs.Scans.{AreLost, AreScannedDisks, AreScannedSlots, AreSlotsOf, HasAllSlots, HasUnreadable, IsDiskScan, IsLabeled, IsScanOf, IsScannedDisk, IsScannedLabel, IsSlotLost, IsSoundReading, MakesAtMost, ScansSlotsOf, anywhere, four_of, has_allowed_size, is_allowed_disk, place_of, places_to}
 use Rattle.pool_labels.specs.Sizes.{is_allowed_size}
 use Rattle.pool_labels.specs.declared.scanned.DiskScan.{DiskScan}
 use Rattle.pool_labels.specs.declared.scanned.Reading.{Reading}
@@ -201,6 +201,7 @@ pub record ScanTo (first now : Disks) (n : ℕ) (ds : List ScannedDisk) (ls : Li
   pub places : map place_of ls ≡ places_to first.starts n
   pub labels : All (IsScannedLabel first now) ls
   pub slots : AreScannedSlots first now ls us
+  pub few : MakesAtMost (516 * n) first now
 
 pub scan_none : (first : Disks) → ScanTo first first 0 [] [] []
 scan_none first =
@@ -211,6 +212,7 @@ scan_none first =
       places = refl;
       labels = All-nil (IsScannedLabel first first);
       slots = record { each = λ i u has. absurd (has_none [] i u refl has); all = λ w labeled. absurd (labeled_none [] w refl labeled) };
+      few = omega arith;
     }
 
 -- a disk that was scanned before, and one that is now
@@ -265,8 +267,8 @@ slots_next first loop new labels more slots others before makes old it =
 
 pub scan_next : (first loop new : Disks) (n : ℕ) (disks : List ScannedDisk) (labels : List ScannedLabel) (slots : List (Option Uberblock)) (it : DiskScan)
     → ScanTo first loop n disks labels slots → OnlyReads (is_allowed_disk loop n) anywhere loop new → IsDiskScan loop new n it
-    → ScanTo first new (suc n) (disks ++ it.disk ∷ []) (labels ++ it.labels.items) (slots ++ it.slots.items)
-scan_next first loop new n disks labels slots it to run scanned =
+    → MakesAtMost 516 loop new → ScanTo first new (suc n) (disks ++ it.disk ∷ []) (labels ++ it.labels.items) (slots ++ it.slots.items)
+scan_next first loop new n disks labels slots it to run scanned one =
     let before = reads_made to.only in
     let makes = reads_made run in
     let P : List (List ℕ) → Type 0 = λ starts. map place_of it.labels.items ≡ (if is_allowed_size (length (bytes_of starts n)) then four_of n else []) in
@@ -292,6 +294,7 @@ scan_next first loop new n disks labels slots it to run scanned =
       labels = All-append (IsScannedLabel first new) labels it.labels.items (All-weaker (IsScannedLabel first loop) (IsScannedLabel first new) (λ s. label_more first loop new s makes) labels to.labels)
           (All-weaker (IsScannedLabel loop new) (IsScannedLabel first new) (λ s. label_since first loop new s before) it.labels.items scanned.labels);
       slots = slots_next first loop new labels it.labels.items slots it.slots.items before makes to.slots scanned.slots;
+      few = omega (arith, to.few, one);
     }
 
 sound_config : (old new : Disks) (which number : ℕ) (r : Reading) → IsSoundReading old new which number r → HasConfig r

@@ -1,9 +1,9 @@
 -- What reads of slots tell.
-use Rattle.std.proofs.Common.{◌≡◌, inl, inr, ◌<◌, ◌≤◌, ◌∙◌, ℕ, ◌+◌, ◌*◌, ◌/◌, ◌%◌, List, ◌∷◌, length, get_or, Option, Some, None, Ok, Err, refl, sym, ap, subst, arith}
+use Rattle.std.proofs.Common.{◌≡◌, inl, inr, ◌<◌, ◌≤◌, ◌∙◌, ℕ, zero, suc, ◌+◌, ◌*◌, ◌/◌, ◌%◌, List, ◌∷◌, length, get_or, Option, Some, None, Ok, Err, refl, sym, ap, subst, arith}
 use Rattle.std.specs.Prelude.{Vec}
 use Rattle.std.specs.declared.alloc.Global.{Global}
 use Rattle.std.proofs.lemmas.Bool.{cases_lt}
-use Rattle.std.proofs.lemmas.List.{get_or_past}
+use Rattle.std.proofs.lemmas.List.{get_or_past, length-append}
 use Rattle.uberblock_ring.specs.Place.{nth_slot_at}
 use Rattle.uberblock_ring.specs.Ranking.{Has}
 use Rattle.uberblock_ring.specs.Reads.{IsReading, ReadsSlots, size_of, slot_reads}
@@ -21,7 +21,7 @@ use Rattle.pool_slots.proofs.Places.{length-spelled}
 use Rattle.pool_slots.proofs.ReadRuns.{reads_wider}
 use Rattle.pool_slots.proofs.Reading.{AreRead, IsRead, are_read, read_is, slots_not_read}
 use Rattle.pool_slots.proofs.Same.{spelled_is}
-use Rattle.pool_labels.specs.Scans.{AreReadSlots, IsSlotLost}
+use Rattle.pool_labels.specs.Scans.{AreReadSlots, IsSlotLost, MakesAtMost}
 
 within : (found : List (Option Uberblock)) (k : ℕ) (u : Uberblock) → Has found k u → k < length found
 within found k u has =
@@ -87,3 +87,14 @@ pub only_slots : (old new : Disks) (which : ℕ) (cause : RingRefusal) → new.s
     → OnlyReads (is_disk which) (λ w. Unit {0}) old new
 only_slots old new which cause starts it =
     reads_wider (is_disk which) (is_disk which) (is_fault (of_ring which cause)) (λ w. Unit {0}) old new (λ w here. here) (λ w fault. tt) (slots_not_read old new which cause starts it)
+
+-- ---- how often
+
+counted : (which size : ℕ) (bytes : ℕ → List ℕ) (n : ℕ) → length (slot_reads which size bytes n) ≡ n
+counted which size bytes zero = refl
+counted which size bytes (suc n) = ap (λ m. suc m) (counted which size bytes n)
+
+pub slots_few : (old new : Disks) (which : ℕ) → ReadsSlots old new which (Err ring.DiskFault) → MakesAtMost 512 old new
+slots_few old new which it =
+    let reads = slot_reads which (size_of old which) it.2.bytes it.0 in
+    omega (arith, it.1, ap length it.2.calls, length-append reads old.calls, counted which (size_of old which) it.2.bytes it.0)

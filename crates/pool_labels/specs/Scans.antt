@@ -1,5 +1,5 @@
 -- What a scan of disks tells, and that it is what they hold.
-use Rattle.std.specs.Prelude.{◌≡◌, ◌↔◌, ◌⊎◌, ◌<◌, ℕ, zero, suc, ◌+◌, if◌then◌else◌, List, [], ◌∷◌, ◌++◌, length, map, slice_get, Option, Some, None, All, Contains, IsTrue, Result, Ok, Err, Vec}
+use Rattle.std.specs.Prelude.{◌≡◌, ◌↔◌, ◌⊎◌, ◌≤◌, ◌<◌, ℕ, zero, suc, ◌+◌, if◌then◌else◌, List, [], ◌∷◌, ◌++◌, length, map, slice_get, Option, Some, None, All, Contains, IsTrue, Result, Ok, Err, Vec}
 use Rattle.std.specs.declared.alloc.AllocError.{AllocError}
 use Rattle.std.specs.declared.alloc.Global.{Global}
 use Rattle.model_disk.specs.Call.{FailedRead}
@@ -22,6 +22,10 @@ use Rattle.pool_labels.specs.declared.scanned.DiskScan.{DiskScan}
 use Rattle.pool_labels.specs.declared.scanned.Scan.{Scan}
 use Rattle.pool_labels.specs.declared.scanned.ScannedDisk.{ScannedDisk}
 use Rattle.pool_labels.specs.declared.scanned.ScannedLabel.{ScannedLabel}
+
+-- at most so many calls were made since
+abbrev pub MakesAtMost : ℕ → Disks → Disks → Type 0
+MakesAtMost n old new = length new.calls ≤ length old.calls + n
 
 -- ---- labels
 

@@ -1,9 +1,9 @@
 //! Reading the labels and slots of disks that are handed in, in any order.
-ghost use Rattle.std.specs.Prelude.{◌≡◌, ◌↔◌, ◌⊎◌, ◌≤◌, ◌<◌, ◌++◌, ◌∷◌, [], length, IfOk, IsTrue, None};
+ghost use Rattle.std.specs.Prelude.{◌≡◌, ◌↔◌, ◌⊎◌, ◌≤◌, ◌<◌, ◌*◌, ◌++◌, ◌∷◌, [], length, IfOk, IsTrue, None};
 ghost use Rattle.model_disk.specs.Joint.{bytes_of};
 ghost use Rattle.pool_slots.specs.Reads.{OnlyReads};
 ghost use Rattle.pool_slots.specs.Slots.{is_disk};
-ghost use Rattle.pool_labels.specs.Scans.{AreLost, AreSlotsOf, HasUnreadable, IsDiskScan, IsLabeled, IsScanOf, IsUnread, IsValidOf, ScansFour, ScansLabel, ScansSlots, ScansSlotsOf, anywhere, has_allowed_size, is_allowed_disk};
+ghost use Rattle.pool_labels.specs.Scans.{AreLost, AreSlotsOf, HasUnreadable, IsDiskScan, IsLabeled, IsScanOf, IsUnread, IsValidOf, MakesAtMost, ScansFour, ScansLabel, ScansSlots, ScansSlotsOf, anywhere, has_allowed_size, is_allowed_disk};
 ghost use Rattle.pool_labels.specs.declared.scanned.Reading.TheVariants.{Unreadable};
 ghost use Rattle.pool_labels.specs.Sizes.{IsAllowedSize, is_allowed_size};
 
@@ -50,6 +50,7 @@ fn scan_label<D: Disk + Drop>(
     requires room { 1048576 ≤ length (bytes_of disks.old.starts which) }
     ensures only { OnlyReads (is_disk which) (IsUnread result) disks.old disks.new }
     ensures scans { IfOk result (ScansLabel disks.old disks.new which number) }
+    ensures few { MakesAtMost 1 disks.old disks.new }
 {
     match read_label(alloc, disks, which, number) {
         Ok(label) => Ok(scanned(which, number, Reading::Valid(label))),
@@ -73,6 +74,7 @@ fn scan_labels<D: Disk + Drop>(
     ensures unread { IfOk result (λ labels. OnlyReads (is_disk which)
         (λ _. HasUnreadable labels.items) disks.old disks.new) }
     ensures scans { IfOk result (ScansFour disks.old disks.new which) }
+    ensures few { MakesAtMost 4 disks.old disks.new }
 {
     let mut labels = Vec::new(alloc);
     for number in 0..LABELS {
@@ -92,6 +94,7 @@ fn scan_slots<D: Disk + Drop>(
     requires room { 1048576 ≤ length (bytes_of disks.old.starts which) }
     ensures only { OnlyReads (is_disk which) (AreLost result) disks.old disks.new }
     ensures scans { IfOk result (ScansSlots disks.old disks.new which) }
+    ensures few { MakesAtMost 512 disks.old disks.new }
 {
     match read_slots(alloc, disks, which) {
         Ok(slots) => Ok(Some(slots)),
@@ -151,6 +154,7 @@ fn scan_slots_of<D: Disk + Drop>(
     requires room { 1048576 ≤ length (bytes_of disks.old.starts which) }
     ensures only { OnlyReads (is_disk which) (AreLost result) disks.old disks.new }
     ensures scans { IfOk result (ScansSlotsOf labels.now disks.old disks.new which) }
+    ensures few { MakesAtMost 512 disks.old disks.new }
 {
     if !is_labeled(labels, which) {
         return Ok(Some(Vec::new(alloc)));
@@ -200,6 +204,7 @@ fn read_disk<D: Disk + Drop>(
     requires room { 1048576 ≤ length (bytes_of disks.old.starts which) }
     ensures only { OnlyReads (is_disk which) anywhere disks.old disks.new }
     ensures scans { IfOk result (IsDiskScan disks.old disks.new which) }
+    ensures few { MakesAtMost 516 disks.old disks.new }
 {
     let size = disks.size(which);
     let labels = scan_labels(alloc, disks, which)?;
@@ -216,6 +221,7 @@ fn scan_disk<D: Disk + Drop>(
     requires which { which < length disks.old.starts }
     ensures only { OnlyReads (is_allowed_disk disks.old which) anywhere disks.old disks.new }
     ensures scans { IfOk result (IsDiskScan disks.old disks.new which) }
+    ensures few { MakesAtMost 516 disks.old disks.new }
 {
     let size = disks.size(which);
     if is_allowed_size(size) {
@@ -240,6 +246,9 @@ pub fn scan<D: Disk + Drop>(alloc: Global, disks: &mut DiskArray<D>) -> Result<S
 
     // What it tells is what the disks hold, where their answers are true, and which of them failed.
     ensures scans { IfOk result (IsScanOf disks.old disks.new) }
+
+    // At most one read is made of each label and each slot of a disk.
+    ensures few { MakesAtMost (516 * length disks.old.starts) disks.old disks.new }
 {
     let mut scan = Scan::new(alloc);
     for which in 0..disks.len() {

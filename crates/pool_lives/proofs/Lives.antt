@@ -1,10 +1,11 @@
 -- Lives of a pool, from place to place.
-use Rattle.std.proofs.Common.{◌≡◌, inr, ⊎_elim, ◌<◌, ◌≤◌, ℕ, suc, ◌*◌, Bool, true, false, List, [], ◌∷◌, ◌++◌, length, Some, None, refl, sym, ap, subst, ◌∙◌, arith}
-use Rattle.std.specs.Prelude.{All, ◌==◌, ◌^◌, if◌then◌else◌}
+use Rattle.std.proofs.Common.{◌≡◌, inl, inr, ⊎_elim, ◌<◌, ◌≤◌, ℕ, suc, ◌*◌, Bool, true, false, List, [], ◌∷◌, ◌++◌, length, Some, None, refl, sym, ap, subst, ◌∙◌, arith}
+use Rattle.std.specs.Prelude.{All, map, ◌==◌, ◌^◌, if◌then◌else◌}
 use Rattle.std.proofs.lemmas.List.{append_cancel_left, length-append}
 use Rattle.std.proofs.lemmas.List.Elements.{All-head, All-tail}
 use Rattle.model_disk.specs.Joint.{Disks}
 use Rattle.model_disk.specs.declared.disk.Disk as disk
+use Rattle.raidz_io.specs.Reads.{IsHonestSince}
 use Rattle.block_store.specs.Places.{shapes_of}
 use Rattle.block_store.specs.Store.{is_out}
 use Rattle.block_store.specs.declared.shape.VdevShape.{VdevShape}
@@ -16,7 +17,7 @@ use Rattle.vdev_label.specs.declared.label.Config.{Config}
 use Rattle.pool_core.proofs.Running.{tell_in, trusts}
 use Rattle.pool_core.proofs.Telling.{truth_tells}
 use Rattle.pool_create.specs.Backs.{pool_after}
-use Rattle.pool_create.specs.CoreRuns.{Ran}
+use Rattle.pool_create.specs.CoreRuns.{GiveTrust, Ran}
 use Rattle.pool_create.specs.CoreState.{CoreState, disks_of}
 use Rattle.pool_create.specs.OpenOpening.{IsKeptThrough}
 use Rattle.pool_create.specs.OpenRefusal.{Refusal}
@@ -44,9 +45,9 @@ use Rattle.pool_stops.specs.OwnRunning.{CreatedPoolsAreOnTheirDisks, IsOnItsDisk
 use Rattle.pool_stops.specs.Reopening.{AreByGroup}
 use Rattle.pool_stops.specs.Running.{pool_of}
 use Rattle.pool_stops.specs.Unhindered.{AnswerTruly}
-use Rattle.pool_lives.specs.Lasting.{Keeps, LivesGoOn, LivesLoseNothing, served_first}
-use Rattle.pool_lives.specs.Lives.{Down, Exports, FindsNone, Goes, HandsBack, Happening, IsAnswered, IsExported, IsHandedBack, IsLife, IsOpenStopped, IsRun, IsRunStopped, Opens, Place, Runs, StopsOpening, StopsRunning, Up}
-use Rattle.pool_lives.specs.Tales.{IsTale, Known, Resting, Serving, Tells}
+use Rattle.pool_lives.specs.Lasting.{Keeps, CrashHistoriesGoOn, CrashHistoriesKeepTheLastGroup, served_first}
+use Rattle.pool_lives.specs.Lives.{AllTell, Down, Exports, FindsNone, Goes, HandsBack, Happening, IsAnswered, IsExported, IsHandedBack, IsCrashHistory, IsOpenStopped, IsRun, IsRunStopped, Opens, Place, Runs, StopsOpening, StopsRunning, Up}
+use Rattle.pool_lives.specs.Tales.{AreAllTrusted, IsTale, Known, Resting, Serving, Tells}
 use Rattle.pool_lives.proofs.Chains.{chain_on}
 use Rattle.pool_lives.proofs.Handing.{at_hand, begun_grew, safe_exported, safe_unexported, safe_unopened}
 use Rattle.pool_lives.proofs.Known.{chain_known, known_unfailed}
@@ -114,6 +115,19 @@ few_disks guid vdevs allowed = omega (arith, few_guids vdevs allowed.each, allow
 
 -- ---- runs
 
+-- where each step may be trusted, so is what was given to it
+all_trusted : (replies : List Reply) (givens : List Given) → GiveTrust (map (λ reply. true) replies) givens → AreAllTrusted givens
+all_trusted [] [] trust = tt
+all_trusted [] (given ∷ givens) trust = absurd trust
+all_trusted (reply ∷ replies) [] trust = absurd trust
+all_trusted (reply ∷ replies) (given ∷ givens) trust = (trust.0 refl, all_trusted replies givens trust.1)
+
+-- true answers tell in each step
+honest_tells : (old new : CoreState) (steps : List Step) (before after : List Reply) (ran : Ran old steps before new after) → IsHonestSince (disks_of old) (disks_of new)
+    → AllTell old steps before new after ran
+unfolding trusts
+honest_tells old new steps before after ran honest = tell_in old steps ran.0 new ran.2 (truth_tells old new honest)
+
 -- a pool is opened with none of its disks out
 none_out : (its : List Vdev) (out : List Bool) (group : ℕ) (pool : PlainPool) → ((disk : ℕ) → is_out out disk ≡ false)
     → opened_as its (is_out out) none_stale group pool ≡ opened_as its (λ disk. false) none_stale group pool
@@ -127,8 +141,7 @@ module _ {D : Type 0} (g : disk.Ghosts D) (laws : Laws g) (pool : PoolIdentity) 
       → IsUp pool vdevs digest core v last before → IsRun core steps replies later
       → GoesOn pool vdevs digest (Serving v last before) (Runs steps replies) (Up later)
   runs_on core later v last before steps replies is run =
-      let ran = run.ran.3 v (trusts run.ran.0) is.so.runs.represents
-      (tell_in core steps run.ran.0 later run.ran.2 (truth_tells core later run.honest)) in
+      let ran = run.ran.3 v (map (λ reply. true) run.ran.0) is.so.runs.represents run.tell in
       let links = ran.0 in
       let same : run.ran.0 ≡ replies = sym (append_cancel_left run.before replies run.ran.0 run.ran.1) in
       let it = chain_on laws.stops.none_was laws.stops.stay pool vdevs digest core v steps links.givens run.ran.0 later links.after last before is.so is.on
@@ -136,6 +149,7 @@ module _ {D : Type 0} (g : disk.Ghosts D) (laws : Laws g) (pool : PoolIdentity) 
         Serving links.after it.later it.earlier,
         record {
           givens = links.givens;
+          trusted = all_trusted run.ran.0 links.givens links.trust;
           run = subst (λ (them : List Reply). Run v steps links.givens them links.after) same ran.1;
           headline = subst (λ (them : List Reply). Headline v steps links.givens them links.after) same ran.2;
           commits = it.commits;
@@ -153,12 +167,11 @@ module _ {D : Type 0} (g : disk.Ghosts D) (laws : Laws g) (pool : PoolIdentity) 
       → IsUp pool vdevs digest core v last before → IsRunStopped core steps at images
       → GoesOn pool vdevs digest (Serving v last before) (StopsRunning steps at) (Down images)
   stops_on core images v last before steps at is (new, all_replies, run, leaves, same) =
-      let ran = run.ran.3 v (trusts run.ran.0) is.so.runs.represents
-      (tell_in core steps run.ran.0 new run.ran.2 (truth_tells core new run.honest)) in
+      let ran = run.ran.3 v (map (λ reply. true) run.ran.0) is.so.runs.represents run.tell in
       let links = ran.0 in
       let it = subst (λ (m : Disks). Stopped pool vdevs digest v last before steps m images) (sym same)
       (chain_stops laws.stops pool vdevs digest images leaves.calls core v steps links.givens run.ran.0 new links.after last before is.so is.on
-      links.chain run.all leaves.moment leaves.left leaves.untorn) in (
+      links.chain (all_trusted run.ran.0 links.givens links.trust) run.all leaves.moment leaves.left leaves.untorn) in (
         Resting it.p (pool_of it.w),
         record {
           taken = it.taken;
@@ -170,6 +183,7 @@ module _ {D : Type 0} (g : disk.Ghosts D) (laws : Laws g) (pool : PoolIdentity) 
           replies = it.replies;
           takes = record {
             givens = it.givens;
+            trusted = it.trusted;
             run = it.run;
             headline = laws.headline v it.taken it.givens it.replies it.w is.so.runs.represents.follows.sound it.run;
             commits = it.commits;
@@ -287,7 +301,7 @@ module _ {D : Type 0} (g : disk.Ghosts D) (laws : Laws g) (pool : PoolIdentity) 
   goes_on (Down images) (Resting p pools) it next is goes = down_goes images p pools it next is goes
   goes_on _ _ it next is goes = absurd is
 
-  pub lives_on : (from : Place) (known : Known) (its : List Happening) (to : Place) → Holds pool vdevs digest from known → IsLife g from its to
+  pub lives_on : (from : Place) (known : Known) (its : List Happening) (to : Place) → Holds pool vdevs digest from known → IsCrashHistory g from its to
       → (later : Known) × IsTale known its later × Holds pool vdevs digest to later
   lives_on from known [] to is same = (known, refl, subst (λ (place : Place). Holds pool vdevs digest place known) same is)
   lives_on from known (it ∷ its) to is (next, goes, life) =
@@ -305,8 +319,8 @@ module _ {D : Type 0} where
       (is.shapes, is.out, is.led, law pool (config_view config) digest images is.shapes is.out p pools is.led)
   keeps g law pool config digest _ _ is = absurd is
 
-  pub lives_lose_nothing : CreatedPoolsRunAs → CreatedPoolsAreOnTheirDisks → (g : disk.Ghosts D) → Laws g → LivesLoseNothing g
-  lives_lose_nothing run on g laws pool config u core made its to life =
+  pub crash_histories_keep_the_last_group : CreatedPoolsRunAs → CreatedPoolsAreOnTheirDisks → (g : disk.Ghosts D) → Laws g → CrashHistoriesKeepTheLastGroup g
+  crash_histories_keep_the_last_group run on g laws pool config u core made its to life =
       let vdevs : List PlainVdev = config_view config in
       let is = made.created.created in
       let own = on made.created.array pool config u core is in
@@ -321,18 +335,18 @@ module _ {D : Type 0} where
       }) life in
       (it.0, it.1, keeps g laws.opens pool config u.config_digest to it.0 it.2, rise (Serving (served_first made) u []) its it.0 it.1)
 
-  go_on : (g : disk.Ghosts D) (from to next : Place) (its : List Happening) (it : Happening) → IsLife g from its to → Goes g to it next
-      → IsLife g from (its ++ it ∷ []) next
+  go_on : (g : disk.Ghosts D) (from to next : Place) (its : List Happening) (it : Happening) → IsCrashHistory g from its to → Goes g to it next
+      → IsCrashHistory g from (its ++ it ∷ []) next
   go_on g from to next [] it same goes = (next, subst (λ (place : Place). Goes g place it next) (sym same) goes, refl)
   go_on g from to next (first ∷ its) it (place, began, life) goes = (place, began, go_on g place to next its it life goes)
 
-  pub lives_go_on : (g : disk.Ghosts D) → UnfoundDisksAreReturned g → ShownImagesAreLeft → ArraysComeBack g → LivesGoOn g
-  lives_go_on g law shown_left arrays = record {
+  pub crash_histories_go_on : (g : disk.Ghosts D) → UnfoundDisksAreReturned g → ShownImagesAreLeft → ArraysComeBack g → CrashHistoriesGoOn g
+  crash_histories_go_on g law shown_left arrays = record {
     on = λ from to next its it life goes. go_on g from to next its it life goes;
-    runs = λ old new steps before after ran honest all. record {
+    runs = λ old new steps before after ran how all. record {
       before = before;
-      ran = subst (λ (them : List Reply). Ran old steps before new them) ran.1 ran;
-      honest = honest;
+      ran = (ran.0, refl, ran.2, ran.3);
+      tell = elim how [ inl honest ↦ honest_tells old new steps before after ran honest | inr tell ↦ tell ];
       all = all;
     };
     exports = λ core disks images put honest left. (put.u, put.new, put.done.begun, honest, left);

@@ -1,5 +1,5 @@
 -- A run that is stopped: what is left leads to the pool of the last committed group, or to that of the next one too.
-use Rattle.std.proofs.Common.{◌≡◌, ◌⊎◌, inl, inr, ⊎_elim, ◌<◌, ◌≤◌, ℕ, suc, Bool, false, List, [], ◌∷◌, ◌++◌, length, refl, sym, ap, subst, ◌∙◌, arith}
+use Rattle.std.proofs.Common.{◌≡◌, ◌⊎◌, inl, inr, ⊎_elim, ◌<◌, ◌≤◌, ℕ, suc, Bool, true, false, List, [], ◌∷◌, ◌++◌, length, refl, sym, ap, subst, ◌∙◌, arith}
 use Rattle.model_disk.specs.Joint.{Disks, JointCall, MayLeaveAll}
 use Rattle.model_disk.specs.Runs.{IsMoment}
 use Rattle.block_store.specs.Places.{shapes_of}
@@ -29,7 +29,7 @@ use Rattle.pool_stops.specs.OwnReopening.{LeadToOwnPools}
 use Rattle.pool_stops.specs.OwnRunning.{IsOnItsDisks, StepsStayOnTheirDisks}
 use Rattle.pool_stops.specs.Reopening.{LeavesImages}
 use Rattle.pool_stops.specs.Running.{IsNextOf, IsRunning, IsWhole, NoneWasOut, pool_of}
-use Rattle.pool_lives.specs.Tales.{AreCommitted}
+use Rattle.pool_lives.specs.Tales.{AreAllTrusted, AreCommitted}
 use Rattle.pool_lives.proofs.Chains.{next_group, next_of}
 use Rattle.pool_lives.proofs.Moments.{chain_grew, within_first, within_second}
 use Rattle.pool_lives.proofs.Resting.{rests}
@@ -52,6 +52,7 @@ pub record Stopped (pool : PoolIdentity) (vdevs : List PlainVdev) (digest : List
   pub rest : List Step
   pub whole : taken ++ rest ≡ steps
   pub givens : List Given
+  pub trusted : AreAllTrusted givens
   pub replies : List Reply
   pub w : View
   pub run : Run v taken givens replies w
@@ -87,6 +88,7 @@ stops_here laws pool vdevs digest old new v w step given reply last before steps
       rest = steps;
       whole = refl;
       givens = [];
+      trusted = tt;
       replies = [];
       w = v;
       run = refl;
@@ -106,9 +108,9 @@ stops_here laws pool vdevs digest old new v w step given reply last before steps
 
 with_step : (pool : PoolIdentity) (vdevs : List PlainVdev) (digest : List ℕ) (old : CoreState) (v between : View) (last : Uberblock) (before : List Uberblock)
     (mid : Uberblock) (early : List Uberblock) (step : Step) (given : Given) (reply : Reply) (steps : List Step) (at : Disks) (images : List (List ℕ))
-    → IsRunning old v last before → IsNextOf old.commit last before mid early → StepOf v given step reply between
+    → IsRunning old v last before → IsNextOf old.commit last before mid early → StepOf v given step reply between → given.trusted ≡ true
     → Stopped pool vdevs digest between mid early steps at images → Stopped pool vdevs digest v last before (step ∷ steps) at images
-with_step pool vdevs digest old v between last before mid early step given reply steps at images runs next is it =
+with_step pool vdevs digest old v between last before mid early step given reply steps at images runs next is trusted it =
     let more = ⊎_elim
     (λ same. (it.commits, subst (λ (x : Uberblock × List Uberblock). AreCommitted x.0 x.1 it.commits it.later it.earlier) (λ j. (same.0 j, same.1 j)) it.committed))
     (λ (plan, planned, later, earlier). (
@@ -125,6 +127,7 @@ with_step pool vdevs digest old v between last before mid early step given reply
       rest = it.rest;
       whole = ap (λ xs. step ∷ xs) it.whole;
       givens = given ∷ it.givens;
+      trusted = (trusted, it.trusted);
       replies = reply ∷ it.replies;
       w = it.w;
       run = (between, is, it.run);
@@ -159,10 +162,10 @@ below_or k n = grind arith
 pub chain_stops : StopLaws → (pool : PoolIdentity) (vdevs : List PlainVdev) (digest : List ℕ) (images : List (List ℕ)) (calls : List JointCall)
     (old : CoreState) (v : View) (steps : List Step) (givens : List Given) (replies : List Reply) (new : CoreState) (w : View) (last : Uberblock)
     (before : List Uberblock) → IsRunningAs digest old v last before → IsOnItsDisks pool vdevs old last before
-    → Chain old v steps givens replies new w → NoneIsOut new.commit → IsMoment (length (disks_of old).calls) (disks_of new).calls calls
+    → Chain old v steps givens replies new w → AreAllTrusted givens → NoneIsOut new.commit → IsMoment (length (disks_of old).calls) (disks_of new).calls calls
     → MayLeaveAll (disks_of old).starts calls images → AreUntorn old.commit.store.out (disks_of old).starts calls images
     → Stopped pool vdevs digest v last before steps (record { starts = (disks_of old).starts; calls = calls }) images
-chain_stops laws pool vdevs digest images calls old v [] [] [] new w last before so on chain none moment left untorn =
+chain_stops laws pool vdevs digest images calls old v [] [] [] new w last before so on chain trusted none moment left untorn =
     stops_here laws pool vdevs digest old old v v (Hold 0) nothing_given (Refused NoMemory) last before [] images so on (rests old v so.runs.represents) refl
     so.runs.whole.none (record {
       calls = calls;
@@ -170,7 +173,7 @@ chain_stops laws pool vdevs digest images calls old v [] [] [] new w last before
       left = left;
       untorn = untorn;
     })
-chain_stops laws pool vdevs digest images calls old v (step ∷ steps) (given ∷ givens) (reply ∷ replies) new w last before so on chain none moment left untorn =
+chain_stops laws pool vdevs digest images calls old v (step ∷ steps) (given ∷ givens) (reply ∷ replies) new w last before so on chain trusted none moment left untorn =
     let mid : CoreState = chain.0 in
     let between : View = chain.1 in
     let was : NoneIsOut mid.commit = laws.none_was mid new between w steps givens replies chain.5 none in
@@ -182,9 +185,9 @@ chain_stops laws pool vdevs digest images calls old v (step ∷ steps) (given �
     let out : mid.commit.store.out ≡ old.commit.store.out = same_out old.commit mid.commit so.runs.whole it.stops.on.runs.whole starts in
     let moment_of : List (List ℕ) → Disks = λ s. record { starts = s; calls = calls } in
     with_step pool vdevs digest old v between last before at.later at.earlier step given reply steps (moment_of (disks_of old).starts) images so.runs
-    (next_of it) chain.3.is_step
+    (next_of it) chain.3.is_step trusted.0
     (subst (λ s. Stopped pool vdevs digest between at.later at.earlier steps (moment_of s) images) starts
-    (chain_stops laws pool vdevs digest images calls mid between steps givens replies new w at.later at.earlier it.stops.on it.on.on chain.5 none
+    (chain_stops laws pool vdevs digest images calls mid between steps givens replies new w at.later at.earlier it.stops.on it.on.on chain.5 trusted.1 none
     (within_second (disks_of old) (disks_of mid) (disks_of new) calls moment more)
     (subst (λ s. MayLeaveAll s calls images) (sym starts) left)
     (subst (λ (x : List Bool × List (List ℕ)). AreUntorn x.0 x.1 calls images) (λ j. (sym out j, sym starts j)) untorn))))
@@ -196,4 +199,4 @@ chain_stops laws pool vdevs digest images calls old v (step ∷ steps) (given �
       untorn = untorn;
     }))
     (below_or (length (disks_of mid).calls) (length calls))
-chain_stops laws pool vdevs digest images calls old v steps givens replies new w last before so on chain none moment left untorn = absurd chain
+chain_stops laws pool vdevs digest images calls old v steps givens replies new w last before so on chain trusted none moment left untorn = absurd chain

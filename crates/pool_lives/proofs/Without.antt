@@ -5,10 +5,10 @@ use Rattle.vdev_label.specs.Plain.{config_view}
 use Rattle.vdev_label.specs.declared.label.Config.{Config}
 use Rattle.pool_format.specs.declared.labeling.PoolIdentity.{PoolIdentity}
 use Rattle.pool_stops.specs.Absent.{OwnPoolsOpenWithout}
-use Rattle.pool_lives.specs.Lasting.{Keeps, LivesLoseNothing, served_first}
+use Rattle.pool_lives.specs.Lasting.{Keeps, CrashHistoriesKeepTheLastGroup, served_first}
 use Rattle.pool_lives.specs.Lives.{Down, Happening}
 use Rattle.pool_lives.specs.Tales.{IsTale, Known, Resting, Serving}
-use Rattle.pool_lives.specs.Without.{LivesOpenWithout, RestsWithout}
+use Rattle.pool_lives.specs.Without.{CrashHistoriesOpenWithout, RestsWithout}
 
 module _ {D : Type 0} where
   rests_without : (g : disk.Ghosts D) → OwnPoolsOpenWithout g → (pool : PoolIdentity) (config : Config) (digest : List ℕ) (images : List (List ℕ)) (from : Known)
@@ -22,7 +22,7 @@ module _ {D : Type 0} where
   }
   rests_without g law pool config digest images from its (Serving v last before) tale keeps = absurd keeps
 
-  pub lives_open_without : (g : disk.Ghosts D) → LivesLoseNothing g → OwnPoolsOpenWithout g → LivesOpenWithout g
-  lives_open_without g lose law pool config u core made its images life =
+  pub crash_histories_open_without : (g : disk.Ghosts D) → CrashHistoriesKeepTheLastGroup g → OwnPoolsOpenWithout g → CrashHistoriesOpenWithout g
+  crash_histories_open_without g lose law pool config u core made its images life =
       let it = lose pool config u core made its (Down images) life in
       rests_without g law pool config u.config_digest images (Serving (served_first made) u []) its it.0 it.1 it.2

@@ -1,5 +1,5 @@
 -- What holds of every life of a pool.
-use Rattle.std.specs.Prelude.{ℕ, ◌≡◌, ◌<◌, Bool, None, List, [], ◌∷◌, ◌++◌, length}
+use Rattle.std.specs.Prelude.{ℕ, ◌≡◌, ◌⊎◌, ◌<◌, Bool, None, List, [], ◌∷◌, ◌++◌, length}
 use Rattle.model_disk.specs.Joint.{Disks}
 use Rattle.model_disk.specs.Runs.{AreSettled}
 use Rattle.model_disk.specs.declared.disk.Disk as disk
@@ -33,7 +33,7 @@ use Rattle.pool_slots.specs.Possible.{Possible}
 use Rattle.pool_stops.specs.Handed.{AreShown}
 use Rattle.pool_stops.specs.OwnReopening.{AreReturned, AreSafe, ArraysComeBack, IsOpenedTruly, LeadToOwnPools, OpenAgain}
 use Rattle.pool_stops.specs.Unhindered.{AnswerTruly}
-use Rattle.pool_lives.specs.Lives.{Down, Exports, FindsNone, Goes, HandsBack, Happening, IsLeft, IsLife, IsMade, Opens, Place, Runs, StopsOpening, StopsRunning, Up}
+use Rattle.pool_lives.specs.Lives.{AllTell, Down, Exports, FindsNone, Goes, HandsBack, Happening, IsLeft, IsCrashHistory, IsMade, Opens, Place, Runs, StopsOpening, StopsRunning, Up}
 use Rattle.pool_lives.specs.Tales.{IsTale, Known, Resting, Serving}
 
 -- each open's claim is above this one and all that were opened before it
@@ -68,11 +68,11 @@ module _ {D : Type 0} where
       × OpenAgain g pool (config_view config) digest images shapes out p pools
   Keeps g pool config digest _ _ = ⊥
 
-  -- Each life of a pool that was made, with all disks there and true answers, tells a tale, and no open meets or passes below the claim of another.
-  abbrev pub LivesLoseNothing : disk.Ghosts D → Type 0
-  LivesLoseNothing g =
+  -- Each life of a pool that was made, with all disks there, true answers, and in its runs such as tell, tells a tale, and no open meets or passes below the claim of another.
+  abbrev pub CrashHistoriesKeepTheLastGroup : disk.Ghosts D → Type 0
+  CrashHistoriesKeepTheLastGroup g =
       (pool : PoolIdentity) (config : Config) (u : Uberblock) (core : CoreState) (made : IsMade g pool config u core) (its : List Happening) (to : Place)
-      → IsLife g (Up core) its to
+      → IsCrashHistory g (Up core) its to
       → (known : Known) × IsTale (Serving (served_first made) u []) its known × Keeps g pool config u.config_digest to known × ClaimsRise u.claim its
 
   -- Each byte of the disks is known then, with nothing unflushed; and whatever bytes they show it goes on with these, with no stop between.
@@ -80,10 +80,10 @@ module _ {D : Type 0} where
   HandsOn g from it disks = AreSafe disks × ((images : List (List ℕ)) → AreShown images disks → Goes g from it (Down images))
 
   -- A life goes on with what happens next; and each public call is something that happens, by what it ensures.
-  pub record LivesGoOn (g : disk.Ghosts D) : Type 0 where
-    pub on : (from to next : Place) (its : List Happening) (it : Happening) → IsLife g from its to → Goes g to it next → IsLife g from (its ++ it ∷ []) next
+  pub record CrashHistoriesGoOn (g : disk.Ghosts D) : Type 0 where
+    pub on : (from to next : Place) (its : List Happening) (it : Happening) → IsCrashHistory g from its to → Goes g to it next → IsCrashHistory g from (its ++ it ∷ []) next
     pub runs : (old new : CoreState) (steps : List Step) (before after : List Reply) → (ran : Ran old steps before new after)
-        → IsHonestSince (disks_of old) (disks_of new) → NoneIsOut new.commit → Goes g (Up old) (Runs steps ran.0) (Up new)
+        → IsHonestSince (disks_of old) (disks_of new) ⊎ AllTell old steps before new after ran → NoneIsOut new.commit → Goes g (Up old) (Runs steps ran.0) (Up new)
     pub exports : (core : CoreState) (disks : List D) (images : List (List ℕ)) → (put : IsPutAway g core disks) → IsHonestSince (disks_of core) put.new
         → IsLeft (outs_of core) (disks_of core) put.new images → Goes g (Up core) Exports (Down images)
     pub refused_exports : (core : CoreState) (refusal : ExportRefusal) (disks : List D) (images : List (List ℕ)) → (given : IsGivenBack g core refusal disks)

@@ -1,12 +1,13 @@
--- Lives of a pool: what its public calls did, one after another, and the stops in them. All disks are there, and answer truly.
-use Rattle.std.specs.Prelude.{ℕ, ◌≡◌, ◌⊎◌, ◌<◌, Bool, None, List, [], ◌∷◌, ◌++◌}
+-- Lives of a pool: what its public calls did, one after another, and the stops in them. All disks are there, and answer truly; in a run it is enough that
+-- what they answer tells what was written.
+use Rattle.std.specs.Prelude.{ℕ, ◌≡◌, ◌⊎◌, ◌<◌, Bool, true, None, List, [], ◌∷◌, ◌++◌, map}
 use Rattle.model_disk.specs.Joint.{Disks}
 use Rattle.model_disk.specs.declared.disk.Disk as disk
 use Rattle.raidz_io.specs.Reads.{IsHonestSince}
 use Rattle.uberblock_ring.specs.declared.uberblock.Uberblock.{Uberblock}
 use Rattle.vdev_label.specs.declared.label.Config.{Config}
 use Rattle.pool_create.specs.CommitState.{NoneIsOut}
-use Rattle.pool_create.specs.CoreRuns.{Ran}
+use Rattle.pool_create.specs.CoreRuns.{Ran, TellIn}
 use Rattle.pool_create.specs.CoreState.{CoreState, disks_of}
 use Rattle.pool_create.specs.Creates.{IsCreatedOn}
 use Rattle.pool_create.specs.OpenExporting.{IsExportBegun}
@@ -43,11 +44,15 @@ pub data Happening : Type 0 where
   StopsOpening : ℕ → Happening
   FindsNone : ℕ → Happening
 
+-- what the disks answered in each of these steps tells what was written
+abbrev pub AllTell : (old : CoreState) (steps : List Step) (before : List Reply) (new : CoreState) (after : List Reply) → Ran old steps before new after → Type 0
+AllTell old steps before new after ran = TellIn old steps ran.0 new ran.2 (map (λ reply. true) ran.0)
+
 -- `run` took these steps, and added these replies
 pub record IsRun (old : CoreState) (steps : List Step) (replies : List Reply) (new : CoreState) : Type 0 where
   pub before : List Reply
   pub ran : Ran old steps before new (before ++ replies)
-  pub honest : IsHonestSince (disks_of old) (disks_of new)
+  pub tell : AllTell old steps before new (before ++ replies) ran
   pub all : NoneIsOut new.commit
 
 -- a stop at some moment of that, when the disks were these, left these bytes
@@ -113,6 +118,6 @@ module _ {D : Type 0} where
   Goes g _ _ _ = ⊥
 
   -- it goes on so, from place to place
-  abbrev pub IsLife : disk.Ghosts D → Place → List Happening → Place → Type 0
-  IsLife g from [] to = from ≡ to
-  IsLife g from (it ∷ its) to = (next : Place) × Goes g from it next × IsLife g next its to
+  abbrev pub IsCrashHistory : disk.Ghosts D → Place → List Happening → Place → Type 0
+  IsCrashHistory g from [] to = from ≡ to
+  IsCrashHistory g from (it ∷ its) to = (next : Place) × Goes g from it next × IsCrashHistory g next its to

@@ -1,5 +1,6 @@
 -- What a life tells: what is known of the pool from one place to the next.
-use Rattle.std.specs.Prelude.{ℕ, ◌≡◌, ◌⊎◌, false, List, [], ◌∷◌, ◌++◌}
+use Rattle.std.specs.List.{AllByRecursion}
+use Rattle.std.specs.Prelude.{ℕ, ◌≡◌, ◌⊎◌, true, false, List, [], ◌∷◌, ◌++◌}
 use Rattle.model_disk.specs.Joint.{Disks}
 use Rattle.uberblock_ring.specs.declared.uberblock.Uberblock.{Uberblock}
 use Rattle.pool_core.specs.Exporting.{MayBeExported}
@@ -28,10 +29,15 @@ abbrev pub AreCommitted : Uberblock → List Uberblock → List Uberblock → Ub
 AreCommitted last before [] later earlier = (later ≡ last) × (earlier ≡ before)
 AreCommitted last before (u ∷ us) later earlier = IsNextGroup last u × AreCommitted u (last ∷ before) us later earlier
 
+-- what was given to each step is trusted, so that each read gave its bytes
+abbrev pub AreAllTrusted : List Given → Type 0
+AreAllTrusted givens = AllByRecursion (λ (given : Given). given.trusted ≡ true) givens
+
 -- The machine gave these replies to the steps, and came to this view with this uberblock as that of its committed group.
 pub record TakesSteps (v : View) (last : Uberblock) (before : List Uberblock) (steps : List Step) (replies : List Reply) (w : View) (later : Uberblock)
     (earlier : List Uberblock) : Type 0 where
   pub givens : List Given
+  pub trusted : AreAllTrusted givens
   pub run : Run v steps givens replies w
   pub headline : Headline v steps givens replies w
   pub commits : List Uberblock

@@ -10,7 +10,7 @@ use Rattle.pool_model.specs.Pools.{PlainPool}
 use Rattle.pool_slots.specs.Possible.{Possible}
 use Rattle.pool_stops.specs.Absent.{OpenWithout}
 use Rattle.pool_lives.specs.Lasting.{served_first}
-use Rattle.pool_lives.specs.Lives.{Down, Happening, IsLife, IsMade, Up}
+use Rattle.pool_lives.specs.Lives.{Down, Happening, IsCrashHistory, IsMade, Up}
 use Rattle.pool_lives.specs.Tales.{IsTale, Known, Resting, Serving}
 
 module _ {D : Type 0} where
@@ -23,7 +23,7 @@ module _ {D : Type 0} where
     pub opens : (order : List (Option ℕ)) → OpenWithout g pool images shapes p pools order
 
   -- So does each pool whose life ended with its disks down.
-  abbrev pub LivesOpenWithout : disk.Ghosts D → Type 0
-  LivesOpenWithout g =
+  abbrev pub CrashHistoriesOpenWithout : disk.Ghosts D → Type 0
+  CrashHistoriesOpenWithout g =
       (pool : PoolIdentity) (config : Config) (u : Uberblock) (core : CoreState) (made : IsMade g pool config u core) (its : List Happening)
-      (images : List (List ℕ)) → IsLife g (Up core) its (Down images) → RestsWithout g pool images (Serving (served_first made) u []) its
+      (images : List (List ℕ)) → IsCrashHistory g (Up core) its (Down images) → RestsWithout g pool images (Serving (served_first made) u []) its

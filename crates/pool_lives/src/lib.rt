@@ -1,8 +1,8 @@
 //! Whole lives of a pool: whatever its public calls did, one after another, and wherever they were stopped.
 #![tactic(auto)]
 
-ghost use Rattle.pool_lives.specs.Lasting.{LivesGoOn, LivesLoseNothing};
-ghost use Rattle.pool_lives.specs.Without.{LivesOpenWithout};
+ghost use Rattle.pool_lives.specs.Lasting.{CrashHistoriesGoOn, CrashHistoriesKeepTheLastGroup};
+ghost use Rattle.pool_lives.specs.Without.{CrashHistoriesOpenWithout};
 
 use model_disk::Disk;
 use pool_create::unfailing_opens_claim_once;
@@ -20,8 +20,8 @@ use pool_stops::{
 /// of so many groups less. What is run from there on is a run of the machine, with the headline. And the claim of an open is above those of all before it.
 ///
 /// All disks are there, all their answers are true, no call of `create` or `open` fails, and nothing that a stop tears reads as a slot or a label by chance.
-pub fn lives_lose_nothing<D: Disk + Drop>()
-    ensures { LivesLoseNothing D.Disk }
+pub fn crash_histories_keep_the_last_group<D: Disk + Drop>()
+    ensures { CrashHistoriesKeepTheLastGroup D.Disk }
 {
     created_pools_run_as();
     created_pools_are_on_their_disks();
@@ -41,17 +41,17 @@ pub fn lives_lose_nothing<D: Disk + Drop>()
 /// last, or of one of which a slot was begun to be written since. What is run from there on is told by `run`: reads give the bytes of that pool.
 ///
 /// All answers are true, and no call of the open fails.
-pub fn lives_open_without<D: Disk + Drop>()
-    ensures { LivesOpenWithout D.Disk }
+pub fn crash_histories_open_without<D: Disk + Drop>()
+    ensures { CrashHistoriesOpenWithout D.Disk }
 {
-    lives_lose_nothing::<D>();
+    crash_histories_keep_the_last_group::<D>();
     own_pools_open_without::<D>();
 }
 
 /// With whatever happens next it is a life still; and each public call, answered or refused, is something that happens, by what it ensures. It goes on with
 /// the disks that a call gives back, with no stop between.
-pub fn lives_go_on<D: Disk + Drop>()
-    ensures { LivesGoOn D.Disk }
+pub fn crash_histories_go_on<D: Disk + Drop>()
+    ensures { CrashHistoriesGoOn D.Disk }
 {
     disks_may_be_handed_in::<D>();
     disks_may_be_handed_on::<D>();

@@ -25,7 +25,7 @@ use Rattle.vdev_label.specs.declared.label.Config.{Config}
 use Rattle.volume_rules.specs.NowMoves.{IsMadeBy}
 use Rattle.pool_open.specs.Again.{GoesOnFrom, IsCoreAgain, IsNoCoreAgain, IsRootMisplaced}
 use Rattle.pool_open.specs.Causes.{of_root}
-use Rattle.pool_open.specs.Held.{HoldOver}
+use Rattle.pool_open.specs.Held.{FewLieOver, HoldOver, TellOver}
 use Rattle.pool_open.specs.Opening.{AreMisplacedOver, RepresentsRoot}
 use Rattle.pool_open.specs.Roots.{AreContentsOver, AreReadBeside, IsReadOfRoot, IsRootNotRead}
 use Rattle.pool_open.specs.Trees.{IsConfiguredFor, NamesConfigOf}
@@ -48,13 +48,18 @@ RepresentsRead read shapes out stale u contents core =
 -- it represents the same by what could be held before
 pub again_represents : WritesElsewhereKeep → (old read : Disks) (shapes : List VdevShape) (out : List Bool) (by stale : List (Option GroupSpan)) (u : Uberblock)
     (contents : RootContents) (core : CoreState) → OnlyReads old read → by ≡ stale → IsReadOfRoot old read shapes out by u.group u.root contents
-    → core.commit.store.spans.stale ≡ stale → disks_of core ≡ read → RepresentsRead read shapes out stale u contents core → RepresentsRoot old shapes out u core
-again_represents keep old read shapes out by stale u contents core reads same is left_out disks represents stored pool hold spells configured named honest made =
+    → core.commit.store.spans.stale ≡ stale → disks_of core ≡ read → RepresentsRead read shapes out stale u contents core
+    → RepresentsRoot old old (disks_of core) shapes out u core
+again_represents keep old read shapes out by stale u contents core reads same is left_out disks represents stored pool hold spells configured named tell made =
     let held : HoldOver old shapes out stale stored = subst (λ (them : List (Option GroupSpan)). HoldOver old shapes out them stored) left_out hold in
-    let true_answers : IsHonestSince old read = subst (λ (d : Disks). IsHonestSince old d) disks honest in
+    let told : TellOver old read shapes out by = elim tell [
+      | inl honest ↦ inl (subst (λ (d : Disks). IsHonestSince old d) disks honest)
+      | inr few ↦ inr (subst (λ (d : Disks). FewLieOver old d shapes out by) disks
+          (subst (λ (them : List (Option GroupSpan)). FewLieOver old (disks_of core) shapes out them) (left_out ∙ sym same) few))
+    ] in
     subst (λ (them : List (Option GroupSpan)). Represents core (opened_as (vdevs_in shapes) (is_out out) (is_stale them) u.group pool)) (sym left_out)
     (represents stored pool (held_behind_reads keep old read shapes out stale stored (block_reads_made old read reads) held)
-    (is.are stored pool (subst (λ (them : List (Option GroupSpan)). HoldOver old shapes out them stored) (sym same) held) spells.0 true_answers) spells made configured named)
+    (is.are stored pool (subst (λ (them : List (Option GroupSpan)). HoldOver old shapes out them stored) (sym same) held) spells.0 told) spells made configured named)
 
 -- it leaves disks out by the spans that it knows
 pub leaves_out : (core : CoreState) (stale : List (Option GroupSpan)) (spans : List StaleSpan) (config : Config) → core.commit.store.spans.stale ≡ stale

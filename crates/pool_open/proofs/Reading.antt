@@ -25,7 +25,7 @@ use Rattle.pool_model.specs.Pools.{PlainPool}
 use Rattle.space_map_objects.specs.Maps.{IsForLossOf}
 use Rattle.space_map_objects.specs.Refused.{of_read}
 use Rattle.space_map_objects.specs.declared.refusal.Refusal.{Refusal}
-use Rattle.pool_open.specs.Held.{IsStoreOver}
+use Rattle.pool_open.specs.Held.{IsStoreOver, TellOver}
 use Rattle.pool_open.specs.Roots.{AreContentsOver, AreReadBeside, IsRootNotRead}
 use Rattle.pool_open.proofs.Once.{pairs_front}
 
@@ -37,9 +37,17 @@ read_beside one other old new out disks marked back reads =
     (subst (λ (b : Disks). P one.disks b (outs_from 0 out)) (sym back) (subst (λ (flags : List Bool). P one.disks other.disks (outs_from 0 flags)) marked base)) in
     record { only = moved.0; untouched = moved.1 }
 
-pub honest_between : (one other : Store) (old new : Disks) → one.disks ≡ old → new ≡ other.disks → IsHonestSince old new → IsHonestSince one.disks other.disks
+honest_between : (one other : Store) (old new : Disks) → one.disks ≡ old → new ≡ other.disks → IsHonestSince old new → IsHonestSince one.disks other.disks
 honest_between one other old new disks back honest =
     subst (λ (a : Disks). IsHonestSince a other.disks) (sym disks) (subst (λ (b : Disks). IsHonestSince old b) back honest)
+
+-- what was read tells the blocks to a store over the disks
+pub tell_through : (store later : Store) (old new : Disks) (shapes : List VdevShape) (out : List Bool) (stale : List (Option GroupSpan)) → IsStoreOver old shapes out stale store
+    → new ≡ later.disks → TellOver old new shapes out stale → AnswersTell store later []
+tell_through store later old new shapes out stale over back tell = elim tell [
+  | inl honest ↦ inl (honest_between store later old new over.disks_are back honest)
+  | inr few ↦ inr (few store later over (sym back))
+]
 
 -- ---- refusals
 
@@ -71,10 +79,10 @@ refused_through store later old shapes out stale group root most refusal over re
     now = refl;
     after = after;
     cause = cause;
-    whole = λ stored pool hold small honest.
+    whole = λ stored pool hold small tell.
         let has : HasItsMaps store.spaces small.is = small.mapped store.spaces over.shapes_are in
         known stored pool (hold store over) small.is has (pairs_front (λ block behind. block ≢ behind) (meta_blocks_of small.is) (volume_blocks_of small.is) has.once) small.few
-        (inl (honest_between store later old later.disks over.disks_are refl honest));
+        (tell_through store later old later.disks shapes out stale over refl tell);
   }));
 }
 

@@ -1,5 +1,5 @@
 -- What a core represents that goes on from a root that was read before its claim.
-use Rattle.std.proofs.Common.{◌≡◌, ℕ, Bool, Option, List, [], length, refl, sym, ap, ◌∙◌, subst}
+use Rattle.std.proofs.Common.{◌≡◌, inl, inr, ℕ, Bool, Option, List, [], length, refl, sym, ap, ◌∙◌, subst}
 use Rattle.model_disk.specs.Joint.{Disks}
 use Rattle.model_disk.specs.Runs.{Makes, no_write}
 use Rattle.raidz_io.specs.Reads.{IsHonestSince}
@@ -21,7 +21,7 @@ use Rattle.pool_slots.proofs.Phases.{both_made, none_same}
 use Rattle.uberblock_ring.specs.Uberblock.{Fits}
 use Rattle.uberblock_ring.specs.declared.uberblock.Uberblock.{Uberblock}
 use Rattle.volume_rules.specs.NowMoves.{IsMadeBy}
-use Rattle.pool_open.specs.Held.{HoldOver, IsLaidOver, IsStoreOver}
+use Rattle.pool_open.specs.Held.{FewLieOver, HoldOver, IsLaidOver, IsStoreOver, TellOver}
 use Rattle.pool_open.specs.Opening.{RepresentsRoot}
 use Rattle.pool_open.specs.Trees.{IsConfiguredFor, NamesConfigOf}
 use Rattle.pool_open.specs.Words.{vdevs_in}
@@ -62,14 +62,17 @@ CoreRepresents new shapes later stale claimed contents core =
 pub represents_root : WritesElsewhereKeep → (old surveyed read new : Disks) (shapes : List VdevShape) (out later : List Bool) (stale : List (Option GroupSpan)) (claimed : Uberblock) (contents : RootContents)
     (core : CoreState) → IsLaidOver old shapes out → length later ≡ length old.starts → Makes no_write old surveyed → Makes no_write surveyed read
     → MakesOn (InUse later) (IsClaimWrite read.starts later claimed) read new → Fits claimed → IsReadOfRoot surveyed read shapes later stale claimed.group claimed.root contents
-    → disks_of core ≡ new → core.commit.store.spans.stale ≡ stale → CoreRepresents new shapes later stale claimed contents core → RepresentsRoot old shapes later claimed core
-represents_root keep old surveyed read new shapes out later stale claimed contents core laid count surveys reads claims fits root disks marks represents stored pool hold spells configured named honest made =
+    → disks_of core ≡ new → core.commit.store.spans.stale ≡ stale → CoreRepresents new shapes later stale claimed contents core
+    → RepresentsRoot old surveyed read shapes later claimed core
+represents_root keep old surveyed read new shapes out later stale claimed contents core laid count surveys reads claims fits root disks marks represents stored pool hold spells configured named tell made =
     let held : HoldOver old shapes later stale stored = subst (λ (them : List (Option GroupSpan)). HoldOver old shapes later them stored) marks hold in
-    let honest_now = subst (λ (d : Disks). IsHonestSince old d) disks honest in
+    let told : TellOver surveyed read shapes later stale = elim tell [
+      | inl honest ↦ inl (honest_within (IsClaimWrite read.starts later claimed) old surveyed read new surveys claims.makes (subst (λ (d : Disks). IsHonestSince old d) disks honest))
+      | inr few ↦ inr (subst (λ (them : List (Option GroupSpan)). FewLieOver surveyed read shapes later them) marks few)
+    ] in
     let before = both_made no_write old surveyed read surveys reads in
     subst (λ (them : List (Option GroupSpan)). Represents core (opened_as (vdevs_in shapes) (is_out later) (is_stale them) claimed.group pool)) (sym marks)
     (represents stored pool
     (held_behind_claim keep old read new shapes out later stale claimed stored laid before claims count fits held)
-    (root.are stored pool (held_behind_reads keep old surveyed shapes later stale stored surveys held) spells.0
-    (honest_within (IsClaimWrite read.starts later claimed) old surveyed read new surveys claims.makes honest_now))
+    (root.are stored pool (held_behind_reads keep old surveyed shapes later stale stored surveys held) spells.0 told)
     spells made configured named)

@@ -33,7 +33,7 @@ use Rattle.space_map_objects.specs.declared.refusal.Refusal.{Refusal as RootRefu
 use Rattle.space_map_objects.specs.declared.refusal.Refusal.TheVariants as root
 use Rattle.uberblock_ring.specs.declared.uberblock.Uberblock.{Uberblock}
 use Rattle.pool_open.specs.Causes.{of_root}
-use Rattle.pool_open.specs.Held.{IsLaidOver, IsStoreOver}
+use Rattle.pool_open.specs.Held.{IsLaidOver, IsStoreOver, TellOver}
 use Rattle.pool_open.specs.Opening.{AreClaimedThrough, AreMisplacedOver, AreReadThrough, IsCauseOfReading, IsKeptThrough, IsNotOpenedOver, IsOpenedOver, IsSurveyRefused}
 use Rattle.pool_open.specs.Retried.{IsFailedClaim, IsPoolRead}
 use Rattle.pool_open.specs.Known.{IsKnownBy}
@@ -248,9 +248,12 @@ opened_over keep out later rewind old surveyed read new shapes s root core few m
     let reads = block_reads_made surveyed read blocks.only in
     let represents = represents_root keep old surveyed read new shapes out later root.stale.items s.claimed root.contents core laid are.count surveys reads begun.makes are.whole.fits its.read
     made.disks made.stale made.represents in
-    let fresh : IsFreshFor old shapes later s.claimed core = λ stored pool hold spells none honest.
+    let fresh : IsFreshFor old surveyed read shapes later s.claimed core = λ stored pool hold spells none tell.
     let there = held_behind_reads keep old surveyed shapes later [] stored surveys hold in
-    let within = honest_within (IsClaimWrite read.starts later s.claimed) old surveyed read new surveys begun.makes.makes (subst (λ (d : Disks). IsHonestSince old d) made.disks honest) in
+    let within : TellOver surveyed read shapes later [] = elim tell [
+      | inl honest ↦ inl (honest_within (IsClaimWrite read.starts later s.claimed) old surveyed read new surveys begun.makes.makes (subst (λ (d : Disks). IsHonestSince old d) made.disks honest))
+      | inr few ↦ inr few
+    ] in
     let marks : root.stale.items ≡ [] = its.fresh stored pool there spells none within in
     let table : root.contents.spans ≡ [] =
     told_none surveyed read shapes later s.claimed.group s.claimed.root root.contents
@@ -279,5 +282,6 @@ opened_over keep out later rewind old surveyed read new shapes s root core few m
       spans = spans.0;
       stale = spans.1;
       represents = represents;
-      possible = opens_possible (IsClaimWrite read.starts later s.claimed) old read new shapes later rewind s core few are.whole.found_on is begun.makes.makes made.disks fresh represents;
+      possible = opens_possible (IsClaimWrite read.starts later s.claimed) old surveyed read new shapes later rewind s core few are.whole.found_on are.is reads begun.makes.makes
+          made.disks fresh represents;
     }

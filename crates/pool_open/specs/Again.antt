@@ -39,7 +39,7 @@ pub record IsCoreAgain (old : Disks) (shapes : List VdevShape) (out : List Bool)
   pub configured : config_of core ≡ config
   pub spans_are : spans_of core ≡ spans
   pub stale : LeavesOutStale core.commit
-  pub represents : RepresentsRoot old shapes out claimed core
+  pub represents : RepresentsRoot old old (disks_of core) shapes out claimed core
 
 -- ---- none
 

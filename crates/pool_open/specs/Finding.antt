@@ -1,5 +1,5 @@
 -- A pool that is found on disks.
-use Rattle.std.specs.Prelude.{ℕ, ◌≡◌, ◌⊎◌, Bool, List, map}
+use Rattle.std.specs.Prelude.{ℕ, ◌≡◌, ◌⊎◌, ◌*◌, Bool, List, length, map}
 use Rattle.model_disk.specs.Joint.{Disks, calls_on, log_of}
 use Rattle.model_disk.specs.Member.{calls_of, disk_of, start_of}
 use Rattle.model_disk.specs.declared.disk.Disk as disk
@@ -7,7 +7,7 @@ use Rattle.model_disk.specs.declared.member.Member.{Member}
 use Rattle.block_store.specs.declared.shape.VdevShape.{VdevShape}
 use Rattle.pool_format.specs.declared.labeling.PoolIdentity.{PoolIdentity}
 use Rattle.pool_labels.specs.Choices.{ChoiceRefuses, IsChoice}
-use Rattle.pool_labels.specs.Scans.{IsScanOf, anywhere, has_allowed_size}
+use Rattle.pool_labels.specs.Scans.{IsScanOf, MakesAtMost, anywhere, has_allowed_size}
 use Rattle.pool_labels.specs.declared.choice.Choice.{Choice}
 use Rattle.pool_labels.specs.declared.refusal.Refusal.{Refusal}
 use Rattle.pool_labels.specs.declared.refusal.Refusal.TheVariants.{NoMemory}
@@ -65,10 +65,11 @@ module _ {D : Type 0} where
     pub calls : (which : ℕ) → log_of (map (calls_of g) members) which ≡ calls_on which array.calls
     pub given : back ≡ disks_back members places
 
-  -- nothing but reads of disks of an allowed size was called, between these two moments
+  -- nothing but reads of disks of an allowed size was called, between these two moments: at most one of each label and each slot of a disk
   pub record AreRead (g : disk.Ghosts D) (disks : List D) (old new : Disks) : Type 0 where
     pub before : IsArrayOf g disks old
     pub only : OnlyReads (has_allowed_size old) anywhere old new
+    pub few : MakesAtMost (516 * length old.starts) old new
 
   -- The disks were read, and put in the order of the children that were chosen; what stands for a child with no disk is marked.
   pub record IsFoundPool (g : disk.Ghosts D) (disks : List D) (rewind : ℕ) (members : List (Member D)) (out : List Bool) (shapes : List VdevShape)

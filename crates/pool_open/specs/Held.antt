@@ -1,14 +1,16 @@
 -- What may be read of a pool's disks, by whatever store they are opened with.
-use Rattle.std.specs.Prelude.{◌≡◌, Bool, Option, List, [], length, replicate}
+use Rattle.std.specs.Prelude.{◌≡◌, ◌⊎◌, Bool, Option, List, [], length, replicate}
 use Rattle.disk_set.specs.declared.stale.GroupSpan.{GroupSpan}
 use Rattle.model_disk.specs.Joint.{Disks}
 use Rattle.block_store.specs.Blocks.{Contents}
 use Rattle.block_store.specs.Places.{shapes_of}
+use Rattle.block_store.specs.Steps.{FewLie}
 use Rattle.block_store.specs.Store.{Store, Holds}
 use Rattle.block_store.specs.declared.shape.VdevShape.{VdevShape}
 use Rattle.pool_core.specs.Slots.{LabelsLieAside}
 use Rattle.pool_slots.specs.Labels.{IsClaimWrite}
 use Rattle.pool_slots.specs.Slots.{InUse, MakesOn}
+use Rattle.raidz_io.specs.Reads.{IsHonestSince}
 use Rattle.uberblock_ring.specs.Uberblock.{Fits}
 use Rattle.uberblock_ring.specs.declared.uberblock.Uberblock.{Uberblock}
 
@@ -42,3 +44,14 @@ ClaimsKeepWhatIsHeld =
     (shapes : List VdevShape) (out : List Bool) (stale : List (Option GroupSpan)) (u : Uberblock) (old new : Disks) (stored : Contents) (store : Store)
     → IsStoreOver old shapes out stale store → Holds store stored → LabelsLieAside old.starts store.spaces → length out ≡ length old.starts → Fits u
     → MakesOn (InUse out) (IsClaimWrite old.starts out u) old new → HoldOver new shapes out stale stored
+
+-- ---- what reads gave
+
+-- Of what was read since some disks may lie. By each such store they are few in each vdev with those that are lost, all others gave what stood there, and
+-- of no block do other bytes that what was given could be have the digest.
+abbrev pub FewLieOver : Disks → Disks → List VdevShape → List Bool → List (Option GroupSpan) → Type 0
+FewLieOver old new shapes out stale = (store later : Store) → IsStoreOver old shapes out stale store → later.disks ≡ new → FewLie store later []
+
+-- what was read since tells the blocks: it is true, or few disks lie
+abbrev pub TellOver : Disks → Disks → List VdevShape → List Bool → List (Option GroupSpan) → Type 0
+TellOver old new shapes out stale = IsHonestSince old new ⊎ FewLieOver old new shapes out stale

@@ -29,7 +29,7 @@ use Rattle.space_map_objects.specs.declared.refusal.Refusal.{Refusal as RootRefu
 use Rattle.uberblock_ring.specs.declared.uberblock.Uberblock.{Uberblock}
 use Rattle.volume_rules.specs.NowMoves.{IsMadeBy}
 use Rattle.pool_open.specs.Causes.{of_root, of_slots}
-use Rattle.pool_open.specs.Held.{HoldOver, IsStoreOver}
+use Rattle.pool_open.specs.Held.{FewLieOver, HoldOver, IsStoreOver}
 use Rattle.pool_open.specs.Roots.{AreMissedBy, AreReadBeside, IsKnownRoot, RootIsUnknown}
 use Rattle.pool_open.specs.Trees.{IsConfiguredFor, NamesConfigOf, OpensPossible}
 use Rattle.pool_open.specs.Words.{most_blocks, stamp_of, vdevs_in}
@@ -61,13 +61,13 @@ pub record IsKeptThrough (later : List Bool) (rewind : ℕ) (old new : Disks) : 
 -- ---- an open that is done, by one attempt
 
 -- Where the disks still in use have the blocks of a root that spells a pool, but for those of groups that disks missed by what the core knows, and it has
--- its space maps and a configuration, the claimed uberblock names that and the one that the core keeps, and all answers were true, the core represents
--- that pool.
-abbrev pub RepresentsRoot : Disks → List VdevShape → List Bool → Uberblock → CoreState → Type 0
-RepresentsRoot old shapes later claimed core =
+-- its space maps and a configuration, the claimed uberblock names that and the one that the core keeps, and all answers were true, or few disks lied as
+-- blocks were read, from these disks to those, the core represents that pool.
+abbrev pub RepresentsRoot : Disks → Disks → Disks → List VdevShape → List Bool → Uberblock → CoreState → Type 0
+RepresentsRoot old surveyed read shapes later claimed core =
     (stored : Contents) (pool : PlainPool) → HoldOver old shapes later core.commit.store.spans.stale stored
     → SpellsWithMaps stored shapes claimed.group claimed.root pool → IsConfiguredFor claimed stored pool → NamesConfigOf claimed core
-    → IsHonestSince old (disks_of core) → IsMadeBy claimed.group pool
+    → IsHonestSince old (disks_of core) ⊎ FewLieOver surveyed read shapes later core.commit.store.spans.stale → IsMadeBy claimed.group pool
     → Represents core (opened_as (vdevs_in shapes) (is_out later) (is_stale core.commit.store.spans.stale) claimed.group pool)
 
 -- An uberblock was claimed on the disks that are still in use, and the core goes on from its group.
@@ -91,8 +91,8 @@ pub record IsOpenedOver (old : Disks) (shapes : List VdevShape) (out : List Bool
   -- and the spans of the group's table, which end with the group for disks that are back; those of their groups it leaves out as it reads
   pub spans : HasSpansOpened later claimed.group core.commit.kept.last
   pub stale : LeavesOutStale core.commit
-  pub represents : RepresentsRoot old shapes later claimed core
-  pub possible : OpensPossible old shapes later rewind claimed core
+  pub represents : RepresentsRoot old calls.before.surveyed calls.read shapes later claimed core
+  pub possible : OpensPossible old calls.before.surveyed calls.read shapes later rewind claimed core
 
 -- ---- an open that is refused, by one attempt
 

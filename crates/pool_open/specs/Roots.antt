@@ -3,7 +3,7 @@ use Rattle.std.specs.List.{list_any}
 use Rattle.std.specs.Prelude.{ℕ, ◌≡◌, ◌≢◌, ◌≤◌, ◌⊎◌, ◌&&◌, Bool, true, false, Option, List, [], length, if◌then◌else◌}
 use Rattle.disk_set.specs.declared.stale.GroupSpan.{GroupSpan}
 use Rattle.model_disk.specs.Joint.{Disks}
-use Rattle.raidz_io.specs.Reads.{OnlyReads, AreUntouched, IsHonestSince}
+use Rattle.raidz_io.specs.Reads.{OnlyReads, AreUntouched}
 use Rattle.block_pointer.specs.declared.block.Block.{Block}
 use Rattle.block_store.specs.Blocks.{Contents}
 use Rattle.block_store.specs.Opened.{MayBeOpened}
@@ -24,7 +24,7 @@ use Rattle.space_map_objects.specs.Maps.{IsForLossOf}
 use Rattle.space_map_objects.specs.declared.refusal.Refusal.{Refusal}
 use Rattle.space_map_objects.specs.declared.refusal.Refusal.TheVariants.{NoMemory, Unread}
 use Rattle.stale_disks.specs.Rules.{AreSpansOpened, stale_groups}
-use Rattle.pool_open.specs.Held.{HoldOver, IsStoreOver}
+use Rattle.pool_open.specs.Held.{HoldOver, IsStoreOver, TellOver}
 
 -- the disks were only read, and none of those that are out was
 pub record AreReadBeside (out : List Bool) (old new : Disks) : Type 0 where
@@ -39,11 +39,12 @@ AreContentsOver shapes stored group root pool contents = (spaces : List VdevSpac
 abbrev pub AreSetsOver : List VdevShape → RootContents → Type 0
 AreSetsOver shapes contents = (spaces : List VdevSpace) → shapes_of spaces ≡ shapes → AreSetsOf spaces contents.maps.items
 
--- Where any store over the disks, of which some missed these groups, may read the blocks of a root that spells a pool, and the disks' answers are
--- true, this is what it has. Its space maps have places on the vdevs, whatever the root is.
+-- Where any store over the disks, of which some missed these groups, may read the blocks of a root that spells a pool, and what was read tells them, this
+-- is what it has. Its space maps have places on the vdevs, whatever the root is.
 pub record IsReadOfRoot (old new : Disks) (shapes : List VdevShape) (out : List Bool) (stale : List (Option GroupSpan)) (group : ℕ) (root : Block)
     (contents : RootContents) : Type 0 where
-  pub are : (stored : Contents) (pool : PlainPool) → HoldOver old shapes out stale stored → SpellsPool stored group root pool → IsHonestSince old new
+  pub are : (stored : Contents) (pool : PlainPool) → HoldOver old shapes out stale stored → SpellsPool stored group root pool
+      → TellOver old new shapes out stale
       → AreContentsOver shapes stored group root pool contents
   pub sets : AreSetsOver shapes contents
 
@@ -54,7 +55,7 @@ pub record IsSmallRoot (stored : Contents) (shapes : List VdevShape) (group : �
   pub few : length (meta_blocks_of is) ≤ most
 
 -- A store over the disks was refused the root by these reads, of so many blocks at most. Where it may read the blocks of a root that has its space
--- maps, whose meta object set has no more blocks, and the answers are true, it is for want of memory or of disks alone.
+-- maps, whose meta object set has no more blocks, and what was read tells them, it is for want of memory or of disks alone.
 pub record IsRootRefused (old new : Disks) (shapes : List VdevShape) (out : List Bool) (stale : List (Option GroupSpan)) (group : ℕ) (root : Block) (most : ℕ)
     (refusal : Refusal) : Type 0 where
   pub store : Store
@@ -63,7 +64,8 @@ pub record IsRootRefused (old new : Disks) (shapes : List VdevShape) (out : List
   pub now : later.disks ≡ new
   pub after : ℕ
   pub cause : AreContentsRefused store later [] group root most after refusal
-  pub whole : (stored : Contents) (pool : PlainPool) → HoldOver old shapes out stale stored → IsSmallRoot stored shapes group root pool most → IsHonestSince old new → IsForLossOf refusal
+  pub whole : (stored : Contents) (pool : PlainPool) → HoldOver old shapes out stale stored → IsSmallRoot stored shapes group root pool most
+      → TellOver old new shapes out stale → IsForLossOf refusal
 
 -- why nothing was read: the vdevs don't lie on the disks, or the root was refused
 abbrev pub RootRefuses : Disks → Disks → List VdevShape → List Bool → List (Option GroupSpan) → ℕ → Block → ℕ → Refusal → Type 0
@@ -111,7 +113,7 @@ pub record IsKnownRoot (old new : Disks) (shapes : List VdevShape) (out : List B
     (stale : List (Option GroupSpan)) : Type 0 where
   pub read : IsReadOfRoot old new shapes out stale group root contents
   pub fresh : (stored : Contents) (pool : PlainPool) → HoldOver old shapes out [] stored → (is : SpellsPool stored group root pool) → is.stale ≡ []
-      → IsHonestSince old new → stale ≡ []
+      → TellOver old new shapes out [] → stale ≡ []
 
 -- Read once more, by what its table said that disks missed, it has another table.
 pub record HasAnotherTable (old new : Disks) (shapes : List VdevShape) (out : List Bool) (stale : List (Option GroupSpan)) (group : ℕ) (root : Block)

@@ -1,5 +1,5 @@
 -- Pools that disks lead to, whatever stop they come from.
-use Rattle.std.specs.Prelude.{ℕ, ◌≡◌, Bool, List, [], length}
+use Rattle.std.specs.Prelude.{ℕ, ◌≡◌, ◌⊎◌, Bool, List, [], length}
 use Rattle.model_disk.specs.Joint.{Disks, content}
 use Rattle.raidz_io.specs.Reads.{IsHonestSince}
 use Rattle.block_store.specs.Blocks.{Contents}
@@ -19,7 +19,7 @@ use Rattle.pool_slots.specs.Possible.{Possible, IsInReach, Trees, TreeStands}
 use Rattle.pool_slots.specs.Slots.{StayOut}
 use Rattle.uberblock_ring.specs.declared.uberblock.Uberblock.{Uberblock}
 use Rattle.volume_rules.specs.NowMoves.{IsMadeBy}
-use Rattle.pool_open.specs.Held.{HoldOver}
+use Rattle.pool_open.specs.Held.{FewLieOver, HoldOver}
 use Rattle.pool_open.specs.Words.{stamp_of, vdevs_in}
 use Rattle.vdev_label.specs.Plain.{config_view}
 
@@ -51,10 +51,11 @@ pub record IsOpenedFor (p : Possible) (pools : Uberblock → PlainPool) (shapes 
   pub untouched : HaveNoSpans core.commit
 
 -- Whatever the disks in use lead to, if each uberblock that an open may come to has the tree of its pool, the claimed one names the configuration
--- that the core keeps, and all answers were true: what is claimed is one of the possible ones, or so many groups below one, and its pool is what
--- the core represents.
-abbrev pub OpensPossible : Disks → List VdevShape → List Bool → ℕ → Uberblock → CoreState → Type 0
-OpensPossible old shapes out rewind claimed core =
-    (trees : Trees) (p : Possible) (pools : Uberblock → PlainPool) → CanOpen trees out old p
-    → ((u : Uberblock) → IsInReach p u → IsTreeOf trees old.starts shapes out u (pools u)) → NamesConfigOf claimed core → IsHonestSince old (disks_of core)
-    → IsOpenedFor p pools shapes out rewind claimed core
+-- that the core keeps, and all answers were true, or those of labels and slots were and few disks lied as blocks were read behind them: what is claimed is
+-- one of the possible ones, or so many groups below one, and its pool is what the core represents.
+abbrev pub OpensPossible : Disks → Disks → Disks → List VdevShape → List Bool → ℕ → Uberblock → CoreState → Type 0
+OpensPossible old surveyed read shapes later rewind claimed core =
+    (trees : Trees) (p : Possible) (pools : Uberblock → PlainPool) → CanOpen trees later old p
+    → ((u : Uberblock) → IsInReach p u → IsTreeOf trees old.starts shapes later u (pools u)) → NamesConfigOf claimed core
+    → IsHonestSince old (disks_of core) ⊎ (IsHonestSince old surveyed × FewLieOver surveyed read shapes later [])
+    → IsOpenedFor p pools shapes later rewind claimed core

@@ -1,7 +1,7 @@
 //! Finding a pool on disks that are handed in, in any order.
-ghost use Rattle.std.specs.Prelude.{◌≡◌, ◌≤◌, length, All, IfErr, IfOk};
+ghost use Rattle.std.specs.Prelude.{◌≡◌, ◌≤◌, ◌*◌, length, All, IfErr, IfOk};
 ghost use Rattle.pool_labels.specs.Choices.{HasLabelAt, IsValidAt};
-ghost use Rattle.pool_labels.specs.Scans.{anywhere, has_allowed_size};
+ghost use Rattle.pool_labels.specs.Scans.{MakesAtMost, anywhere, has_allowed_size};
 ghost use Rattle.pool_labels.specs.declared.scanned.ScannedLabel.{ScannedLabel};
 ghost use Rattle.pool_open.specs.Finding.{FindRefuses, IsFoundOn, IsLaidOut, IsLayoutOf, LayoutRefuses, identity_of};
 ghost use Rattle.pool_slots.specs.Reads.{OnlyReads};
@@ -96,6 +96,7 @@ fn lay_out<D: Disk + Drop>(
     rewind: u64,
 ) -> Result<Layout, Refusal>
     ensures only { OnlyReads (has_allowed_size disks.old) anywhere disks.old disks.new }
+    ensures few { MakesAtMost (516 * length disks.old.starts) disks.old disks.new }
     ensures laid_out { IfOk result (IsLayoutOf disks.old disks.new rewind) }
     ensures refused { IfErr result (LayoutRefuses disks.old disks.new rewind) }
 {

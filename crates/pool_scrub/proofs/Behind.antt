@@ -192,7 +192,7 @@ held_whatever laws before core u counts stored pool is has own told honest store
     record { disks_are = refl; shapes_are = over.shapes_are; out_is = over.out_is; since = since; stale_is = refl } in
     let held : Holds first stored = has.held first was in
     let blocks : it.blocks ≡ _ = it.walked.reach stored pool has.held has.spells.0
-    (honest_part (disks_of before) (disks_of before) it.mid (disks_of core) (no_calls (disks_of before)) (grew_on it.mid is.mid (disks_of core) healed rest) honest) in
+    (inl (honest_part (disks_of before) (disks_of before) it.mid (disks_of core) (no_calls (disks_of before)) (grew_on it.mid is.mid (disks_of core) healed rest) honest)) in
     let are : AreStored stored it.blocks =
     λ block is_one. laws.reach.known stored u.group u.root pool has.spells.0 block (subst (λ (them : List Block). Contains them block) blocks is_one) in
     let apart : AreCopiesApart shapes it.blocks =

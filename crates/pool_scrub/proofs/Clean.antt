@@ -1,5 +1,5 @@
 -- What a pool goes on with behind a scrub.
-use Rattle.std.proofs.Common.{ℕ, ◌≡◌, Bool, true, false, List, [], length, Contains, replicate, refl, sym, ap, subst, ◌∙◌, arith}
+use Rattle.std.proofs.Common.{ℕ, ◌≡◌, inl, Bool, true, false, List, [], length, Contains, replicate, refl, sym, ap, subst, ◌∙◌, arith}
 use Rattle.block_pointer.specs.declared.block.Block.{Block}
 use Rattle.block_store.specs.Blocks.{Contents}
 use Rattle.block_store.specs.Store.{Store, Holds, is_out, is_stale, lost, outs_from}
@@ -93,8 +93,8 @@ held_clean law before core u counts stored pool is clean has known honest store 
     } in
     let held : Holds first stored = has.held first was in
     let blocks : it.blocks ≡ _ = it.walked.reach stored pool has.held has.spells.0
-    (honest_part (disks_of before) (disks_of before) it.mid (disks_of core) (no_calls (disks_of before))
-    (grew_on it.mid is.mid (disks_of core) (healed_grew shapes it.blocks missing it.mid is.mid is.looked.healed it.healed) rest) honest) in
+    (inl (honest_part (disks_of before) (disks_of before) it.mid (disks_of core) (no_calls (disks_of before))
+    (grew_on it.mid is.mid (disks_of core) (healed_grew shapes it.blocks missing it.mid is.mid is.looked.healed it.healed) rest) honest)) in
     record {
       blocks = held.blocks;
       places = held.places;
@@ -127,7 +127,7 @@ represents_behind before core u counts stored pool is has honest hold =
     let rest = grew_by_reads is.mid (disks_of core) is.begun.again.reads.only in
     is.begun.again.represents stored pool hold has.spells has.configured
     (subst (λ (config : Config). IsStampOf (config_view config) u.claim (stamp_of u)) (sym is.begun.again.configured) has.named)
-    (honest_part (disks_of before) is.mid (disks_of core) (disks_of core) (looked_grew before core u counts is) (no_calls (disks_of core)) honest)
+    (inl (honest_part (disks_of before) is.mid (disks_of core) (disks_of core) (looked_grew before core u counts is) (no_calls (disks_of core)) honest))
     has.made
 
 -- ---- clean ends

@@ -1,5 +1,5 @@
 -- Disks over which a store may be opened.
-use Rattle.std.proofs.Common.{ℕ, zero, suc, ◌≡◌, ◌≤◌, ◌^◌, Bool, Some, List, [], ◌∷◌, length, replicate, refl, sym, ap, subst, ◌∙◌}
+use Rattle.std.proofs.Common.{ℕ, zero, suc, ◌≡◌, ◌≤◌, inl, inr, ◌^◌, Bool, Some, List, [], ◌∷◌, length, replicate, refl, sym, ap, subst, ◌∙◌}
 use Rattle.std.specs.List.{slice_get}
 use Rattle.model_disk.specs.Joint.{Disks}
 use Rattle.block_pointer.specs.declared.block.Block.{Block}
@@ -7,7 +7,7 @@ use Rattle.block_store.specs.Blocks.{AreDistinct, Contents}
 use Rattle.block_store.specs.Opened.{MayBeOpened}
 use Rattle.block_store.specs.Places.{shapes_of}
 use Rattle.block_store.specs.Spaces.{VdevSpace}
-use Rattle.block_store.specs.Steps.{OnlyReadsBlocks}
+use Rattle.block_store.specs.Steps.{AnswersTell, OnlyReadsBlocks}
 use Rattle.block_store.specs.Store.{Store, Holds, IsStore}
 use Rattle.block_store.specs.declared.shape.VdevShape.{VdevShape}
 use Rattle.block_store.proofs.Reopening.{is_opened}
@@ -65,13 +65,15 @@ over_marked disks layout store marked same are out since is = record {
 pub walked_over : (old new : Disks) (layout : PoolLayout) (root : Block) (group : ℕ) (blocks : List Block) (store last : Store)
     → MayBeOpened old.starts layout.shapes.items layout.out.items → IsStoreOver old layout.shapes.items layout.out.items layout.stale.items store
     → OnlyReadsBlocks store last [] → new ≡ last.disks → AreDistinct blocks
-    → ((stored : Contents) (pool : PlainPool) → Holds store stored → (is : SpellsPool stored group root pool) → IsHonestSince store.disks last.disks
-    → blocks ≡ reach_of is) → IsWalkedOver old layout root group blocks new
+    → ((stored : Contents) (pool : PlainPool) → Holds store stored → (is : SpellsPool stored group root pool) → AnswersTell store last [] → blocks ≡ reach_of is)
+    → IsWalkedOver old layout root group blocks new
 walked_over old new layout root group blocks store last may over reads same once reach = record {
   may = may;
   reads = subst (λ (d : Disks). OnlyReads old d) (sym same) (subst (λ (d : Disks). OnlyReads d last.disks) over.disks_are reads.reads);
   once = once;
-  reach = λ stored pool hold is honest.
-      reach stored pool (hold store over) is
-      (subst (λ (d : Disks). IsHonestSince d last.disks) (sym over.disks_are) (subst (λ (d : Disks). IsHonestSince old d) same honest));
+  reach = λ stored pool hold is tell.
+      reach stored pool (hold store over) is (elim tell [
+        | inl honest ↦ inl (subst (λ (d : Disks). IsHonestSince d last.disks) (sym over.disks_are) (subst (λ (d : Disks). IsHonestSince old d) same honest))
+        | inr few ↦ inr (few store last over (sym same))
+      ]);
 }

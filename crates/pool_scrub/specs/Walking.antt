@@ -10,8 +10,8 @@ use Rattle.dataset_snapshots.specs.Pools.{SpellsPool}
 use Rattle.dataset_snapshots.specs.Reach.{IsReachRefused, reach_of}
 use Rattle.model_disk.specs.Joint.{Disks}
 use Rattle.pool_model.specs.Pools.{PlainPool}
-use Rattle.pool_open.specs.Held.{HoldOver, IsStoreOver}
-use Rattle.raidz_io.specs.Reads.{IsHonestSince, OnlyReads}
+use Rattle.pool_open.specs.Held.{HoldOver, IsStoreOver, TellOver}
+use Rattle.raidz_io.specs.Reads.{OnlyReads}
 use Rattle.pool_open.specs.declared.refusal.Refusal.{Refusal}
 use Rattle.pool_open.specs.declared.refusal.Refusal.TheVariants.{NoMemory, DiskFault, NoSpace, BadPointer, BadDigest, BadConfig}
 use Rattle.pool_scrub.specs.declared.walking.PoolLayout.{PoolLayout}
@@ -25,14 +25,14 @@ of_store cause.BadPointer = BadPointer
 of_store cause.BadDigest = BadDigest
 of_store cause.BadConfig = BadConfig
 
--- The blocks are those that the root leads to, each once, by reads of disks that aren't out: all of a pool that such a store may read, where
--- the disks answer truly.
+-- The blocks are those that the root leads to, each once, by reads of disks that aren't out: all of a pool that such a store may read, where what was read
+-- tells them.
 pub record IsWalkedOver (old : Disks) (layout : PoolLayout) (root : Block) (group : ℕ) (blocks : List Block) (new : Disks) : Type 0 where
   pub may : MayBeOpened old.starts layout.shapes.items layout.out.items
   pub reads : OnlyReads old new
   pub once : AreDistinct blocks
   pub reach : (stored : Contents) (pool : PlainPool) → HoldOver old layout.shapes.items layout.out.items layout.stale.items stored
-      → (is : SpellsPool stored group root pool) → IsHonestSince old new → blocks ≡ reach_of is
+      → (is : SpellsPool stored group root pool) → TellOver old new layout.shapes.items layout.out.items layout.stale.items → blocks ≡ reach_of is
 
 -- the walk over such a store was refused, whatever may be read of the disks
 pub record IsWalkRefused (old : Disks) (layout : PoolLayout) (root : Block) (group : ℕ) (cause : Cause) (new : Disks) : Type 0 where

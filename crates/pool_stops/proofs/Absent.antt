@@ -44,7 +44,7 @@ use Rattle.pool_stops.specs.Found.{FoundDisksMayBeOpened}
 use Rattle.pool_stops.specs.Handed.{away_in}
 use Rattle.pool_stops.specs.Own.{IsKnownAs, disk_guids}
 use Rattle.pool_stops.specs.OwnReopening.{IsOpenedTruly, IsRefusedTruly, LeadToOwnPools}
-use Rattle.pool_stops.specs.Unhindered.{AreAllThere, HaveLeft, LeadToWholePools, UnhinderedOpensAreDone}
+use Rattle.pool_stops.specs.Unhindered.{AreAllThere, HaveLeft, LeadToWholePools, FaultFreeOpensSucceed}
 use Rattle.pool_stops.proofs.Arranging.{IsArrangedOf, IsItsDisk, holds_in, some_arranged, some_found}
 use Rattle.pool_stops.proofs.Enough.{enough_found, one_is_there}
 use Rattle.pool_stops.proofs.FoundDisks.{AreEnoughFound, IsOneThere, ordered_as, some_disks_are_found}
@@ -238,13 +238,13 @@ module _ {D : Type 0} where
       → IsOpenedFor p pools shapes away rewind claimed core in
       let opened : P (is.shapes, is.out) = subst P (λ j. (sym arranged.shapes_are j, sym arranged.out_is j)) (λ over all.
       let gives = subst (λ (them : List Bool). OpenGives them rewind is.array claimed (disks_of core)) all over.gives in
-      let possible = subst (λ (them : List Bool). OpensPossible is.array shapes them rewind claimed core) all over.possible in
+      let possible = subst (λ (them : List Bool). OpensPossible is.array over.calls.before.surveyed over.calls.read shapes them rewind claimed core) all over.possible in
       possible led.led.trees p pools led.led.can led.led.tree
-      (names_without pool vdevs digest p pools rewind claimed core it count arranged found.some truly.honest gives config) truly.honest) in
+      (names_without pool vdevs digest p pools rewind claimed core it count arranged found.some truly.honest gives config) (inl truly.honest)) in
       (opened once.0 once.1, found.known)
 
   -- one that is refused
-  refused_without : UnhinderedOpensAreDone → (g : disk.Ghosts D) → FoundDisksMayBeOpened g → (pool : PoolIdentity) (vdevs : List PlainVdev) (digest : List ℕ)
+  refused_without : FaultFreeOpensSucceed → (g : disk.Ghosts D) → FoundDisksMayBeOpened g → (pool : PoolIdentity) (vdevs : List PlainVdev) (digest : List ℕ)
       (images : List (List ℕ)) (shapes : List VdevShape) (out : List Bool) (p : Possible) (pools : Uberblock → PlainPool)
       → LeadToOwnPools pool vdevs digest images shapes out p pools → (order : List (Option ℕ)) (disks : List D) (failed : NotOpened D)
       → AreSomeReturned g images disks order → is_tolerable (vdevs_in shapes) (is_out (away_in order)) ≡ true → HaveLeft (away_in order) (fresh images)
@@ -278,7 +278,7 @@ module _ {D : Type 0} where
         may = subst Fits same (fit disks 0 found.array found.shapes found.out found.ordered);
       }) found.new (subst Refuses same once) (record { left = left_on arranged left; truly = truly.1 })
 
-  pub own_pools_open_without : UnhinderedOpensAreDone → (g : disk.Ghosts D) → FoundDisksMayBeOpened g → OwnPoolsOpenWithout g
+  pub own_pools_open_without : FaultFreeOpensSucceed → (g : disk.Ghosts D) → FoundDisksMayBeOpened g → OwnPoolsOpenWithout g
   own_pools_open_without law g fit pool vdevs digest images shapes out p pools it order = record {
     refused = λ disks failed returned bears left why truly.
         refused_without law g fit pool vdevs digest images shapes out p pools it order disks failed returned bears left why truly;

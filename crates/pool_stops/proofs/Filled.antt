@@ -25,7 +25,7 @@ use Rattle.block_store.specs.declared.shape.VdevShape.{VdevShape}
 use Rattle.block_store.proofs.Taking.{ends_before, found_too}
 use Rattle.block_store.specs.Accounts.{SectorAt}
 use Rattle.pool_create.specs.Space.{IsFor}
-use Rattle.pool_stops.specs.Filled.{BlocksAreFilled, FilledBytesAreForBlocks, FreePlacesAreUnfilled, is_filled, is_filled_sector, is_for_blocks, is_in_vdev, is_taken, is_taken_in, sector_at}
+use Rattle.pool_stops.specs.Filled.{StoredBlocksAreInUse, FilledBytesAreForBlocks, FreePlacesAreUnfilled, is_filled, is_filled_sector, is_for_blocks, is_in_vdev, is_taken, is_taken_in, sector_at}
 
 -- ---- tests
 
@@ -203,8 +203,8 @@ in_vdev_yes space disk i first last from before =
     (both (nat_le (offset_of_sector 0) i) (nat_lt i (offset_of_sector space.shape.child_sectors)) (le_yes (offset_of_sector 0) i from)
     (lt_yes i (offset_of_sector space.shape.child_sectors) before))
 
-pub blocks_are_filled : BlocksAreFilled
-blocks_are_filled spaces sectors place extent disk i taken at of =
+pub stored_blocks_are_in_use : StoredBlocksAreInUse
+stored_blocks_are_in_use spaces sectors place extent disk i taken at of =
     let space : VdevSpace = at.space in
     let same : taken.space ≡ space = same_some taken.space space (sym taken.found ∙ at.found) in
     let lies : IsPlace space.shape sectors place = subst (λ (s : VdevSpace). IsPlace s.shape sectors place) same taken.is_place in

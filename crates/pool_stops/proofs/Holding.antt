@@ -20,7 +20,7 @@ use Rattle.std.proofs.lemmas.Option.{get_or_from_slice_get}
 use Rattle.pool_slots.specs.Slots.{InUse}
 use Rattle.pool_stops.specs.Filled.{is_filled}
 use Rattle.pool_stops.specs.Standing.{DueWritesAreUnfilled, FilledTreesHoldBlocks}
-use Rattle.pool_stops.proofs.Filled.{blocks_are_filled, filled_bytes_are_for_blocks, free_places_are_unfilled}
+use Rattle.pool_stops.proofs.Filled.{stored_blocks_are_in_use, filled_bytes_are_for_blocks, free_places_are_unfilled}
 use Rattle.pool_stops.proofs.Standing.{its_disk}
 use Rattle.pool_stops.proofs.Trees.{if_so}
 
@@ -75,7 +75,7 @@ filled_trees_hold_blocks store stored disks away root lie count many stay fresh 
             from_first = omega arith;
             before_end = omega (arith, within, size_at (all_columns stands.columns) stands.layout k column column_bytes stands.are_bytes.sizes at at');
           } in
-          let filled : is_filled store.spaces disk place ≡ true = blocks_are_filled store.spaces block.property.sectors copy.place extent disk place taken copy.extent_is of in
+          let filled : is_filled store.spaces disk place ≡ true = stored_blocks_are_in_use store.spaces block.property.sectors copy.place extent disk place taken copy.extent_is of in
           let for_blocks : IsForBlocks store.spaces disk place = filled_bytes_are_for_blocks store.spaces disk place filled in
           let there : disk < length away = omega (arith, its_disk store.disks.starts store.spaces disk place lie.laid for_blocks, count, many) in
           let used : InUse away disk = used_but away disk there present in

@@ -40,7 +40,7 @@ use Rattle.pool_slots.specs.Slots.{IsOffLabels}
 use Rattle.pool_format.specs.declared.labeling.PoolIdentity.{PoolIdentity}
 use Rattle.pool_stops.specs.OneConfig.{IsOpenedAs, OpenedPoolsRunAs, StoppedOpensAreOfConfig}
 use Rattle.pool_stops.specs.Reopening.{AreByGroup, IsPossibleBehind, LeavesImages}
-use Rattle.pool_stops.specs.Unhindered.{AnswerTruly, AreAllThere, HaveLeft, LeadToWholePools, UnhinderedOpensAreDone}
+use Rattle.pool_stops.specs.Unhindered.{AnswerTruly, AreAllThere, HaveLeft, LeadToWholePools, FaultFreeOpensSucceed}
 use Rattle.pool_stops.specs.WholePools.{StoppedExportsLeadWhole, StoppedOpensLeadWhole, StoppedRunsLeadWhole}
 use Rattle.pool_stops.proofs.LabelStops.{is_allowed, not_far, ranks_above}
 use Rattle.pool_stops.proofs.Whole.{WholeTreeOf}
@@ -48,7 +48,7 @@ use Rattle.pool_stops.specs.Found.{ShowHighest}
 use Rattle.pool_stops.specs.Own.{AreDisksOf, IsLabeled, IsOwnDisk, disk_guids}
 use Rattle.pool_stops.specs.OwnReopening.{AreReturned, GrewFromKnown, IsRefusedTruly, LeadToOwnPools, OwnPoolsOpenAgain, StoppedExportsLeadToOwnPools, StoppedOpensLeadToOwnPools, StoppedRunsLeadToOwnPools}
 use Rattle.pool_stops.specs.OwnRunning.{AreOfSum, IsOnItsDisks, OpenedPoolsAreOnTheirDisks, RunsStayOnTheirDisks}
-use Rattle.pool_stops.specs.Stopping.{AreLabelsUntorn, LedDisksAreBound, OwnDisksAreNotFour, StoppedExportsLeaveDisks, StoppedOpensAreOfSum, StoppedOpensLeaveDisks, StoppedRunsLeaveDisks}
+use Rattle.pool_stops.specs.Stopping.{AreLabelsUntorn, PossibleConfigurationsAreShown, OwnDisksShowAtMostThreeConfigurations, StoppedExportsLeaveDisks, StoppedOpensAreOfSum, StoppedOpensLeaveDisks, StoppedRunsLeaveDisks}
 use Rattle.pool_stops.proofs.Arranging.{IsArranged, after_so, children_so, is_arranged, own_found, settled_still, still_holding}
 use Rattle.pool_stops.proofs.HandedOn.{AreWithin, come_back, in_place}
 use Rattle.pool_stops.proofs.Handed.{fresh_known}
@@ -212,7 +212,7 @@ module _ {images : List (List ℕ)} {shapes : List VdevShape} {out : List Bool} 
 
 -- ---- an open of them
 
-memory_alone : UnhinderedOpensAreDone → (guids : List ℕ) (images : List (List ℕ)) (shapes : List VdevShape) (out : List Bool) (p : Possible) (pools : Uberblock → PlainPool)
+memory_alone : FaultFreeOpensSucceed → (guids : List ℕ) (images : List (List ℕ)) (shapes : List VdevShape) (out : List Bool) (p : Possible) (pools : Uberblock → PlainPool)
     (array : Disks) (its_shapes : List VdevShape) (its_out : List Bool) (refusal : Refusal) → IsArranged images shapes out array its_shapes its_out
     → LeadToWholePools (fresh images) shapes out p pools → AreAllThere images shapes out → HaveLeft out (fresh images)
     → (back : Disks) → IsNotOpenedOver guids array its_shapes its_out 0 back refusal → AnswerTruly array back → refusal ≡ NoMemory
@@ -329,7 +329,7 @@ stopped_so law pool vdevs digest images shapes out p pools array new its_shapes 
     leaves untorn)
 
 module _ {D : Type 0} where
-  refused_so : UnhinderedOpensAreDone → (g : disk.Ghosts D) (pool : PoolIdentity) (vdevs : List PlainVdev) (digest : List ℕ) (images : List (List ℕ))
+  refused_so : FaultFreeOpensSucceed → (g : disk.Ghosts D) (pool : PoolIdentity) (vdevs : List PlainVdev) (digest : List ℕ) (images : List (List ℕ))
       (shapes : List VdevShape) (out : List Bool) (p : Possible) (pools : Uberblock → PlainPool) (disks : List D) (order : List ℕ) (failed : NotOpened D)
       → LeadToOwnPools pool vdevs digest images shapes out p pools → AreReturned g images disks order → HaveLeft out (fresh images)
       → (why : OpenRefuses g disks 0 failed) → IsRefusedTruly g disks 0 failed why → refusal_of failed ≡ NoMemory
@@ -344,7 +344,7 @@ module _ {D : Type 0} where
       (is_arranged g pool vdevs images shapes out disks order 0 found.array found.shapes found.out it.are returned found.ordered truly.0)
       it.led it.are.there left found.new once truly.1
 
-  pub own_pools_open_again : UnhinderedOpensAreDone → OpenedPoolsRunAs → OpenedPoolsAreOnTheirDisks → StoppedOpensLeadToOwnPools → (g : disk.Ghosts D)
+  pub own_pools_open_again : FaultFreeOpensSucceed → OpenedPoolsRunAs → OpenedPoolsAreOnTheirDisks → StoppedOpensLeadToOwnPools → (g : disk.Ghosts D)
       → AreWithin g → OwnPoolsOpenAgain g
   own_pools_open_again law runs own stop g within pool vdevs digest images shapes out p pools it = record {
     refused = λ disks order failed returned left why truly.
@@ -388,7 +388,7 @@ stopped_runs_lead_to_own_pools stay lead leave pool vdevs old mid new v between 
       },
     )
 
-pub stopped_opens_lead_to_own_pools : StoppedOpensLeadWhole → StoppedOpensAreOfConfig → OwnDisksAreNotFour → LedDisksAreBound → StoppedOpensLeaveDisks
+pub stopped_opens_lead_to_own_pools : StoppedOpensLeadWhole → StoppedOpensAreOfConfig → OwnDisksShowAtMostThreeConfigurations → PossibleConfigurationsAreShown → StoppedOpensLeaveDisks
     → StoppedOpensAreOfSum → StoppedOpensLeadToOwnPools
 stopped_opens_lead_to_own_pools lead config not_four bound leave sum pool vdevs digest old new shapes out rewind p pools images few by_group are led one sums kept honest
     leaves untorn =

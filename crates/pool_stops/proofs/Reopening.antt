@@ -219,8 +219,8 @@ led_disks_open begin old shapes out rewind p pools claimed core led is all none 
     let out_is : core.commit.store.out ≡ out = is.outs ∙ all in
     let starts : (disks_of core).starts ≡ old.starts = is.calls.claims.makes.starts ∙ (through_made out is.later old is.calls.read is.calls.before).starts in
     let below = used_below out led.can.some.0 led.can.some.1 in
-    let possible = subst (λ (them : List Bool). OpensPossible old shapes them rewind claimed core) all is.possible in
-    let opened : IsOpenedFor p pools shapes out rewind claimed core = possible led.trees p pools led.can led.tree named honest in
+    let possible = subst (λ (them : List Bool). OpensPossible old is.calls.before.surveyed is.calls.read shapes them rewind claimed core) all is.possible in
+    let opened : IsOpenedFor p pools shapes out rewind claimed core = possible led.trees p pools led.can led.tree named (inl honest) in
     let whole : IsWhole core.commit =
     whole_opened core.commit shapes is.vdevs
     (subst (λ (them : List (List ℕ)). MayBeOpened them shapes core.commit.store.out) (sym starts) (subst (λ (flags : List Bool). MayBeOpened old.starts shapes flags) (sym out_is) is.may))

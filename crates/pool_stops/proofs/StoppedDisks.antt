@@ -41,7 +41,7 @@ use Rattle.pool_stops.proofs.Steps.{used_below}
 use Rattle.pool_stops.proofs.WholeStops.{all_there, led_showing}
 use Rattle.pool_stops.specs.Own.{AreOwnDisks, IsLabeled, IsOwn, disk_guids}
 use Rattle.pool_stops.specs.OwnRunning.{AreOfSum, HoldOwn}
-use Rattle.pool_stops.specs.Stopping.{AreLabelsUntorn, LedDisksAreBound, OwnDisksAreNotFour, StoppedExportsLeaveDisks, StoppedOpensAreOfSum, StoppedOpensLeaveDisks, StoppedRunsLeaveDisks}
+use Rattle.pool_stops.specs.Stopping.{AreLabelsUntorn, PossibleConfigurationsAreShown, OwnDisksShowAtMostThreeConfigurations, StoppedExportsLeaveDisks, StoppedOpensAreOfSum, StoppedOpensLeaveDisks, StoppedRunsLeaveDisks}
 use Rattle.pool_stops.proofs.OwnHolding.{own_is_left}
 use Rattle.pool_stops.proofs.Scanned.{allowed_from}
 
@@ -179,16 +179,16 @@ large_enough starts first shapes disk lie from below =
     let allowed = allowed_from starts first shapes disk lie from below in
     omega (arith, allowed.least)
 
-pub own_disks_are_not_four : OwnDisksAreNotFour
-own_disks_are_not_four pool vdevs shapes out disks are which used four =
+pub own_disks_show_at_most_three_configurations : OwnDisksShowAtMostThreeConfigurations
+own_disks_show_at_most_three_configurations pool vdevs shapes out disks are which used four =
     let below : which < length (disk_guids vdevs) = omega (arith, used_below out which used, are.there.may.flags, are.own.count) in
     let guid = slice_get_some (disk_guids vdevs) which below in
     let one = are.own.each which guid.0 guid.1 0 (four.label 0) (four.shown 0 (omega arith)) in
     let two = are.own.each which guid.0 guid.1 1 (four.label 1) (four.shown 1 (omega arith)) in
     four.apart 0 1 (omega arith) (omega arith) (ap (λ vs. sha256 (config_bytes vs)) (one.config_is ∙ sym two.config_is))
 
-pub led_disks_are_bound : LedDisksAreBound
-led_disks_are_bound digest disks shapes out p pools there led one images left which used =
+pub possible_configurations_are_shown : PossibleConfigurationsAreShown
+possible_configurations_are_shown digest disks shapes out p pools there led one images left which used =
     let below : which < length disks.starts = omega (arith, used_below out which used, there.may.flags) in
     let reach : IsInReach p p.last = inl (0, omega arith, refl) in
     let it = led.configured p.last reach which used in
@@ -201,7 +201,7 @@ led_disks_are_bound digest disks shapes out p pools there led one images left wh
       config = it.config ∙ one p.last reach;
     }
 
-pub stopped_opens_leave_disks : OpensStayConfigured → OwnDisksAreNotFour → LedDisksAreBound → StoppedOpensLeaveDisks
+pub stopped_opens_leave_disks : OpensStayConfigured → OwnDisksShowAtMostThreeConfigurations → PossibleConfigurationsAreShown → StoppedOpensLeaveDisks
 stopped_opens_leave_disks stay not_four bound pool vdevs digest old new shapes out rewind p pools images few are led one kept honest leaves untorn =
     let can = led.led.can in
     let flags : (which : ℕ) → which < length old.starts → InUse out which =

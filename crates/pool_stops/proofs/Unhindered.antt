@@ -54,7 +54,7 @@ use Rattle.space_map_objects.specs.declared.refusal.Refusal.TheVariants.{NoMemor
 use Rattle.uberblock_ring.proofs.Ranks.{ranks_through}
 use Rattle.uberblock_ring.specs.Ranking.{IsRewound, RanksUpTo}
 use Rattle.uberblock_ring.specs.declared.uberblock.Uberblock.{Uberblock}
-use Rattle.pool_stops.specs.Unhindered.{AreAllThere, AreEnoughThere, LeadToWholePools, UnhinderedOpensAreDone}
+use Rattle.pool_stops.specs.Unhindered.{AreAllThere, AreEnoughThere, LeadToWholePools, FaultFreeOpensSucceed}
 use Rattle.pool_stops.specs.Whole.{IsWholeTree, LieApart}
 use Rattle.pool_stops.proofs.Counting.{blocks_fit}
 use Rattle.pool_stops.proofs.FreePlaces.{can_take_in}
@@ -258,12 +258,12 @@ root_case law guids old surveyed new shapes out p pools refusal led free makes r
     let P : Disks → Disks → Type 0 = λ a b. HasFailedOn a b disk in
     let here : HasFailedOn surveyed new disk = subst (λ (b : Disks). P surveyed b) it.now (subst (λ (a : Disks). P a it.later.disks) it.over.disks_are failed) in
     free.none_failed disk (fails_later no_write old surveyed new makes disk here))
-    (it.whole at.stored (pools unread.s.taken) at.hold small later))) in
+    (it.whole at.stored (pools unread.s.taken) at.hold small (inl later)))) in
     let at_once : IsRefusedAtOnce surveyed new shapes out u.group u.root (most_blocks shapes) unread.cause → of_root unread.cause ≡ NoMemory =
     λ told. ap of_root told.told ∙ refused told.cause told.refused in
     let memory : of_root unread.cause ≡ NoMemory = ⊎_elim at_once
     (λ (again : IsRefusedAgain guids surveyed new shapes out u.group u.root (most_blocks shapes) unread.cause).
-    absurd (never_again guids surveyed new shapes out u.group u.root (most_blocks shapes) unread.cause again at.stored (pools unread.s.taken) at.hold at.spells at.untouched later))
+    absurd (never_again guids surveyed new shapes out u.group u.root (most_blocks shapes) unread.cause again at.stored (pools unread.s.taken) at.hold at.spells at.untouched (inl later)))
     unread.why in
     unread.same ∙ memory
 
@@ -302,9 +302,9 @@ misplaced_case guids old surveyed read new shapes out p pools may led free makes
     let pool : PlainPool = pools it.s.taken in
     let spaces : List VdevSpace = it.why.store.spaces in
     let same : shapes_of spaces ≡ shapes = it.why.over.shapes_are in
-    let fresh : it.stale ≡ [] = it.reads.fresh at.stored pool at.hold at.spells at.untouched later in
+    let fresh : it.stale ≡ [] = it.reads.fresh at.stored pool at.hold at.spells at.untouched (inl later) in
     let hold : HoldOver surveyed shapes out it.stale at.stored = subst (λ (stale : List (Option GroupSpan)). HoldOver surveyed shapes out stale at.stored) (sym fresh) at.hold in
-    let are = it.reads.read.are at.stored pool hold at.spells later spaces same in
+    let are = it.reads.read.are at.stored pool hold at.spells (inl later) spaces same in
     let one = roots_spell_one_pool at.stored u.group u.group u.root pool pool at.spells are.is in
     never_misplaced spaces shapes at.stored u.group u.root pool it.contents same it.why.empty are (one.3 spaces (at.mapped spaces same))
     (subst (λ (them : List Block). LieApart shapes them) one.1 at.apart) it.why.misplaced
@@ -319,8 +319,8 @@ claim_case guids old new shapes out p pools claimed refusal led free through (in
 
 -- ---- the law
 
-pub unhindered_opens_are_done : LossesAreNotTolerable → UnhinderedOpensAreDone
-unhindered_opens_are_done law guids old shapes out p pools refusal led there new is unhindered =
+pub fault_free_opens_succeed : LossesAreNotTolerable → FaultFreeOpensSucceed
+fault_free_opens_succeed law guids old shapes out p pools refusal led there new is unhindered =
     let free : IsFree old new shapes out = record {
       tolerable = there.tolerable;
       may = there.may;

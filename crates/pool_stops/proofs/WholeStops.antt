@@ -26,7 +26,7 @@ use Rattle.pool_stops.specs.OneConfig.{AreOfConfig, RunsStopAs, RunStopsAs, Stop
 use Rattle.pool_stops.specs.Reopening.{IsPossibleBehind}
 use Rattle.pool_stops.specs.Running.{IsBetween, StandAt, pool_of}
 use Rattle.pool_stops.specs.Standing.{filled_trees}
-use Rattle.pool_stops.specs.Unhindered.{AreAllThere, LeadToWholePools, UnhinderedOpensAreDone}
+use Rattle.pool_stops.specs.Unhindered.{AreAllThere, LeadToWholePools, FaultFreeOpensSucceed}
 use Rattle.pool_stops.specs.WholePools.{StoppedExportsLeadWhole, StoppedExportsReopen, StoppedOpensLeadWhole, StoppedOpensReopen, StoppedRunsLeadWhole, StoppedRunsReopen}
 use Rattle.pool_stops.proofs.Filled.{filled_bytes_are_for_blocks}
 use Rattle.pool_stops.proofs.Holding.{get_in_use}
@@ -193,7 +193,7 @@ all_there starts calls images shapes out left there = record {
   };
 }
 
-pub stopped_runs_reopen : RunsStopAs → StoppedRunsLeadWhole → UnhinderedOpensAreDone → StoppedRunsReopen
+pub stopped_runs_reopen : RunsStopAs → StoppedRunsLeadWhole → FaultFreeOpensSucceed → StoppedRunsReopen
 stopped_runs_reopen stop lead done old mid new v between w steps replies step reply last before digest images refusal runs end none leaves guids back is free =
     let stops : RunStopsAs digest mid between new w = stop old mid new v between w steps replies step reply last before digest runs end none in
     let s : State = mid.commit in
@@ -202,12 +202,12 @@ stopped_runs_reopen stop lead done old mid new v between w steps replies step re
     done guids (fresh images) (shapes_of s.store.spaces) s.store.out stops.at.steps.stops.p (pool_of between) refusal
     (lead digest mid between new w images stops leaves) (all_are_enough images (shapes_of s.store.spaces) s.store.out there) back is free
 
-pub stopped_opens_reopen : StoppedOpensLeadWhole → UnhinderedOpensAreDone → StoppedOpensReopen
+pub stopped_opens_reopen : StoppedOpensLeadWhole → FaultFreeOpensSucceed → StoppedOpensReopen
 stopped_opens_reopen lead done digest old new shapes out rewind p pools images refusal few all by_group one led bound four kept honest leaves guids back is free =
     let it = lead digest old new shapes out rewind p pools images few all.may.flags by_group one led bound four kept honest leaves in
     done guids (fresh images) shapes out it.0 pools refusal it.2 (all_are_enough images shapes out (all_there old.starts leaves.calls images shapes out leaves.left all)) back is free
 
-pub stopped_exports_reopen : StoppedExportsLeadWhole → UnhinderedOpensAreDone → StoppedExportsReopen
+pub stopped_exports_reopen : StoppedExportsLeadWhole → FaultFreeOpensSucceed → StoppedExportsReopen
 stopped_exports_reopen lead done digest core v last before exported new images refusal running begun leaves guids back is free =
     let s : State = core.commit in
     let there : AreAllThere images (shapes_of s.store.spaces) s.store.out =

@@ -60,8 +60,8 @@ all_picked picks held root disk i = if picks disk i then held disk i else None
 -- ---- laws
 
 -- each byte of a block that lies in a place with no free sector is filled
-abbrev pub BlocksAreFilled : Type 0
-BlocksAreFilled =
+abbrev pub StoredBlocksAreInUse : Type 0
+StoredBlocksAreInUse =
     (spaces : List VdevSpace) (sectors : ℕ) (place : Dva) (extent : Extent) (disk i : ℕ) → IsTaken spaces filled sectors place → IsExtentAt spaces sectors place extent
     → IsOfExtent extent disk i → is_filled spaces disk i ≡ true
 

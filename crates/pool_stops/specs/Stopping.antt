@@ -34,14 +34,14 @@ AreLabelsUntorn starts calls images =
 -- ---- laws
 
 -- Own disks don't show four different configurations,
-abbrev pub OwnDisksAreNotFour : Type 0
-OwnDisksAreNotFour =
+abbrev pub OwnDisksShowAtMostThreeConfigurations : Type 0
+OwnDisksShowAtMostThreeConfigurations =
     (pool : PoolIdentity) (vdevs : List PlainVdev) (shapes : List VdevShape) (out : List Bool) (disks : Disks) → AreDisksOf pool vdevs shapes out disks
     → AreNotFour out disks
 
 -- and disks that lead to whole pools are bound to show the configuration of what an open may come to.
-abbrev pub LedDisksAreBound : Type 0
-LedDisksAreBound =
+abbrev pub PossibleConfigurationsAreShown : Type 0
+PossibleConfigurationsAreShown =
     (digest : List ℕ) (disks : Disks) (shapes : List VdevShape) (out : List Bool) (p : Possible) (pools : Uberblock → PlainPool)
     → AreAllThere disks.starts shapes out → LeadToWholePools disks shapes out p pools → AreOfConfig digest p
     → LeavesConfigured out disks.starts digest disks.calls

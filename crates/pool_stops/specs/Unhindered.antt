@@ -59,8 +59,8 @@ pub record IsUnhindered (old new : Disks) (out : List Bool) : Type 0 where
   pub truly : AnswerTruly old new
 
 -- Such an open of disks that lead to whole pools, and of which enough are there, if it doesn't go back, is refused for want of memory alone.
-abbrev pub UnhinderedOpensAreDone : Type 0
-UnhinderedOpensAreDone =
+abbrev pub FaultFreeOpensSucceed : Type 0
+FaultFreeOpensSucceed =
     (guids : List ℕ) (old : Disks) (shapes : List VdevShape) (out : List Bool) (p : Possible) (pools : Uberblock → PlainPool) (refusal : Refusal)
     → LeadToWholePools old shapes out p pools → AreEnoughThere old.starts shapes out
     → (back : Disks) → IsNotOpenedOver guids old shapes out 0 back refusal → IsUnhindered old back out → refusal ≡ NoMemory

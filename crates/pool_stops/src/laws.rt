@@ -1,6 +1,6 @@
 //! Laws of the bytes that are filled, and of where the disks stand with them: what each ensures follows from the definitions alone.
 ghost use Rattle.pool_stops.specs.Created.{CreatedPoolsRun};
-ghost use Rattle.pool_stops.specs.Filled.{BlocksAreFilled, FilledBytesAreForBlocks, FreePlacesAreUnfilled};
+ghost use Rattle.pool_stops.specs.Filled.{StoredBlocksAreInUse, FilledBytesAreForBlocks, FreePlacesAreUnfilled};
 ghost use Rattle.pool_stops.specs.Phases.{BackedPlansAreGood, PhasesEnd, PhasesGoOn, PlansKeepThePhase, ReadsKeepThePhase};
 ghost use Rattle.pool_stops.specs.Reopening.{LedDisksOpen, RunsOutliveStops, StoppedOpensLead};
 ghost use Rattle.pool_stops.specs.Reopening.{StoppedExportsLead, StoppedStepsLead};
@@ -11,8 +11,8 @@ ghost use Rattle.pool_stops.specs.Standing.{FilledTreesHoldBlocks, SlotsBeginBeh
 use pool_slots::stepwise::{blocks_phase, reads_and_flushes_keep, slots_phase};
 
 /// Each byte of a block whose sectors are taken is filled.
-pub fn blocks_are_filled()
-    ensures { BlocksAreFilled }
+pub fn stored_blocks_are_in_use()
+    ensures { StoredBlocksAreInUse }
 {}
 
 /// No byte of a place whose sectors are free is filled, so that a plan which writes there changes none that is.

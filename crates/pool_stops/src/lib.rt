@@ -20,12 +20,12 @@ pub use configured::{
 };
 pub use finding::{found_disks_may_be_opened, own_disks_are_found, own_disks_are_ordered};
 pub use laws::{
-    backed_plans_are_good, blocks_are_filled, blocks_keep_what_is_filled, commits_end_filled,
-    created_pools_run, due_writes_are_unfilled, filled_bytes_are_for_blocks,
-    filled_trees_hold_blocks, free_places_are_unfilled, led_disks_open, phases_end, phases_go_on,
-    plans_keep_the_phase, reads_keep_the_phase, running_pools_step_on, runs_outlive_stops,
-    runs_stop_well, slots_begin_behind_blocks, slots_keep_what_is_for_blocks, stopped_exports_lead,
-    stopped_opens_lead, stopped_steps_lead,
+    backed_plans_are_good, blocks_keep_what_is_filled, commits_end_filled, created_pools_run,
+    due_writes_are_unfilled, filled_bytes_are_for_blocks, filled_trees_hold_blocks,
+    free_places_are_unfilled, led_disks_open, phases_end, phases_go_on, plans_keep_the_phase,
+    reads_keep_the_phase, running_pools_step_on, runs_outlive_stops, runs_stop_well,
+    slots_begin_behind_blocks, slots_keep_what_is_for_blocks, stopped_exports_lead,
+    stopped_opens_lead, stopped_steps_lead, stored_blocks_are_in_use,
 };
 pub use opening::{
     disks_may_be_handed_in, disks_may_be_handed_on, own_pools_open_again, own_pools_open_without,
@@ -37,10 +37,11 @@ pub use running::{
     runs_stay_on_their_disks, steps_stay_on_their_disks,
 };
 pub use stopping::{
-    led_disks_are_bound, own_disks_are_not_four, stopped_exports_leave_disks,
-    stopped_opens_are_of_sum, stopped_opens_leave_disks, stopped_runs_leave_disks,
+    own_disks_show_at_most_three_configurations, possible_configurations_are_shown,
+    stopped_exports_leave_disks, stopped_opens_are_of_sum, stopped_opens_leave_disks,
+    stopped_runs_leave_disks,
 };
 pub use whole_pools::{
-    stopped_exports_lead_whole, stopped_exports_reopen, stopped_opens_lead_whole,
-    stopped_opens_reopen, stopped_runs_lead_whole, stopped_runs_reopen, unhindered_opens_are_done,
+    fault_free_opens_succeed, stopped_exports_lead_whole, stopped_exports_reopen,
+    stopped_opens_lead_whole, stopped_opens_reopen, stopped_runs_lead_whole, stopped_runs_reopen,
 };

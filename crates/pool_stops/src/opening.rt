@@ -13,12 +13,13 @@ use crate::running::{
     opened_pools_are_on_their_disks, runs_stay_on_their_disks, steps_stay_on_their_disks,
 };
 use crate::stopping::{
-    led_disks_are_bound, own_disks_are_not_four, stopped_exports_leave_disks,
-    stopped_opens_are_of_sum, stopped_opens_leave_disks, stopped_runs_leave_disks,
+    own_disks_show_at_most_three_configurations, possible_configurations_are_shown,
+    stopped_exports_leave_disks, stopped_opens_are_of_sum, stopped_opens_leave_disks,
+    stopped_runs_leave_disks,
 };
 use crate::whole_pools::{
-    stopped_exports_lead_whole, stopped_opens_lead_whole, stopped_runs_lead_whole,
-    unhindered_opens_are_done,
+    fault_free_opens_succeed, stopped_exports_lead_whole, stopped_opens_lead_whole,
+    stopped_runs_lead_whole,
 };
 use model_disk::Disk;
 use model_disk::laws::held_bytes_are_known;
@@ -30,7 +31,7 @@ use pool_slots::stepwise::blocks_phase;
 pub fn own_pools_open_again<D: Disk + Drop>()
     ensures { OwnPoolsOpenAgain D.Disk }
 {
-    unhindered_opens_are_done();
+    fault_free_opens_succeed();
     opened_pools_run_as();
     opened_pools_are_on_their_disks();
     stopped_opens_lead_to_own_pools();
@@ -42,7 +43,7 @@ pub fn own_pools_open_again<D: Disk + Drop>()
 pub fn own_pools_open_without<D: Disk + Drop>()
     ensures { OwnPoolsOpenWithout D.Disk }
 {
-    unhindered_opens_are_done();
+    fault_free_opens_succeed();
     found_disks_may_be_opened::<D>();
 }
 
@@ -88,8 +89,8 @@ pub fn stopped_opens_lead_to_own_pools()
 {
     stopped_opens_lead_whole();
     stopped_opens_are_of_config();
-    own_disks_are_not_four();
-    led_disks_are_bound();
+    own_disks_show_at_most_three_configurations();
+    possible_configurations_are_shown();
     stopped_opens_leave_disks();
     stopped_opens_are_of_sum();
 }

@@ -1,5 +1,5 @@
 //! Laws of the disks that a stop leaves: they are the pool's own.
-ghost use Rattle.pool_stops.specs.Stopping.{LedDisksAreBound, OwnDisksAreNotFour};
+ghost use Rattle.pool_stops.specs.Stopping.{PossibleConfigurationsAreShown, OwnDisksShowAtMostThreeConfigurations};
 ghost use Rattle.pool_stops.specs.Stopping.{StoppedExportsLeaveDisks, StoppedOpensAreOfSum};
 ghost use Rattle.pool_stops.specs.Stopping.{StoppedOpensLeaveDisks, StoppedRunsLeaveDisks};
 
@@ -11,13 +11,13 @@ pub fn stopped_runs_leave_disks()
 {}
 
 /// A pool's own disks don't show four different configurations.
-pub fn own_disks_are_not_four()
-    ensures { OwnDisksAreNotFour }
+pub fn own_disks_show_at_most_three_configurations()
+    ensures { OwnDisksShowAtMostThreeConfigurations }
 {}
 
 /// Disks that lead to whole pools are bound to show the configuration of whatever an open may come to.
-pub fn led_disks_are_bound()
-    ensures { LedDisksAreBound }
+pub fn possible_configurations_are_shown()
+    ensures { PossibleConfigurationsAreShown }
 {}
 
 /// Wherever an open is stopped: it writes no label but those that the disks have, for another claim and group.
@@ -25,8 +25,8 @@ pub fn stopped_opens_leave_disks()
     ensures { StoppedOpensLeaveDisks }
 {
     opens_stay_configured();
-    own_disks_are_not_four();
-    led_disks_are_bound();
+    own_disks_show_at_most_three_configurations();
+    possible_configurations_are_shown();
 }
 
 /// And what is possible then has the sum of the guids.

@@ -1,5 +1,5 @@
 //! Laws of what a stop leaves, and of opens of it: it leads to whole pools, and an open that nothing hinders isn't refused.
-ghost use Rattle.pool_stops.specs.Unhindered.{UnhinderedOpensAreDone};
+ghost use Rattle.pool_stops.specs.Unhindered.{FaultFreeOpensSucceed};
 ghost use Rattle.pool_stops.specs.WholePools.{StoppedExportsLeadWhole, StoppedExportsReopen};
 ghost use Rattle.pool_stops.specs.WholePools.{StoppedOpensLeadWhole, StoppedOpensReopen};
 ghost use Rattle.pool_stops.specs.WholePools.{StoppedRunsLeadWhole, StoppedRunsReopen};
@@ -11,8 +11,8 @@ use block_store::losses_are_not_tolerable;
 use pool_slots::stepwise::blocks_phase;
 
 /// An open that doesn't go back, with all disks there, of which no call fails, and with groups and claims left, is refused for want of memory alone.
-pub fn unhindered_opens_are_done()
-    ensures { UnhinderedOpensAreDone }
+pub fn fault_free_opens_succeed()
+    ensures { FaultFreeOpensSucceed }
 {
     losses_are_not_tolerable();
 }
@@ -46,7 +46,7 @@ pub fn stopped_runs_reopen()
 {
     runs_stop_as();
     stopped_runs_lead_whole();
-    unhindered_opens_are_done();
+    fault_free_opens_succeed();
 }
 
 /// So it is wherever an open of such disks was stopped.
@@ -54,7 +54,7 @@ pub fn stopped_opens_reopen()
     ensures { StoppedOpensReopen }
 {
     stopped_opens_lead_whole();
-    unhindered_opens_are_done();
+    fault_free_opens_succeed();
 }
 
 /// And wherever an export was, and once it is done.
@@ -62,5 +62,5 @@ pub fn stopped_exports_reopen()
     ensures { StoppedExportsReopen }
 {
     stopped_exports_lead_whole();
-    unhindered_opens_are_done();
+    fault_free_opens_succeed();
 }

@@ -18,8 +18,8 @@ use Rattle.pool_create.specs.Opens.{IsOpened}
 use Rattle.pool_create.specs.Represents.{Represents}
 use Rattle.pool_format.specs.declared.labeling.PoolIdentity.{PoolIdentity}
 use Rattle.pool_labels.specs.declared.refusal.Refusal.{Refusal as LabelsRefusal}
-use Rattle.pool_lives.specs.Lasting.{IsAtHand, Keeps, LivesGoOn, LivesLoseNothing}
-use Rattle.pool_lives.specs.Lives.{Down, Exports, FindsNone, HandsBack, Happening, IsLife, IsMade, Opens, Place, Runs, Up}
+use Rattle.pool_lives.specs.Lasting.{IsAtHand, Keeps, CrashHistoriesGoOn, CrashHistoriesKeepTheLastGroup}
+use Rattle.pool_lives.specs.Lives.{Down, Exports, FindsNone, HandsBack, Happening, IsCrashHistory, IsMade, Opens, Place, Runs, Up}
 use Rattle.pool_lives.specs.Tales.{Known, Resting, Serving}
 use Rattle.pool_model.specs.View.{View}
 use Rattle.pool_model.specs.declared.step.Reply.{Reply}
@@ -32,14 +32,14 @@ module _ {D : Type 0} where
   serves g pool config digest core (Serving v last before) kept = (v, kept.0)
   serves g pool config digest core (Resting p pools) kept = absurd kept
 
-  pub has_lived : (g : disk.Ghosts D) → LivesGoOn g → LivesLoseNothing g → (disks : List D) (pool : PoolIdentity) (config : Config) (steps : List Step)
+  pub has_lived : (g : disk.Ghosts D) → CrashHistoriesGoOn g → CrashHistoriesKeepTheLastGroup g → (disks : List D) (pool : PoolIdentity) (config : Config) (steps : List Step)
       (u : Uberblock) (first core : CoreState) (before after : List Reply) → IsCreatedOn g disks pool config u first → Ran first steps before core after
       → HasLived g disks pool config steps u core
   has_lived g on law disks pool config steps u first core before after created ran =
       let made : AllWell g created core → IsMade g pool config u first =
       λ well. record { disks = disks; created = created; known = well.known; truly = well.truly } in
-      let life : AllWell g created core → IsLife g (Up first) (Runs steps ran.0 ∷ []) (Up core) =
-      λ well. on.on (Up first) (Up first) (Up core) [] (Runs steps ran.0) refl (on.runs first core steps before after ran well.honest well.all) in
+      let life : AllWell g created core → IsCrashHistory g (Up first) (Runs steps ran.0 ∷ []) (Up core) =
+      λ well. on.on (Up first) (Up first) (Up core) [] (Runs steps ran.0) refl (on.runs first core steps before after ran (inl well.honest) well.all) in
       record {
         first = first;
         created = created;
@@ -71,7 +71,7 @@ module _ {D : Type 0} where
     λ which. calls which ∙ ap (λ (logs : List (List Call)). log_of logs which) (ap (map (calls_of g)) same ∙ logs_of g disks),
   )
 
-  pub exports_and_opens : (g : disk.Ghosts D) → LivesGoOn g → (old : CoreState) (exported : Uberblock) (later : List Bool) (left : Disks) (disks : List D) (u : Uberblock)
+  pub exports_and_opens : (g : disk.Ghosts D) → CrashHistoriesGoOn g → (old : CoreState) (exported : Uberblock) (later : List Bool) (left : Disks) (disks : List D) (u : Uberblock)
       (new : CoreState) → IsExportDone old exported later left → IsArrayOf g disks left → IsOpened g disks 0 u new → ExportsAndOpens g old u new
   exports_and_opens g on old exported later left disks u new done array opened = record {
     exported = exported;
@@ -90,7 +90,7 @@ module _ {D : Type 0} where
         );
   }
 
-  pub gives_back_and_opens : (g : disk.Ghosts D) → LivesGoOn g → (old : CoreState) (disks back : List D) (cause : LabelsRefusal) (u : Uberblock)
+  pub gives_back_and_opens : (g : disk.Ghosts D) → CrashHistoriesGoOn g → (old : CoreState) (disks back : List D) (cause : LabelsRefusal) (u : Uberblock)
       (new : CoreState) → IsExportable old → IsArrayOf g disks (disks_of old) → FindRefuses g disks 2 back cause → IsOpened g back 0 u new
       → GivesBackAndOpens g old u new
   gives_back_and_opens g on old disks back cause u new exportable array unfound opened = record {
@@ -115,8 +115,8 @@ module _ {D : Type 0} where
         );
   }
 
-  join : (g : disk.Ghosts D) (from mid to : Place) (its more : List Happening) → IsLife g from its mid → IsLife g mid more to → IsLife g from (its ++ more) to
-  join g from mid to [] more same rest = subst (λ (place : Place). IsLife g place more to) (sym same) rest
+  join : (g : disk.Ghosts D) (from mid to : Place) (its more : List Happening) → IsCrashHistory g from its mid → IsCrashHistory g mid more to → IsCrashHistory g from (its ++ more) to
+  join g from mid to [] more same rest = subst (λ (place : Place). IsCrashHistory g place more to) (sym same) rest
   join g from mid to (it ∷ its) more (next, goes, life) rest = (next, goes, join g next mid to its more life rest)
 
   -- the disks of a core that is up are at hand
@@ -125,12 +125,12 @@ module _ {D : Type 0} where
   at_hand g pool config digest core (Serving v last before) kept = kept.1
   at_hand g pool config digest core (Resting p pools) kept = absurd kept
 
-  pub runs_on : (g : disk.Ghosts D) → LivesGoOn g → (old : CoreState) (steps : List Step) (new : CoreState) (before after : List Reply)
+  pub runs_on : (g : disk.Ghosts D) → CrashHistoriesGoOn g → (old : CoreState) (steps : List Step) (new : CoreState) (before after : List Reply)
       → Ran old steps before new after → RunsOn g old steps new
   runs_on g on old steps new before after ran =
-      record { before = before; after = after; ran = ran; life = λ honest all. (Up new, on.runs old new steps before after ran honest all, refl) }
+      record { before = before; after = after; ran = ran; life = λ honest all. (Up new, on.runs old new steps before after ran (inl honest) all, refl) }
 
-  pub has_lived_on : (g : disk.Ghosts D) → LivesLoseNothing g → (disks : List D) (pool : PoolIdentity) (config : Config) (steps more : List Step)
+  pub has_lived_on : (g : disk.Ghosts D) → CrashHistoriesKeepTheLastGroup g → (disks : List D) (pool : PoolIdentity) (config : Config) (steps more : List Step)
       (first second u : Uberblock) (run again last core : CoreState) → HasLived g disks pool config steps first run → ExportsAndOpens g run second again
       → RunsOn g again more last → GivesBackAndOpens g last u core → HasLivedOn g disks pool config steps more u core
   has_lived_on g law disks pool config steps more first second u run again last core lived exports runs gives = record {
@@ -146,7 +146,7 @@ module _ {D : Type 0} where
     life = λ well truly opened honest all end.
         let start = lived.life well in
         let from : Place = Up lived.first in
-        let keeps = λ (its : List Happening) (to : CoreState) (life : IsLife g from its (Up to)). law pool config first lived.first start.0 its (Up to) life in
+        let keeps = λ (its : List Happening) (to : CoreState) (life : IsCrashHistory g from its (Up to)). law pool config first lived.first start.0 its (Up to) life in
         let ran : List Happening = Runs steps lived.ran.0 ∷ [] in
         let one = keeps ran run start.1 in
         let hand = at_hand g pool config first.config_digest run one.0 one.2 in

@@ -16,7 +16,7 @@ use Rattle.pool_create.specs.Represents.{Represents}
 use Rattle.pool_format.specs.declared.labeling.PoolIdentity.{PoolIdentity}
 use Rattle.pool_labels.specs.declared.refusal.Refusal.{Refusal as LabelsRefusal}
 use Rattle.pool_lives.specs.Lasting.{IsAtHand}
-use Rattle.pool_lives.specs.Lives.{Exports, FindsNone, HandsBack, IsLife, IsMade, Opens, Runs, Up}
+use Rattle.pool_lives.specs.Lives.{Exports, FindsNone, HandsBack, IsCrashHistory, IsMade, Opens, Runs, Up}
 use Rattle.pool_model.specs.View.{View}
 use Rattle.pool_model.specs.declared.step.Reply.{Reply}
 use Rattle.pool_model.specs.declared.step.Step.{Step}
@@ -42,7 +42,7 @@ module _ {D : Type 0} where
     pub before : List Reply
     pub after : List Reply
     pub ran : Ran first steps before core after
-    pub life : AllWell g created core → IsMade g pool config u first × IsLife g (Up first) (Runs steps ran.0 ∷ []) (Up core)
+    pub life : AllWell g created core → IsMade g pool config u first × IsCrashHistory g (Up first) (Runs steps ran.0 ∷ []) (Up core)
     pub serves : AllWell g created core → (v : View) × Represents core v
 
   -- ---- with no stop between
@@ -60,14 +60,14 @@ module _ {D : Type 0} where
     pub done : IsExportDone old exported later left
     pub disks : List D
     pub opened : IsOpened g disks 0 u new
-    pub life : IsAtHand old → AnswerTruly (disks_of old) left → WentWell opened → IsLife g (Up old) (Exports ∷ Opens 0 u ∷ []) (Up new)
+    pub life : IsAtHand old → AnswerTruly (disks_of old) left → WentWell opened → IsCrashHistory g (Up old) (Exports ∷ Opens 0 u ∷ []) (Up new)
 
   -- it took more steps
   pub record RunsOn (g : disk.Ghosts D) (old : CoreState) (steps : List Step) (new : CoreState) : Type 0 where
     pub before : List Reply
     pub after : List Reply
     pub ran : Ran old steps before new after
-    pub life : IsHonestSince (disks_of old) (disks_of new) → NoneIsOut new.commit → IsLife g (Up old) (Runs steps ran.0 ∷ []) (Up new)
+    pub life : IsHonestSince (disks_of old) (disks_of new) → NoneIsOut new.commit → IsCrashHistory g (Up old) (Runs steps ran.0 ∷ []) (Up new)
 
   -- so it is where a core gave them back, and no pool was found two groups before its own
   pub record GivesBackAndOpens (g : disk.Ghosts D) (old : CoreState) (u : Uberblock) (new : CoreState) : Type 0 where
@@ -77,7 +77,7 @@ module _ {D : Type 0} where
     pub cause : LabelsRefusal
     pub unfound : FindRefuses g disks 2 back cause
     pub opened : IsOpened g back 0 u new
-    pub life : IsAtHand old → WentWell opened → IsLife g (Up old) (HandsBack ∷ FindsNone 2 ∷ Opens 0 u ∷ []) (Up new)
+    pub life : IsAtHand old → WentWell opened → IsCrashHistory g (Up old) (HandsBack ∷ FindsNone 2 ∷ Opens 0 u ∷ []) (Up new)
 
   -- all of it, which is one life; and then a view is served
   pub record HasLivedOn (g : disk.Ghosts D) (disks : List D) (pool : PoolIdentity) (config : Config) (steps more : List Step) (u : Uberblock) (core : CoreState)
@@ -93,6 +93,6 @@ module _ {D : Type 0} where
     pub gives : GivesBackAndOpens g last u core
     pub life : AllWell g lived.created run → AnswerTruly (disks_of run) exports.left → WentWell exports.opened
         → IsHonestSince (disks_of again) (disks_of last) → NoneIsOut last.commit → WentWell gives.opened
-        → IsLife g (Up lived.first)
+        → IsCrashHistory g (Up lived.first)
         (Runs steps lived.ran.0 ∷ Exports ∷ Opens 0 second ∷ Runs more runs.ran.0 ∷ HandsBack ∷ FindsNone 2 ∷ Opens 0 u ∷ []) (Up core)
         × ((v : View) × Represents core v)

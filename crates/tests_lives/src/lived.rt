@@ -7,7 +7,7 @@ ghost use Rattle.tests_lives.specs.Lived.{ExportsAndOpens, GivesBackAndOpens, Ha
 use model_disk::{Disk, MemDisk, Member};
 use pool_create::{NotOpened, OpenedPool, create, export, open};
 use pool_format::PoolIdentity;
-use pool_lives::{lives_go_on, lives_lose_nothing};
+use pool_lives::{crash_histories_go_on, crash_histories_keep_the_last_group};
 use pool_model::Step;
 use pool_open::run;
 use std::alloc::{AllocError, Global};
@@ -25,8 +25,8 @@ fn lived<D: Disk + Drop>(
     ensures { IfOk result (λ opened. HasLived D.Disk disks.items pool config steps.items
         opened.uberblock (state_of opened.core)) }
 {
-    lives_go_on::<D>();
-    lives_lose_nothing::<D>();
+    crash_histories_go_on::<D>();
+    crash_histories_keep_the_last_group::<D>();
     let Ok(made) = create(alloc, disks, pool, config) else {
         return Err(());
     };
@@ -63,7 +63,7 @@ fn exported<D: Disk + Drop>(
     ensures { IfOk result (λ opened. ExportsAndOpens D.Disk (state_of pool.core)
         opened.uberblock (state_of opened.core)) }
 {
-    lives_go_on::<D>();
+    crash_histories_go_on::<D>();
     let Ok(members) = export(alloc, pool) else {
         return Err(());
     };
@@ -83,7 +83,7 @@ fn run_on<D: Disk + Drop>(
     ensures { IfOk result (λ ran. RunsOn D.Disk (state_of pool.core) steps.items
         (state_of ran.core)) }
 {
-    lives_go_on::<D>();
+    crash_histories_go_on::<D>();
     let OpenedPool { core, uberblock } = pool;
     let mut core = core;
     let mut replies = Vec::new(alloc);
@@ -101,7 +101,7 @@ fn taken_back<D: Disk + Drop>(
     ensures { IfOk result (λ opened. GivesBackAndOpens D.Disk (state_of pool.core)
         opened.uberblock (state_of opened.core)) }
 {
-    lives_go_on::<D>();
+    crash_histories_go_on::<D>();
     let OpenedPool { core, .. } = pool;
     let None = core.export_refusal() else {
         return Err(());
@@ -129,7 +129,7 @@ fn lived_on<D: Disk + Drop>(
     ensures { IfOk result (λ opened. HasLivedOn D.Disk disks.items pool config steps.items
         more.items opened.uberblock (state_of opened.core)) }
 {
-    lives_lose_nothing::<D>();
+    crash_histories_keep_the_last_group::<D>();
     let first = lived(alloc, disks, pool, config, steps)?;
     let second = exported(alloc, first)?;
     let last = run_on(alloc, second, more)?;

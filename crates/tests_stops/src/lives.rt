@@ -14,8 +14,8 @@ use pool_create::{
 };
 use pool_format::PoolIdentity;
 use pool_stops::{
-    created_pools_run_as, found_disks_may_be_opened, led_disks_open, own_pools_open_again,
-    unhindered_opens_are_done,
+    created_pools_run_as, fault_free_opens_succeed, found_disks_may_be_opened, led_disks_open,
+    own_pools_open_again,
 };
 use raidz_io::Vdev;
 use raidz_map::Geometry;
@@ -54,7 +54,7 @@ fn reopened(
 {
     unfailing_opens_claim_once();
     led_disks_open();
-    unhindered_opens_are_done();
+    fault_free_opens_succeed();
     open_over(alloc, disks, shapes, out, 0, config)
 }
 

@@ -14,7 +14,7 @@ loop-which-preserved g c =
     let count : n + 1 ≡ suc n = omega arith in
     scan_same first new (suc n) (n + 1) _ _ _ _ _ _ count c.in_ok-add.ensures.disks c.in_ok-add.ensures.labels c.in_ok-add.ensures.slots
     (scan_next first loop new n c.loop-which.scan.disks.items c.loop-which.scan.labels.items c.loop-which.scan.slots.items c.in_ok-disk.disk c.loop-which.invariant c.in_ok-disk.ensures.only
-    c.in_ok-disk.ensures.scans)
+    c.in_ok-disk.ensures.scans c.scan_disk.ensures.few)
 
 pub returns-in_err-disk-clause-only : goal.returns-in_err-disk-clause-only
 returns-in_err-disk-clause-only g c =

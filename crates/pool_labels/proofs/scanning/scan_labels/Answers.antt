@@ -19,4 +19,4 @@ loop-number-preserved g c =
     let Q : ℕ → Type 0 = λ k. FourTo c.args.disks.now c.scan_label.new.disks c.args.which k (c.loop-number.labels.items ++ c.in_ok-label.label ∷ []) in
     subst P (sym items)
     (subst Q count (four_next c.args.disks.now c.loop-number.disks c.scan_label.new.disks c.args.which n c.loop-number.labels.items c.in_ok-label.label c.loop-number.invariant c.in_ok-label.ensures.only
-    c.in_ok-label.ensures.scans))
+    c.in_ok-label.ensures.scans c.scan_label.ensures.few))

@@ -5,7 +5,7 @@ use Rattle.uberblock_ring.specs.declared.refusal.Refusal.{Refusal as RingRefusal
 use Rattle.uberblock_ring.specs.declared.refusal.Refusal.TheVariants as ring
 use Rattle.pool_slots.proofs.ReadRuns.{reads_any}
 use Rattle.pool_slots.proofs.Reading.{slots_read}
-use Rattle.pool_labels.proofs.SlotReads.{only_slots, slots_lost, slots_scanned}
+use Rattle.pool_labels.proofs.SlotReads.{only_slots, slots_few, slots_lost, slots_scanned}
 use Rattle.pool_labels.proofs.scanning.scan_slots.Goals as goal
 
 pub returns-in-Ok-clause-only : goal.returns-in-Ok-clause-only
@@ -23,3 +23,8 @@ pub returns-in-Err-DiskFault-clause-scans : goal.returns-in-Err-DiskFault-clause
 returns-in-Err-DiskFault-clause-scans g c =
     let P : RingRefusal → Type 0 = λ r. ReadsSlots c.args.disks.now c.read_slots.new.disks c.args.which (Err r) in
     slots_lost c.args.disks.now c.read_slots.new.disks c.args.which (subst P c.in-Err-DiskFault.field-0-is c.in-Err-DiskFault.ensures.calls)
+
+pub returns-in-Err-DiskFault-clause-few : goal.returns-in-Err-DiskFault-clause-few
+returns-in-Err-DiskFault-clause-few g c =
+    let P : RingRefusal → Type 0 = λ r. ReadsSlots c.args.disks.now c.read_slots.new.disks c.args.which (Err r) in
+    slots_few c.args.disks.now c.read_slots.new.disks c.args.which (subst P c.in-Err-DiskFault.field-0-is c.in-Err-DiskFault.ensures.calls)

@@ -11,7 +11,7 @@ pub returns-in-Err-clause-refused : goal.returns-in-Err-clause-refused
 returns-in-Err-clause-refused g c = record {
   old = c.new-array.result;
   new = c.lay_out.new.disks;
-  read = record { before = (c.new-array.ensures.starts, c.new-array.ensures.calls); only = c.lay_out.ensures.only };
+  read = record { before = (c.new-array.ensures.starts, c.new-array.ensures.calls); only = c.lay_out.ensures.only; few = c.lay_out.ensures.few };
   cause = c.in-Err.ensures.refused;
   given = (sym c.into_disks.ensures.starts, λ which. sym (c.into_disks.ensures.calls which));
 }
@@ -22,7 +22,7 @@ returns-in-Err-NoMemory-default-clause-refused g c =
     record {
       old = c.new-array.result;
       new = c.lay_out.new.disks;
-      read = record { before = (c.new-array.ensures.starts, c.new-array.ensures.calls); only = c.lay_out.ensures.only };
+      read = record { before = (c.new-array.ensures.starts, c.new-array.ensures.calls); only = c.lay_out.ensures.only; few = c.lay_out.ensures.few };
       cause = inl refl;
       given = subst P (sym (ap (λ disks. disks.items) c.in-Err-NoMemory-default.ensures.back)) (sym c.into_disks-2.ensures.starts, λ which. sym (c.into_disks-2.ensures.calls which));
     }
@@ -38,7 +38,7 @@ returns-in-Ok-arrange-clause-found g c =
       found = record {
         old = c.new-array.result;
         new = c.lay_out.new.disks;
-        read = record { before = (c.new-array.ensures.starts, c.new-array.ensures.calls); only = c.lay_out.ensures.only };
+        read = record { before = (c.new-array.ensures.starts, c.new-array.ensures.calls); only = c.lay_out.ensures.only; few = c.lay_out.ensures.few };
         layout = c.in-Ok.layout;
         laid_out = c.in-Ok.ensures.laid_out;
         highest_is = refl;

@@ -1,8 +1,8 @@
-use Rattle.std.proofs.Common.{inl, refl, subst, sym, ◌∙◌}
+use Rattle.std.proofs.Common.{refl, subst, sym, ◌∙◌}
 use Rattle.model_disk.specs.Joint.{Disks}
 use Rattle.pool_core.proofs.MapsReadSets.{sets_stay}
 use Rattle.pool_open.specs.Roots.{IsRootNotRead}
-use Rattle.pool_open.proofs.Reading.{contents_over, read_beside, refused_through, honest_between}
+use Rattle.pool_open.proofs.Reading.{contents_over, read_beside, refused_through, tell_through}
 use Rattle.pool_open.proofs.roots.read_through.Goals as goal
 
 pub returns-in-Err-clause-refused : goal.returns-in-Err-clause-refused
@@ -17,9 +17,9 @@ returns-in-Ok-clause-only g c =
 
 pub returns-in-Ok-clause-contents : goal.returns-in-Ok-clause-contents
 returns-in-Ok-clause-contents g c old shapes out stale over = record {
-  are = λ stored pool hold spells honest.
+  are = λ stored pool hold spells tell.
       contents_over shapes c.args.store.spaces stored c.args.group c.args.root.now pool c.in-Ok.contents over.shapes_are
       (c.in-Ok.ensures.value stored pool (hold c.args.store over) spells
-      (inl (honest_between c.args.store c.contents_under.new.store old c.into_array.result over.disks_are c.into_array.ensures honest)));
+      (tell_through c.args.store c.contents_under.new.store old c.into_array.result shapes out stale over c.into_array.ensures tell));
   sets = λ spaces same. sets_stay c.args.store.spaces spaces c.in-Ok.contents.maps.items (same ∙ sym over.shapes_are) c.in-Ok.ensures.sets;
 }

@@ -1,4 +1,4 @@
-use Rattle.std.proofs.Common.{inl, ◌≡◌, ◌≤◌, ◌^◌, List, Option, length, ap, ◌∙◌, arith}
+use Rattle.std.proofs.Common.{◌≡◌, ◌≤◌, ◌^◌, List, Option, length, ap, ◌∙◌, arith}
 use Rattle.disk_set.specs.declared.stale.GroupSpan.{GroupSpan}
 use Rattle.model_disk.specs.Joint.{Disks}
 use Rattle.block_store.specs.Store.{Store}
@@ -19,7 +19,7 @@ returns-in-Ok-reach-clause-walked g c =
     (c.in-Ok-opened.ensures.out ∙ c.as_slice-2.ensures.value) c.in-Ok-opened.ensures.since marked in
     walked_over c.args.disks c.into_array.result layout c.args.root.now c.args.group _ c.mark_stale.new.self c.reach.new.store may over
     c.in-Ok-reach.ensures.reads c.into_array.ensures c.in-Ok-reach.ensures.once
-    (λ stored pool held is honest. c.in-Ok-reach.ensures.reach stored pool held is (inl honest))
+    c.in-Ok-reach.ensures.reach
 
 pub returns-in-Ok-reach-clause-room : goal.returns-in-Ok-reach-clause-room
 returns-in-Ok-reach-clause-room g c =

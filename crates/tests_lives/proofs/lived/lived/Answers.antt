@@ -4,5 +4,5 @@ use Rattle.tests_lives.proofs.lived.lived.Goals as goal
 
 pub returns : goal.returns
 returns g c =
-    has_lived g.D.Disk c.lives_go_on.ensures c.lives_lose_nothing.ensures c.args.disks.items c.args.pool c.args.config c.args.steps.items c.in-Ok.made.uberblock
+    has_lived g.D.Disk c.crash_histories_go_on.ensures c.crash_histories_keep_the_last_group.ensures c.args.disks.items c.args.pool c.args.config c.args.steps.items c.in-Ok.made.uberblock
     (state_of c.in-Ok.made.core) (state_of c.run.new.core) _ _ c.in-Ok.ensures.created c.in-Ok-run.ensures.all

@@ -13,5 +13,5 @@ returns g c =
     (λ which. sym (c.into_disks.ensures.calls which)) in
     let it = c.in-Err-NotFound in
     let unfound : OpenRefuses g.D.Disk disks 2 (NotFound it.field-0-0 it.disks) = subst (OpenRefuses g.D.Disk disks 2) it.field-0-is it.ensures.refused in
-    gives_back_and_opens g.D.Disk c.lives_go_on.ensures core disks it.disks.items unfound.0 _ _ (c.export_refusal.ensures.none c.in-None.is) array unfound.2
+    gives_back_and_opens g.D.Disk c.crash_histories_go_on.ensures core disks it.disks.items unfound.0 _ _ (c.export_refusal.ensures.none c.in-None.is) array unfound.2
     c.in-Ok.ensures.opened.0

@@ -28,6 +28,6 @@ returns-clause-refused c =
       is,
       λ p pools led there free.
           let once = c.unfailing_opens_claim_once.ensures.refused guids c.args.disks shapes out 0 failed.1 failed.0 is free.truly.none_failed in
-          c.unhindered_opens_are_done.ensures guids c.args.disks shapes out p pools failed.0 led there failed.1 once free,
+          c.fault_free_opens_succeed.ensures guids c.args.disks shapes out p pools failed.0 led there failed.1 once free,
     ))
     c.open_over.ensures.refused

@@ -1,5 +1,5 @@
-use Rattle.pool_lives.proofs.Lives.{lives_lose_nothing as law}
-use Rattle.pool_lives.proofs.lives_lose_nothing.Goals as goal
+use Rattle.pool_lives.proofs.Lives.{crash_histories_keep_the_last_group as law}
+use Rattle.pool_lives.proofs.crash_histories_keep_the_last_group.Goals as goal
 
 pub returns : goal.returns
 returns g c = law c.created_pools_run_as.ensures c.created_pools_are_on_their_disks.ensures g.D.Disk (record {
