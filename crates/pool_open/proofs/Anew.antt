@@ -1,5 +1,5 @@
 -- What a core that is begun anew represents, and why there is none.
-use Rattle.std.proofs.Common.{◌≡◌, ◌⊎◌, inl, inr, ℕ, Bool, Option, Some, List, refl, sym, ap, ◌∙◌, subst}
+use Rattle.std.proofs.Common.{◌≡◌, ◌⊎◌, inl, inr, ℕ, Bool, Option, List, refl, sym, ap, ◌∙◌, subst}
 use Rattle.block_store.specs.Blocks.{Contents}
 use Rattle.block_store.specs.Elsewhere.{WritesElsewhereKeep}
 use Rattle.block_store.specs.Opened.{MayBeOpened}
@@ -17,13 +17,12 @@ use Rattle.pool_model.specs.Pools.{PlainPool}
 use Rattle.pool_model.specs.View.{opened_as}
 use Rattle.raidz_io.specs.Reads.{IsHonestSince, OnlyReads}
 use Rattle.space_map_objects.specs.declared.refusal.Refusal.{Refusal as RootRefusal}
-use Rattle.space_map_objects.specs.declared.refusal.Refusal.TheVariants as root
 use Rattle.stale_disks.specs.Rules.{guids_in, stale_groups}
 use Rattle.uberblock_ring.specs.declared.uberblock.Uberblock.{Uberblock}
 use Rattle.vdev_label.specs.Plain.{config_view}
 use Rattle.vdev_label.specs.declared.label.Config.{Config}
 use Rattle.volume_rules.specs.NowMoves.{IsMadeBy}
-use Rattle.pool_open.specs.Again.{GoesOnFrom, IsCoreAgain, IsNoCoreAgain, IsRootMisplaced}
+use Rattle.pool_open.specs.Again.{GoesOnFrom, IsNoCoreAgain}
 use Rattle.pool_open.specs.Causes.{of_root}
 use Rattle.pool_open.specs.Held.{FewLieOver, HoldOver, TellOver}
 use Rattle.pool_open.specs.Opening.{AreMisplacedOver, RepresentsRoot}

@@ -1,5 +1,4 @@
-use Rattle.std.proofs.Common.{◌≡◌, List, Bool, Option, ap, sym, subst, ◌∙◌}
-use Rattle.block_store.specs.declared.shape.VdevShape.{VdevShape}
+use Rattle.std.proofs.Common.{List, Option, sym, subst, ◌∙◌}
 use Rattle.disk_set.specs.declared.stale.GroupSpan.{GroupSpan}
 use Rattle.model_disk.specs.Joint.{Disks}
 use Rattle.pool_core.specs.StateOf.{state_of}
