@@ -6,7 +6,7 @@ use Rattle.block_store.specs.Store.{Store, Holds, is_out, is_stale, lost, outs_f
 use Rattle.model_disk.specs.Joint.{Disks, content}
 use Rattle.pool_model.specs.Pools.{PlainPool}
 use Rattle.pool_open.specs.CoreState.{CoreState, config_of, disks_of, spans_of}
-use Rattle.pool_open.specs.Held.{HoldOver, IsStoreOver}
+use Rattle.pool_open.specs.Held.{HoldOver, IsStoreOver, TellOver}
 use Rattle.pool_open.specs.Slots.{IsStampOf}
 use Rattle.pool_open.specs.Words.{stamp_of}
 use Rattle.sha2.specs.Sha256.{sha256}
@@ -14,6 +14,7 @@ use Rattle.raidz_io.specs.Reads.{IsHonestSince}
 use Rattle.raidz_io.specs.Stands.{ExtentStands}
 use Rattle.scrub_resilver.specs.Copies.{IsCopyOn}
 use Rattle.scrub_resilver.specs.Laws.{CheckedBlocksStand}
+use Rattle.scrub_resilver.specs.Mending.{GoesOn}
 use Rattle.scrub_resilver.specs.declared.fault.Finding.{Finding}
 use Rattle.stale_disks.specs.Rules.{guids_in, stale_groups}
 use Rattle.uberblock_ring.specs.declared.uberblock.Uberblock.{Uberblock}
@@ -27,7 +28,7 @@ use Rattle.pool_scrub.specs.Laws.{CleanScrubsGoOnWhole, HasPoolOn, IsCleanEnd, N
 use Rattle.pool_scrub.specs.Scrubbing.{IsScrubbedOver}
 use Rattle.pool_scrub.specs.declared.scrubbing.ScrubCounts.{ScrubCounts}
 use Rattle.pool_scrub.proofs.Left.{out_among}
-use Rattle.pool_scrub.proofs.Whole.{Grew, contained_at, copy_on, grew_by_reads, grew_on, healed_grew, honest_part, last_look, no_calls, out_is_lost, stands_without, whole_missed_none}
+use Rattle.pool_scrub.proofs.Whole.{contained_at, copy_on, grew_by_reads, grew_on, healed_grew, honest_part, last_look, no_calls, out_is_lost, stands_without, whole_missed_none}
 
 never : (b : Bool) → b ≡ true → b ≡ false → ⊥
 never b is not = cc
@@ -63,7 +64,7 @@ none_stale before core u counts is clean disk birth within there =
 -- ---- what stands
 
 -- each call up to the last look, and what it was
-pub looked_grew : (before core : CoreState) (u : Uberblock) (counts : ScrubCounts) (is : IsScrubbedOver before u core counts) → Grew (disks_of before) is.mid
+pub looked_grew : (before core : CoreState) (u : Uberblock) (counts : ScrubCounts) (is : IsScrubbedOver before u core counts) → GoesOn (disks_of before) is.mid
 looked_grew before core u counts is =
     let it = is.looked_is in
     grew_on (disks_of before) it.mid is.mid (grew_by_reads (disks_of before) it.mid it.walked.reads)
@@ -120,20 +121,26 @@ held_clean law before core u counts stored pool is clean has known honest store 
 -- ---- the core
 
 pub represents_behind : (before core : CoreState) (u : Uberblock) (counts : ScrubCounts) (stored : Contents) (pool : PlainPool)
-    → (is : IsScrubbedOver before u core counts) → HasPoolOn before is.layout u stored pool → IsHonestSince (disks_of before) (disks_of core)
+    → (is : IsScrubbedOver before u core counts) → HasPoolOn before is.layout u stored pool
+    → TellOver is.mid (disks_of core) is.layout.shapes.items is.layout.out.items core.commit.store.spans.stale
     → HoldOver is.mid is.layout.shapes.items is.layout.out.items core.commit.store.spans.stale stored
     → Represents core (opened_as (vdevs_in is.layout.shapes.items) (is_out is.layout.out.items) (is_stale core.commit.store.spans.stale) u.group pool)
-represents_behind before core u counts stored pool is has honest hold =
-    let rest = grew_by_reads is.mid (disks_of core) is.begun.again.reads.only in
+represents_behind before core u counts stored pool is has tell hold =
     is.begun.again.represents stored pool hold has.spells has.configured
-    (subst (λ (config : Config). IsStampOf (config_view config) u.claim (stamp_of u)) (sym is.begun.again.configured) has.named)
-    (inl (honest_part (disks_of before) is.mid (disks_of core) (disks_of core) (looked_grew before core u counts is) (no_calls (disks_of core)) honest))
-    has.made
+    (subst (λ (config : Config). IsStampOf (config_view config) u.claim (stamp_of u)) (sym is.begun.again.configured) has.named) tell has.made
+
+-- answers that are true throughout are so as the core is begun anew
+pub honest_again : (before core : CoreState) (u : Uberblock) (counts : ScrubCounts) → (is : IsScrubbedOver before u core counts)
+    → IsHonestSince (disks_of before) (disks_of core)
+    → TellOver is.mid (disks_of core) is.layout.shapes.items is.layout.out.items core.commit.store.spans.stale
+honest_again before core u counts is honest =
+    inl (honest_part (disks_of before) is.mid (disks_of core) (disks_of core) (looked_grew before core u counts is) (no_calls (disks_of core)) honest)
 
 -- ---- clean ends
 
 pub clean_goes_on : CheckedBlocksStand → CleanScrubsGoOnWhole
 clean_goes_on law before core u counts stored pool is clean has known honest = (
-  represents_behind before core u counts stored pool is has honest (held_clean law before core u counts stored pool is clean has known honest),
+  represents_behind before core u counts stored pool is has (honest_again before core u counts is honest)
+      (held_clean law before core u counts stored pool is clean has known honest),
   none_stale before core u counts is clean,
 )

@@ -26,6 +26,7 @@ use Rattle.raidz_io.specs.Stands.{ExtentStands}
 use Rattle.stale_disks.specs.Rules.{AreSpansWithout, groups_of, stale_groups}
 use Rattle.scrub_resilver.specs.Checking.{AreChecked}
 use Rattle.scrub_resilver.specs.Copies.{IsCopyOn}
+use Rattle.scrub_resilver.specs.Mending.{GoesOn}
 use Rattle.scrub_resilver.specs.declared.fault.Finding.{Finding}
 use Rattle.pool_scrub.specs.Healing.{IsHealed}
 use Rattle.pool_scrub.specs.declared.healing.Healed.{Healed}
@@ -39,20 +40,14 @@ not_true false not = refl
 
 -- ---- calls, one behind the other
 
--- calls were made, on disks that began alike
-pub record Grew (old new : Disks) : Type 0 where
-  pub starts : new.starts ≡ old.starts
-  pub newer : List JointCall
-  pub calls : new.calls ≡ newer ++ old.calls
-
-pub grew_by_reads : (old new : Disks) → OnlyReads old new → Grew old new
+pub grew_by_reads : (old new : Disks) → OnlyReads old new → GoesOn old new
 grew_by_reads old new reads = record { starts = reads.starts; newer = reads.newer; calls = reads.calls }
 
 append_assoc : (xs ys zs : List JointCall) → (xs ++ ys) ++ zs ≡ xs ++ (ys ++ zs)
 append_assoc [] ys zs = refl
 append_assoc (x ∷ xs) ys zs = ap (λ (rest : List JointCall). x ∷ rest) (append_assoc xs ys zs)
 
-pub grew_on : (old mid new : Disks) → Grew old mid → Grew mid new → Grew old new
+pub grew_on : (old mid new : Disks) → GoesOn old mid → GoesOn mid new → GoesOn old new
 grew_on old mid new first rest = record {
   starts = rest.starts ∙ first.starts;
   newer = rest.newer ++ first.newer;
@@ -68,7 +63,7 @@ honest_later n m starts [] le honest = tt
 honest_later n m starts (made ∷ calls) le honest = (λ since. honest.0 (omega (arith, le, since)), honest_later n m starts calls le honest.1)
 
 -- answers that are true throughout are true between two moments
-pub honest_part : (old mid read new : Disks) → Grew old mid → Grew read new → IsHonestSince old new → IsHonestSince mid read
+pub honest_part : (old mid read new : Disks) → GoesOn old mid → GoesOn read new → IsHonestSince old new → IsHonestSince mid read
 honest_part old mid read new first last honest =
     let all : AreHonestSince (length old.calls) read.starts (last.newer ++ read.calls) =
     subst (λ (starts : List (List ℕ)). AreHonestSince (length old.calls) starts (last.newer ++ read.calls)) last.starts
@@ -82,11 +77,11 @@ honest_part old mid read new first last honest =
 -- all blocks were looked at by these reads, and just this was left
 pub record IsLastLook (shapes : List VdevShape) (blocks : List Block) (missing : List ℕ) (old new : Disks) (left : List Finding) : Type 0 where
   pub from : Disks
-  pub before : Grew old from
+  pub before : GoesOn old from
   pub reads : OnlyReads from new
   pub checked : AreChecked shapes from new missing blocks left
 
-pub no_calls : (disks : Disks) → Grew disks disks
+pub no_calls : (disks : Disks) → GoesOn disks disks
 no_calls disks = record { starts = refl; newer = []; calls = refl }
 
 pub last_look : (shapes : List VdevShape) (blocks : List Block) (missing : List ℕ) (old new : Disks) (healed : Healed)
@@ -110,7 +105,7 @@ last_look shapes blocks missing old new healed is = elim is.rest [
 ]
 
 pub healed_grew : (shapes : List VdevShape) (blocks : List Block) (missing : List ℕ) (old new : Disks) (healed : Healed)
-    → IsHealed shapes blocks missing old new healed → Grew old new
+    → IsHealed shapes blocks missing old new healed → GoesOn old new
 healed_grew shapes blocks missing old new healed is =
     let look = last_look shapes blocks missing old new healed is in
     grew_on old look.from new look.before (grew_by_reads look.from new look.reads)

@@ -1,5 +1,5 @@
 -- What a pool goes on with behind a scrub.
-use Rattle.std.specs.Prelude.{ℕ, ◌≡◌, ◌<◌, Bool, true, false, Some, List, [], length, Contains}
+use Rattle.std.specs.Prelude.{ℕ, ◌≡◌, ◌⊎◌, ◌<◌, Bool, true, false, Some, List, [], length, Contains}
 use Rattle.block_pointer.specs.declared.block.Block.{Block}
 use Rattle.block_store.specs.Blocks.{Contents}
 use Rattle.block_store.specs.Store.{is_out, is_stale, outs_from}
@@ -8,19 +8,20 @@ use Rattle.model_disk.specs.Joint.{Disks, content}
 use Rattle.model_disk.specs.declared.disk.Disk as disk
 use Rattle.sha2.specs.Sha256.{sha256}
 use Rattle.raidz_io.specs.declared.vdev.Extent.{Extent}
-use Rattle.raidz_io.specs.Reads.{IsHonestSince}
+use Rattle.raidz_io.specs.Reads.{GivesTruly, IsHonestSince, OnlyReads}
 use Rattle.raidz_io.specs.Stands.{ExtentStands}
 use Rattle.pool_model.specs.Pools.{PlainPool}
 use Rattle.pool_model.specs.View.{opened_as}
 use Rattle.pool_open.specs.CoreState.{CoreState, disks_of}
-use Rattle.pool_open.specs.Held.{HoldOver}
+use Rattle.pool_open.specs.Held.{HoldOver, TellOver}
 use Rattle.pool_open.specs.Mapped.{SpellsWithMaps}
 use Rattle.pool_open.specs.Represents.{Represents}
 use Rattle.pool_open.specs.Trees.{IsConfiguredFor, NamesConfigOf}
 use Rattle.pool_open.specs.Words.{vdevs_in}
 use Rattle.pool_open.specs.declared.handed_in.OpenedFrom.{OpenedFrom}
 use Rattle.scrub_resilver.specs.Copies.{IsCopyOn}
-use Rattle.scrub_resilver.specs.Laws.{AreKnown, AreTold}
+use Rattle.scrub_resilver.specs.Laws.{AreKnown, AreTold, ChosenAreOwnThroughout}
+use Rattle.scrub_resilver.specs.Mending.{GoesOn}
 use Rattle.scrub_resilver.specs.declared.fault.Finding.{Finding}
 use Rattle.uberblock_ring.specs.declared.uberblock.Uberblock.{Uberblock}
 use Rattle.volume_rules.specs.NowMoves.{IsMadeBy}
@@ -55,6 +56,18 @@ pub record AreToldThroughout (before behind : Disks) (layout : PoolLayout) (stor
   pub first : AreTold layout.shapes.items before (outs_from 0 layout.out.items) stored
   pub last : AreTold layout.shapes.items behind (outs_from 0 layout.out.items) stored
 
+-- What disks answer in a scrub tells the blocks, though some lie. As the blocks are found, and as the core is begun anew, few lie, if any. As they are looked at
+-- and mended any disk may; but of no block could other bytes with its digest be chosen of what was read between two writes, no write fails, and each disk that
+-- missed groups before, and has every block again, gave what stood there as all was looked at last.
+pub record TellThroughout (before : CoreState) (u : Uberblock) (core : CoreState) (counts : ScrubCounts) (is : IsScrubbedOver before u core counts) (stored : Contents)
+    : Type 0 where
+  pub walk : TellOver (disks_of before) is.looked_is.mid is.layout.shapes.items is.layout.out.items is.layout.stale.items
+  pub chosen : ChosenAreOwnThroughout is.layout.shapes.items is.looked_is.mid is.mid stored
+  pub known : AreKnown is.layout.shapes.items is.mid (outs_from 0 is.layout.out.items) stored
+  pub truly : (from : Disks) → GoesOn is.looked_is.mid from → OnlyReads from is.mid → (disk birth : ℕ) → is_stale is.layout.stale.items disk birth ≡ true
+      → is_out is.looked.whole.items disk ≡ true → GivesTruly from is.mid disk
+  pub again : TellOver is.mid (disks_of core) is.layout.shapes.items is.layout.out.items core.commit.store.spans.stale
+
 -- no disk misses a group that has every block again
 abbrev pub NoWholeIsStale : List Bool → CoreState → Type 0
 NoWholeIsStale whole core = (disk birth : ℕ) → is_out whole disk ≡ true → is_stale core.commit.store.spans.stale disk birth ≡ false
@@ -75,12 +88,14 @@ CleanScrubsGoOnWhole =
     × NonePresentIsStale is.layout.out.items core
 
 module _ {D : Type 0} where
-  -- Behind a scrub, over disks with a pool that answer truly, and of whose blocks the digests tell, the core represents that pool, whatever is left to
-  -- be mended. A disk that has every block again is read for each, whichever groups it missed before; another one for each group that it didn't miss.
+  -- Behind a scrub of disks with a pool the core represents that pool, whatever is left to be mended: where the disks answer truly, and digests tell its blocks
+  -- by what stands; or where some disks lie, and what they answer tells. A disk that has every block again is read for each, whichever groups it missed before;
+  -- another one for each group that it didn't miss.
   abbrev pub ScrubsGoOn : disk.Ghosts D → Type 0
   ScrubsGoOn g =
       (disks : List D) (u : Uberblock) (core : CoreState) (from : OpenedFrom D) (counts : ScrubCounts) (stored : Contents) (pool : PlainPool)
       → (is : IsScrubbed g disks u core from counts) → HasPoolOn is.before is.over.layout u stored pool
-      → AreToldThroughout (disks_of is.before) is.over.mid is.over.layout stored → IsHonestSince (disks_of is.before) (disks_of core)
+      → (AreToldThroughout (disks_of is.before) is.over.mid is.over.layout stored × IsHonestSince (disks_of is.before) (disks_of core))
+      ⊎ TellThroughout is.before u core counts is.over stored
       → Represents core (opened_as (vdevs_in is.over.layout.shapes.items) (is_out is.over.layout.out.items) (is_stale core.commit.store.spans.stale) u.group pool)
       × NoWholeIsStale is.over.looked.whole.items core

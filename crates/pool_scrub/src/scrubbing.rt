@@ -15,9 +15,10 @@ use crate::walking::{PoolLayout, walk};
 use dataset_snapshots::reach_is_known;
 use model_disk::{Disk, DiskArray, Member};
 use pool_open::{Core, KnownDisks, NotOpened, OpenedFrom, OpenedPool, Refusal, core_again, open};
-use raidz_io::{reads_keep_contents, stands_while_kept};
+use raidz_io::{honest_disks_give_truly, reads_keep_contents, stands_while_kept};
 use scrub_resilver::{
-    apart_blocks_share_no_byte, blocks_looked_at_stand, checked_blocks_stand, mends_spare_blocks,
+    apart_blocks_share_no_byte, blocks_looked_at_stand, checked_blocks_stand,
+    honest_choices_are_own, mends_spare_blocks, mends_spare_told_blocks,
 };
 use stale_disks::{disk_guids, spans_without, stale_groups};
 use std::alloc::{AllocError, Global};
@@ -208,14 +209,18 @@ pub fn scrub<D: Disk + Drop>(alloc: Global, disks: Vec<D>) -> Result<Scrubbed<D>
 }
 
 /// A law: whatever is left to be mended, the pool goes on as the open found it, and no disk is stale that has every block again. Of disks that held
-/// the pool, answer truly, and of whose blocks the digests tell which columns are wrong.
+/// the pool, and whose answers tell its blocks: they are true, and digests tell which columns are wrong; or some disks lie, and of no block
+/// other bytes that could be chosen of what was read have its digest.
 pub fn scrubs_go_on<D: Disk + Drop>()
     ensures { ScrubsGoOn D.Disk }
 {
     mends_spare_blocks();
+    mends_spare_told_blocks();
+    honest_choices_are_own();
     blocks_looked_at_stand();
     apart_blocks_share_no_byte();
     reads_keep_contents();
+    honest_disks_give_truly();
     stands_while_kept();
     reach_is_known();
 }

@@ -11,7 +11,7 @@ use Rattle.raidz_io.specs.Reads.{AreUntouched, IsHonestSince, OnlyReads}
 use Rattle.raidz_io.specs.Stands.{ExtentStands, parity_of}
 use Rattle.raidz_io.specs.declared.vdev.Extent.{Extent}
 use Rattle.scrub_resilver.specs.Copies.{IsChosenAt, IsChosenOf, IsCopyOn}
-use Rattle.scrub_resilver.specs.Laws.{IsKnownBut}
+use Rattle.scrub_resilver.specs.Laws.{HonestChoicesAreOwn, IsKnownBut}
 use Rattle.scrub_resilver.proofs.Faults.{gave_none, held_there}
 use Rattle.scrub_resilver.proofs.Logs.{gave_later, gave_since}
 use Rattle.scrub_resilver.proofs.Placing.{size_at}
@@ -87,3 +87,10 @@ chosen_stands shapes old new missing block bytes reads untouched honest known (p
             is_value ∙ sym (given_is old new (disk_of extent.vdev column) (offset_of column) part reads honest gave j value within is_value);
       };
     }
+
+-- where their digests tell blocks, what was chosen of one is its own
+pub honest_choices : HonestChoicesAreOwn
+honest_choices shapes old new missing stored reads untouched honest told block bytes others is_stored chosen digest =
+    let it : StandsChosen shapes new block others =
+    chosen_stands shapes old new missing block others reads untouched honest (λ i extent copy. told.known block bytes i extent is_stored copy) chosen in
+    told.one block bytes others it.wrong it.i it.extent is_stored it.is_copy it.few it.stands digest

@@ -19,14 +19,14 @@ use Rattle.raidz_io.proofs.Calls.{content-OnlyReads}
 use Rattle.raidz_io.proofs.Layouts.{apart, layouts_agree}
 use Rattle.raidz_io.specs.Elsewhere.{IsOfExtent, StandsWhileKept}
 use Rattle.raidz_io.specs.Places.{disk_of, offset_of}
-use Rattle.raidz_io.specs.Reads.{IsHonestSince}
+use Rattle.raidz_io.specs.Reads.{IsHonestSince, OnlyReads}
 use Rattle.raidz_io.specs.Stands.{AreBytesOf, ExtentStands, IsLayout, all_columns, parity_of}
 use Rattle.raidz_io.specs.declared.vdev.Extent.{Extent}
 use Rattle.raidz_map.specs.Extent.{ChildHoldsOneColumn}
 use Rattle.raidz_map.specs.declared.column.Column.{Column}
 use Rattle.raidz_parity.specs.Layout.{Block as ColumnsOf}
 use Rattle.scrub_resilver.specs.Copies.{IsCopyOn}
-use Rattle.scrub_resilver.specs.Laws.{AreCopiesApart, IsKnownBut, MendsSpareBlocks}
+use Rattle.scrub_resilver.specs.Laws.{AreCopiesApart, AreKnown, ChosenAreOwnThroughout, IsKnownBut, MendsSpareBlocks, MendsSpareToldBlocks}
 use Rattle.scrub_resilver.specs.Mending.{AreMendedInTurn, GoesOn, IsColumnOf, IsColumnOfBlock, IsRewritten, Repairs}
 use Rattle.scrub_resilver.proofs.Chosen.{StandsChosen, chosen_stands}
 use Rattle.scrub_resilver.proofs.Faults.{columns_agree, held_there, there_first, there_later}
@@ -177,6 +177,51 @@ byte_of_copy shapes block content_is disk at x part (place, held, one) covered =
       is_byte = its_byte shapes block content_is place disk at x part one covered;
     }
 
+-- ---- blocks that are mended with what is their own
+
+-- the block was read, and then written with columns of its own bytes
+record IsRewrittenAsStored (shapes : List VdevShape) (missing : List ℕ) (block : Block) (stored : Contents) (old new : Disks) : Type 0 where
+  pub mid : Disks
+  pub bytes : List ℕ
+  pub reads : OnlyReads old mid
+  pub is_stored : stored block ≡ Some bytes
+  pub written : Repairs (IsColumnOfBlock shapes block bytes) missing mid new
+
+-- so was each of these blocks, one behind the other; or nothing was written as it was its turn
+abbrev AreOwnTurns : List VdevShape → List ℕ → List Block → Contents → Disks → Disks → Type 0
+AreOwnTurns shapes missing [] stored old new = old ≡ new
+AreOwnTurns shapes missing (block ∷ blocks) stored old new =
+    (mid : Disks) × (Repairs no_write missing old mid ⊎ IsRewrittenAsStored shapes missing block stored old mid) × AreOwnTurns shapes missing blocks stored mid new
+
+-- so it is where of no block other bytes could be chosen in any part of the run
+told_turns : (shapes : List VdevShape) (missing : List ℕ) (blocks : List Block) (stored : Contents) (first old new last : Disks)
+    → AreMendedInTurn shapes missing blocks old new → ChosenAreOwnThroughout shapes first last stored → AreStored stored blocks → GoesOn first old → GoesOn new last
+    → AreOwnTurns shapes missing blocks stored old new
+told_turns shapes missing [] stored first old new last same chosen are before after = same
+told_turns shapes missing (block ∷ blocks) stored first old new last (mid, inl none, turn) chosen are before after = (
+  mid,
+  inl none,
+  told_turns shapes missing blocks stored first mid new last turn chosen (λ other held. are other (there_later block blocks other held))
+      (goes_further first old mid before (goes_on no_write missing old mid none)) after,
+)
+told_turns shapes missing (block ∷ blocks) stored first old new last (mid, inr it, turn) chosen are before after =
+    let (bytes, is_stored) = are block (there_first block blocks) in
+    let written : GoesOn it.mid mid = goes_on (IsColumnOfBlock shapes block it.content) missing it.mid mid it.written in
+    let own : it.content ≡ bytes =
+    chosen old it.mid before it.reads (goes_further it.mid mid last written (goes_further mid new last (turn_goes_on shapes missing blocks mid new turn) after))
+    block bytes it.content is_stored it.chosen it.digest in (
+      mid,
+      inr (record {
+        mid = it.mid;
+        bytes = bytes;
+        reads = it.reads;
+        is_stored = is_stored;
+        written = subst (λ (b : List ℕ). Repairs (IsColumnOfBlock shapes block b) missing it.mid mid) own it.written;
+      }),
+      told_turns shapes missing blocks stored first mid new last turn chosen (λ other held. are other (there_later block blocks other held))
+          (goes_further first old mid before (rewritten_goes_on shapes missing block old mid it)) after,
+    )
+
 -- ---- blocks that are told
 
 -- what the disks have of the block is known, but for the missing ones, and its digest tells it
@@ -232,6 +277,43 @@ spares_other shapes missing blocks block other bytes old new written apart is_on
 
 -- ---- all blocks
 
+-- over disks that answer truly blocks are mended with what is their own, where their digests tell them
+honest_turns : StandsWhileKept → (shapes : List VdevShape) (missing : List ℕ) (blocks : List Block) (stored : Contents) (old new : Disks)
+    → AreMendedInTurn shapes missing blocks old new → IsHonestSince old new → AreDistinct blocks → AreCopiesApart shapes blocks → AreStored stored blocks
+    → AreEachTold shapes old missing blocks stored → AreOwnTurns shapes missing blocks stored old new
+honest_turns kept shapes missing [] stored old new same honest distinct apart are told = same
+honest_turns kept shapes missing (block ∷ blocks) stored old new (mid, inl none, turn) honest distinct apart are told = (
+  mid,
+  inl none,
+  honest_turns kept shapes missing blocks stored mid new turn (honest_rest old mid new (goes_on no_write missing old mid none) honest)
+      (pairs_tail (λ (b later : Block). b ≢ later) block blocks distinct)
+      (λ one other i k extent behind held held'. apart one other i k extent behind (there_later block blocks one held) (there_later block blocks other held'))
+      (λ other held. are other (there_later block blocks other held))
+      (λ other bytes held is_stored.
+      told_still kept shapes old mid missing other bytes (λ i extent d y copy of. none_written old mid missing d y none)
+      (told other bytes (there_later block blocks other held) is_stored)),
+)
+honest_turns kept shapes missing (block ∷ blocks) stored old new (mid, inr it, turn) honest distinct apart are told =
+    let first : Contains (block ∷ blocks) block = there_first block blocks in
+    let (bytes, is_stored) = are block first in
+    let rest = turn_goes_on shapes missing blocks mid new turn in
+    let written : Repairs (IsColumnOfBlock shapes block bytes) missing it.mid mid =
+    own_written kept shapes missing block bytes old mid it (honest_first old mid new rest honest) (told block bytes first is_stored) in (
+      mid,
+      inr (record { mid = it.mid; bytes = bytes; reads = it.reads; is_stored = is_stored; written = written }),
+      honest_turns kept shapes missing blocks stored mid new turn (honest_rest old mid new (rewritten_goes_on shapes missing block old mid it) honest)
+          (pairs_tail (λ (b later : Block). b ≢ later) block blocks distinct)
+          (λ one other i k extent behind held held'. apart one other i k extent behind (there_later block blocks one held) (there_later block blocks other held'))
+          (λ other held. are other (there_later block blocks other held))
+          (λ other others held is_stored'.
+          told_still kept shapes old mid missing other others
+          (λ i extent d y copy of.
+          spares_other shapes missing (block ∷ blocks) block other bytes it.mid mid written apart first (there_later block blocks other held)
+          (pairs_head (λ (b later : Block). b ≢ later) block blocks other distinct held) i extent d y copy of
+          ∙ content-OnlyReads old it.mid it.reads d y)
+          (told other others (there_later block blocks other held) is_stored')),
+    )
+
 -- the byte is one of a column of a block, and has its value
 pub record IsOwnByte (shapes : List VdevShape) (blocks : List Block) (stored : Contents) (disk x value : ℕ) : Type 0 where
   pub block : Block
@@ -250,47 +332,20 @@ own_later shapes block blocks stored disk x value own = record {
   written = own.written;
 }
 
--- where blocks are mended, each byte that is known then was known before, or is one of their own
-turns : StandsWhileKept → (shapes : List VdevShape) (missing : List ℕ) (blocks : List Block) (stored : Contents) (old new : Disks)
-    → AreMendedInTurn shapes missing blocks old new → IsHonestSince old new → AreDistinct blocks → AreCopiesApart shapes blocks → AreStored stored blocks
-    → AreEachTold shapes old missing blocks stored → (disk x value : ℕ) → content new disk x ≡ Some value
-    → (content old disk x ≡ Some value) ⊎ IsOwnByte shapes blocks stored disk x value
-turns kept shapes missing [] stored old new same honest distinct apart are told disk x value is =
-    inl (subst (λ (d : Disks). content d disk x ≡ Some value) (sym same) is)
-turns kept shapes missing (block ∷ blocks) stored old new (mid, inl none, turn) honest distinct apart are told disk x value is =
-    elim (turns kept shapes missing blocks stored mid new turn (honest_rest old mid new (goes_on no_write missing old mid none) honest)
-    (pairs_tail (λ (b later : Block). b ≢ later) block blocks distinct)
-    (λ one other i k extent behind held held'. apart one other i k extent behind (there_later block blocks one held) (there_later block blocks other held'))
-    (λ other held. are other (there_later block blocks other held))
-    (λ other bytes held is_stored.
-    told_still kept shapes old mid missing other bytes (λ i extent d y copy of. none_written old mid missing d y none)
-    (told other bytes (there_later block blocks other held) is_stored))
-    disk x value is) [
+-- where they are mended with what is their own, each byte that is known then was known before, or is one of their own
+turns : (shapes : List VdevShape) (missing : List ℕ) (blocks : List Block) (stored : Contents) (old new : Disks) → AreOwnTurns shapes missing blocks stored old new
+    → (disk x value : ℕ) → content new disk x ≡ Some value → (content old disk x ≡ Some value) ⊎ IsOwnByte shapes blocks stored disk x value
+turns shapes missing [] stored old new same disk x value is = inl (subst (λ (d : Disks). content d disk x ≡ Some value) (sym same) is)
+turns shapes missing (block ∷ blocks) stored old new (mid, inl none, turn) disk x value is =
+    elim (turns shapes missing blocks stored mid new turn disk x value is) [
       | inl before ↦ inl (sym (none_written old mid missing disk x none) ∙ before)
       | inr own ↦ inr (own_later shapes block blocks stored disk x value own)
     ]
-turns kept shapes missing (block ∷ blocks) stored old new (mid, inr it, turn) honest distinct apart are told disk x value is =
-    let first : Contains (block ∷ blocks) block = there_first block blocks in
-    let (bytes, is_stored) = are block first in
-    let rest = turn_goes_on shapes missing blocks mid new turn in
-    let written : Repairs (IsColumnOfBlock shapes block bytes) missing it.mid mid =
-    own_written kept shapes missing block bytes old mid it (honest_first old mid new rest honest) (told block bytes first is_stored) in
-    let same : (d y : ℕ) → content it.mid d y ≡ content old d y = λ d y. content-OnlyReads old it.mid it.reads d y in
-    elim (turns kept shapes missing blocks stored mid new turn (honest_rest old mid new (rewritten_goes_on shapes missing block old mid it) honest)
-    (pairs_tail (λ (b later : Block). b ≢ later) block blocks distinct)
-    (λ one other i k extent behind held held'. apart one other i k extent behind (there_later block blocks one held) (there_later block blocks other held'))
-    (λ other held. are other (there_later block blocks other held))
-    (λ other others held is_stored'.
-    told_still kept shapes old mid missing other others
-    (λ i extent d y copy of.
-    spares_other shapes missing (block ∷ blocks) block other bytes it.mid mid written apart first (there_later block blocks other held)
-    (pairs_head (λ (b later : Block). b ≢ later) block blocks other distinct held) i extent d y copy of
-    ∙ same d y)
-    (told other others (there_later block blocks other held) is_stored'))
-    disk x value is) [
-      | inl before ↦ elim (left_by (IsColumnOfBlock shapes block bytes) it.mid mid disk x value written.makes before) [
-        | inl was ↦ inl (sym (same disk x) ∙ was)
-        | inr made ↦ inr (record { block = block; is_one = first; bytes = bytes; is_stored = is_stored; written = made })
+turns shapes missing (block ∷ blocks) stored old new (mid, inr it, turn) disk x value is =
+    elim (turns shapes missing blocks stored mid new turn disk x value is) [
+      | inl before ↦ elim (left_by (IsColumnOfBlock shapes block it.bytes) it.mid mid disk x value it.written.makes before) [
+        | inl was ↦ inl (sym (content-OnlyReads old it.mid it.reads disk x) ∙ was)
+        | inr made ↦ inr (record { block = block; is_one = there_first block blocks; bytes = it.bytes; is_stored = it.is_stored; written = made })
       ]
       | inr own ↦ inr (own_later shapes block blocks stored disk x value own)
     ]
@@ -320,52 +375,66 @@ own_value child shapes block place bytes extent layout columns k j column part a
     let place_is : offset_of column + j - at ≡ j = omega (arith, it.at_is, ap (λ (c : Column). offset_of c) column_is) in
     sym (ap (λ (n : ℕ). slice_get part n) place_is) ∙ ap (λ (b : List ℕ). slice_get b (offset_of column + j - at)) (sym part_is) ∙ is
 
+-- what stood of blocks that are mended with what is their own stands
+own_spare : ChildHoldsOneColumn → (shapes : List VdevShape) (old mid new : Disks) (missing : List ℕ) (blocks : List Block) (stored : Contents)
+    → AreOwnTurns shapes missing blocks stored old mid → Repairs no_write missing mid new → AreCopiesApart shapes blocks → AreKnown shapes new missing stored
+    → (block : Block) (bytes : List ℕ) (i : ℕ) (extent : Extent) (absent : List ℕ) → Contains blocks block → stored block ≡ Some bytes
+    → IsCopyOn shapes block i extent → ((disk : ℕ) → Contains missing disk → Contains absent disk)
+    → ExtentStands (content old) absent extent bytes → ExtentStands (content new) absent extent bytes
+own_spare child shapes old mid new missing blocks stored turn none apart known block bytes i extent absent is_one is_stored copy among stands = record {
+  layout = stands.layout;
+  columns = stands.columns;
+  is_layout = stands.is_layout;
+  are_bytes = stands.are_bytes;
+  stand = λ k column part at at' there j within.
+      let disk : ℕ = disk_of extent.vdev column in
+      let x : ℕ = offset_of column + j in
+      let size : length part ≡ column.sectors * 512 = size_at extent bytes stands.layout stands.columns k column part stands.are_bytes at at' in
+      let of : IsOfExtent extent disk x = record {
+        k = k;
+        column = column;
+        is_column = stands.is_layout.places k column at;
+        which = refl;
+        from_first = omega arith;
+        before_end = omega (arith, size, within);
+      } in
+      let (value, is) = known block bytes i extent is_stored copy disk x (λ gone. there (among disk gone)) of in
+      let is' : content mid disk x ≡ Some value = sym (none_written mid new missing disk x none) ∙ is in
+      elim (turns shapes missing blocks stored old mid turn disk x value is') [
+        | inl before ↦ is ∙ sym before ∙ stands.stand k column part at at' there j within
+        | inr own ↦
+            let (place, held, one) = own.written.made in
+            let (n, is_place) = held_there (dvas own.block.copies) place held in
+            elim (apart own.block block n i one.extent extent own.is_one is_one (record { place = place; is_copy = is_place; extent_is = one.extent_is }) copy) [
+              | inr none_shared ↦ absurd (none_shared disk x (its_byte shapes own.block own.bytes place disk own.written.at x own.written.part one own.written.covered) of)
+              | inl (same_block, same_number) ↦
+                  let same_place : place ≡ copy.place =
+                  same_some place copy.place
+                  (sym is_place ∙ ap (λ (b : Block). slice_get (dvas b.copies) n) same_block ∙ ap (λ (m : ℕ). slice_get (dvas block.copies) m) same_number ∙ copy.is_copy) in
+                  let same_bytes : own.bytes ≡ bytes = same_some own.bytes bytes (sym own.is_stored ∙ ap stored same_block ∙ is_stored) in
+                  let mine : IsColumnOf shapes block copy.place bytes disk own.written.at own.written.part =
+                  subst (λ (p : Dva). IsColumnOf shapes block p bytes disk own.written.at own.written.part) same_place
+                  (subst (λ (b : List ℕ). IsColumnOf shapes block place b disk own.written.at own.written.part) same_bytes
+                  (subst (λ (b : Block). IsColumnOf shapes b place own.bytes disk own.written.at own.written.part) same_block one)) in
+                  is
+                  ∙ sym (own_value child shapes block copy.place bytes extent stands.layout stands.columns k j column part own.written.at value own.written.part disk
+                  stands.is_layout stands.are_bytes at at' refl mine
+                  (one_extent shapes block.property.sectors copy.place mine.extent extent mine.extent_is copy.extent_is) own.written.value_is)
+            ]
+      ];
+}
+
 pub mends_spare : StandsWhileKept → ChildHoldsOneColumn → MendsSpareBlocks
-mends_spare kept child shapes old new missing blocks stored (mid, turn, none) honest distinct apart are told known block bytes i extent absent is_one is_stored copy
-    among stands = record {
-      layout = stands.layout;
-      columns = stands.columns;
-      is_layout = stands.is_layout;
-      are_bytes = stands.are_bytes;
-      stand = λ k column part at at' there j within.
-          let disk : ℕ = disk_of extent.vdev column in
-          let x : ℕ = offset_of column + j in
-          let size : length part ≡ column.sectors * 512 = size_at extent bytes stands.layout stands.columns k column part stands.are_bytes at at' in
-          let of : IsOfExtent extent disk x = record {
-            k = k;
-            column = column;
-            is_column = stands.is_layout.places k column at;
-            which = refl;
-            from_first = omega arith;
-            before_end = omega (arith, size, within);
-          } in
-          let (value, is) = known block bytes i extent is_stored copy disk x (λ gone. there (among disk gone)) of in
-          let is' : content mid disk x ≡ Some value = sym (none_written mid new missing disk x none) ∙ is in
-          elim (turns kept shapes missing blocks stored old mid turn (honest_first old mid new (goes_on no_write missing mid new none) honest) distinct apart are
-          (λ other others held is_stored'. record {
-            known = λ n behind is_copy. told.known other others n behind is_stored' is_copy;
-            one = λ others' wrong n behind is_copy. told.one other others others' wrong n behind is_stored' is_copy;
-          })
-          disk x value is') [
-            | inl before ↦ is ∙ sym before ∙ stands.stand k column part at at' there j within
-            | inr own ↦
-                let (place, held, one) = own.written.made in
-                let (n, is_place) = held_there (dvas own.block.copies) place held in
-                elim (apart own.block block n i one.extent extent own.is_one is_one (record { place = place; is_copy = is_place; extent_is = one.extent_is }) copy) [
-                  | inr none_shared ↦ absurd (none_shared disk x (its_byte shapes own.block own.bytes place disk own.written.at x own.written.part one own.written.covered) of)
-                  | inl (same_block, same_number) ↦
-                      let same_place : place ≡ copy.place =
-                      same_some place copy.place
-                      (sym is_place ∙ ap (λ (b : Block). slice_get (dvas b.copies) n) same_block ∙ ap (λ (m : ℕ). slice_get (dvas block.copies) m) same_number ∙ copy.is_copy) in
-                      let same_bytes : own.bytes ≡ bytes = same_some own.bytes bytes (sym own.is_stored ∙ ap stored same_block ∙ is_stored) in
-                      let mine : IsColumnOf shapes block copy.place bytes disk own.written.at own.written.part =
-                      subst (λ (p : Dva). IsColumnOf shapes block p bytes disk own.written.at own.written.part) same_place
-                      (subst (λ (b : List ℕ). IsColumnOf shapes block place b disk own.written.at own.written.part) same_bytes
-                      (subst (λ (b : Block). IsColumnOf shapes b place own.bytes disk own.written.at own.written.part) same_block one)) in
-                      is
-                      ∙ sym (own_value child shapes block copy.place bytes extent stands.layout stands.columns k j column part own.written.at value own.written.part disk
-                      stands.is_layout stands.are_bytes at at' refl mine
-                      (one_extent shapes block.property.sectors copy.place mine.extent extent mine.extent_is copy.extent_is) own.written.value_is)
-                ]
-          ];
-    }
+mends_spare kept child shapes old new missing blocks stored (mid, turn, none) honest distinct apart are told known =
+    own_spare child shapes old mid new missing blocks stored
+    (honest_turns kept shapes missing blocks stored old mid turn (honest_first old mid new (goes_on no_write missing mid new none) honest) distinct apart are
+    (λ other others held is_stored. record {
+      known = λ n behind is_copy. told.known other others n behind is_stored is_copy;
+      one = λ others' wrong n behind is_copy. told.one other others others' wrong n behind is_stored is_copy;
+    }))
+    none apart known
+
+pub mends_spare_told : ChildHoldsOneColumn → MendsSpareToldBlocks
+mends_spare_told child shapes old new missing blocks stored (mid, turn, none) chosen apart are known =
+    own_spare child shapes old mid new missing blocks stored
+    (told_turns shapes missing blocks stored old old mid new turn chosen are (goes_none old) (goes_on no_write missing mid new none)) none apart known

@@ -17,7 +17,7 @@ use Rattle.raidz_map.specs.declared.column.Column.{Column}
 use Rattle.raidz_parity.specs.Layout.{Block as Columns}
 use Rattle.raidz_io.specs.declared.vdev.Extent.{Extent}
 use Rattle.raidz_io.specs.Places.{Content, Stands, disk_of, offset_of}
-use Rattle.raidz_io.specs.Reads.{AreReads, GaveSince, IsHonestSince, IsRead, OnlyReads}
+use Rattle.raidz_io.specs.Reads.{AreReads, GaveSince, GivesTruly, HonestDisksGiveTruly, IsHonestSince, IsRead, OnlyReads}
 use Rattle.raidz_io.specs.Stands.{AreBytesOf, ExtentStands, all_columns}
 use Rattle.raidz_io.proofs.Calls.{OnlyReads-more, OnlyReads-none, content-OnlyReads}
 use Rattle.raidz_io.proofs.Layouts.{layouts_agree}
@@ -148,18 +148,43 @@ block_of shapes old new missing (first ∷ blocks) found block (here, rest, part
 
 -- ---- what stands
 
--- a column of which nothing was found stands
+stands_behind : (content : Content) (disk at value : ℕ) (part : List ℕ) → content disk at ≡ Some value → Stands content disk (at + 1) part
+    → (i : ℕ) → i < length (value ∷ part) → content disk (at + i) ≡ slice_get (value ∷ part) i
+stands_behind content disk at value part first rest zero within = ap (λ (x : ℕ). content disk x) (omega arith) ∙ first
+stands_behind content disk at value part first rest (suc i) within = ap (λ (x : ℕ). content disk x) (omega arith) ∙ rest i (omega (arith, within))
+
+-- where each byte of a place is known a list stands there
+stands_known : (content : Content) (disk at n : ℕ) → ((i : ℕ) → i < n → (value : ℕ) × (content disk (at + i) ≡ Some value))
+    → (part : List ℕ) × (length part ≡ n) × Stands content disk at part
+stands_known content disk at zero known = ([], refl, λ i within. absurd (omega (arith, within)))
+stands_known content disk at (suc n) known =
+    let (value, is) = known 0 (omega arith) in
+    let (part, size, there) =
+    stands_known content disk (at + 1) n (λ i within.
+    let (next, is') = known (suc i) (omega (arith, within)) in
+    (next, ap (λ (x : ℕ). content disk x) (omega arith) ∙ is')) in
+    (value ∷ part, omega (arith, size), stands_behind content disk at value part (ap (λ (x : ℕ). content disk x) (omega arith) ∙ is) there)
+
+-- where a disk gave what stood in a place of which each byte is known, what it gave stands there
+gave_stands : (old new : Disks) (disk at : ℕ) (bytes : List ℕ) → OnlyReads old new → GivesTruly old new disk
+    → GaveSince (length old.calls) new.calls disk at bytes
+    → ((i : ℕ) → i < length bytes → (value : ℕ) × (content new disk (at + i) ≡ Some value)) → Stands (content new) disk at bytes
+gave_stands old new disk at bytes reads truly gave known =
+    let (part, size, there) = stands_known (content new) disk at (length bytes) known in
+    let same : bytes ≡ part = truly at bytes part gave (sym size) (λ i within. sym (content-OnlyReads old new reads disk (at + i)) ∙ there i within) in
+    subst (λ (b : List ℕ). Stands (content new) disk at b) (sym same) there
+
+-- a column of which nothing was found stands, where its disk gave what stood there
 pub column_stands : (old new : Disks) (missing left : List ℕ) (vdev : ℕ) (extent : Extent) (content_is bytes : List ℕ) (found : List Finding)
-    → OnlyReads old new → IsHonestSince old new → IsKnownBut new left extent
+    → OnlyReads old new → IsKnownBut new left extent
     → (copy : IsCopyChecked old new missing vdev extent true content_is found) → ((one : Finding) → Contains found one → Contains left one.disk)
     → (k : ℕ) (column : Column) → slice_get copy.layout k ≡ Some column → slice_get (all_columns copy.columns) k ≡ Some bytes
-    → ¬ Contains left (disk_of extent.vdev column) → (fault : Option Fault) → slice_get copy.faults k ≡ Some fault
-    → Stands (content new) (disk_of extent.vdev column) (offset_of column) bytes
-unfolding IsNow
-column_stands old new missing left vdev extent content_is bytes found reads honest known copy in_left k column at at' there None fault_is = λ j within.
+    → ¬ Contains left (disk_of extent.vdev column) → GivesTruly old new (disk_of extent.vdev column)
+    → (fault : Option Fault) → slice_get copy.faults k ≡ Some fault → Stands (content new) (disk_of extent.vdev column) (offset_of column) bytes
+column_stands old new missing left vdev extent content_is bytes found reads known copy in_left k column at at' there truly None fault_is =
     let (told, gave) = copy.judged k column bytes None at at' fault_is in
     let size : length bytes ≡ column.sectors * 512 = size_at extent content_is copy.layout copy.columns k column bytes copy.are_bytes at at' in
-    let (value, is) =
+    gave_stands old new (disk_of extent.vdev column) (offset_of column) bytes reads truly gave (λ j within.
     known (disk_of extent.vdev column) (offset_of column + j) there
     (record {
       k = k;
@@ -168,9 +193,8 @@ column_stands old new missing left vdev extent content_is bytes found reads hone
       which = refl;
       from_first = omega arith;
       before_end = omega (arith, size, within);
-    }) in
-    is ∙ sym (gave_is_now old new (disk_of extent.vdev column) (offset_of column) bytes reads honest gave j value within is)
-column_stands old new missing left vdev extent content_is bytes found reads honest known copy in_left k column at at' there (Some fault) fault_is =
+    }))
+column_stands old new missing left vdev extent content_is bytes found reads known copy in_left k column at at' there truly (Some fault) fault_is =
     absurd (there (in_left (finding vdev extent k column fault)
     (subst (λ (fs : List Finding). Contains fs (finding vdev extent k column fault)) (sym copy.found_are)
     (finding_here vdev extent 0 k k copy.layout copy.faults column fault (omega arith) at fault_is))))
@@ -180,15 +204,16 @@ pub fault_at : {X : Type 0} (layout : List X) (faults : List (Option Fault)) (k 
 fault_at layout faults k x count at = slice_get-get_or faults k None (omega (arith, count, slice_get_within layout k x at))
 
 known_stands : (old new : Disks) (missing left : List ℕ) (vdev : ℕ) (extent : Extent) (content_is bytes : List ℕ) (found : List Finding) → OnlyReads old new
-    → IsHonestSince old new → IsKnownBut new left extent → content_is ≡ bytes → IsCopyChecked old new missing vdev extent true content_is found
+    → ((disk : ℕ) → GivesTruly old new disk) → IsKnownBut new left extent → content_is ≡ bytes → IsCopyChecked old new missing vdev extent true content_is found
     → ((one : Finding) → Contains found one → Contains left one.disk) → ExtentStands (content new) left extent bytes
-known_stands old new missing left vdev extent content_is bytes found reads honest known same copy in_left = record {
+known_stands old new missing left vdev extent content_is bytes found reads truly known same copy in_left = record {
   layout = copy.layout;
   columns = copy.columns;
   is_layout = copy.is_layout;
   are_bytes = subst (λ (b : List ℕ). AreBytesOf extent b copy.layout copy.columns) same copy.are_bytes;
   stand = λ k column b at at' there.
-      column_stands old new missing left vdev extent content_is b found reads honest known copy in_left k column at at' there (get_or copy.faults k None)
+      column_stands old new missing left vdev extent content_is b found reads known copy in_left k column at at' there (truly (disk_of extent.vdev column))
+      (get_or copy.faults k None)
       (fault_at copy.layout copy.faults k column copy.count at);
 }
 
@@ -242,22 +267,22 @@ one_extent shapes sectors place extent other at at' =
 
 -- the copy of a block, where the bytes are known, or aren't
 again : (shapes : List VdevShape) (old new : Disks) (missing left : List ℕ) (block : Block) (known : Bool) (content_is given : List ℕ) (found : List Finding)
-    → OnlyReads old new → IsHonestSince old new → (known ≡ true → sha256 content_is ≡ block.checksum) → sha256 given ≡ block.checksum
+    → OnlyReads old new → ((disk : ℕ) → GivesTruly old new disk) → (known ≡ true → sha256 content_is ≡ block.checksum) → sha256 given ≡ block.checksum
     → ArePlacesChecked shapes old new missing block.property.sectors known content_is (dvas block.copies) found
     → ((one : Finding) → Contains found one → Contains left one.disk)
     → (bytes : List ℕ) × (sha256 bytes ≡ block.checksum) × StandsAgain shapes new left block given bytes
-again shapes old new missing left block true content_is given found reads honest digest has are in_left = (
+again shapes old new missing left block true content_is given found reads truly digest has are in_left = (
   content_is,
   digest refl,
   λ i extent before absent is_copy stood known.
       let (mine, among, (extent', there, copy)) =
       copy_of shapes old new missing block.property.sectors true content_is (dvas block.copies) found i is_copy.place are is_copy.is_copy in
       let same : extent' ≡ extent = one_extent shapes block.property.sectors is_copy.place extent' extent there is_copy.extent_is in
-      known_stands old new missing left is_copy.place.vdev extent content_is content_is mine reads honest known refl
+      known_stands old new missing left is_copy.place.vdev extent content_is content_is mine reads truly known refl
       (subst (λ (e : Extent). IsCopyChecked old new missing is_copy.place.vdev e true content_is mine) same copy)
       (λ one held. in_left one (among one held)),
 )
-again shapes old new missing left block false content_is given found reads honest digest has are in_left = (
+again shapes old new missing left block false content_is given found reads truly digest has are in_left = (
   given,
   has,
   λ i extent before absent is_copy stood known.
@@ -269,9 +294,9 @@ again shapes old new missing left block false content_is given found reads hones
       (λ one held. in_left one (among one held)) stood,
 )
 
-pub checked_stand : CheckedBlocksStand
-checked_stand shapes old new missing left blocks found are reads honest in_left block given (k, within, is) has =
+pub checked_stand : HonestDisksGiveTruly → CheckedBlocksStand
+checked_stand give shapes old new missing left blocks found are reads honest in_left block given (k, within, is) has =
     let at : slice_get blocks k ≡ Some block = slice_get-get_or blocks k block within ∙ ap (λ b. Some b) is in
     let (own, among, checked) = block_of shapes old new missing blocks found block are k at in
-    again shapes old new missing left block checked.known checked.content given own reads honest checked.digest has checked.copies
+    again shapes old new missing left block checked.known checked.content given own reads (give old new reads honest) checked.digest has checked.copies
     (λ one held. in_left one (among one held))

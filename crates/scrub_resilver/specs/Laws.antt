@@ -12,11 +12,11 @@ use Rattle.raidz_map.specs.Layout.{asize}
 use Rattle.raidz_io.specs.declared.vdev.Extent.{Extent}
 use Rattle.raidz_io.specs.Elsewhere.{IsOfExtent, ShareNoByte}
 use Rattle.raidz_io.specs.Places.{Content}
-use Rattle.raidz_io.specs.Reads.{AreUntouched, IsHonestSince, OnlyReads}
+use Rattle.raidz_io.specs.Reads.{AreUntouched, GivesTruly, IsHonestSince, OnlyReads}
 use Rattle.raidz_io.specs.Stands.{ExtentStands, parity_of}
 use Rattle.scrub_resilver.specs.Checking.{AreChecked}
-use Rattle.scrub_resilver.specs.Copies.{IsCopyOn}
-use Rattle.scrub_resilver.specs.Mending.{AreMendedFirst}
+use Rattle.scrub_resilver.specs.Copies.{IsChosenOf, IsCopyOn}
+use Rattle.scrub_resilver.specs.Mending.{AreMendedFirst, GoesOn}
 use Rattle.scrub_resilver.specs.declared.fault.Finding.{Finding}
 
 -- each byte of the extent on a disk that isn't left is known
@@ -57,6 +57,26 @@ pub record AreTold (shapes : List VdevShape) (disks : Disks) (missing : List ℕ
   pub known : AreKnown shapes disks missing stored
   pub one : HaveOneChoice shapes (content disks) stored
 
+-- ---- whatever disks gave
+
+-- Of no block that is known could other bytes, of which reads since gave all columns of a copy but for those on as many disks as it has parities, have the digest.
+abbrev pub ChosenAreOwn : List VdevShape → Disks → Disks → Contents → Type 0
+ChosenAreOwn shapes old new stored =
+    (block : Block) (bytes others : List ℕ) → stored block ≡ Some bytes → IsChosenOf shapes old new block others (dvas block.copies)
+    → sha256 others ≡ block.checksum → others ≡ bytes
+
+-- So it is in each part of a run in which disks were only read: of no block that is known could other bytes be chosen there that have its digest.
+abbrev pub ChosenAreOwnThroughout : List VdevShape → Disks → Disks → Contents → Type 0
+ChosenAreOwnThroughout shapes old new stored = (from to : Disks) → GoesOn old from → OnlyReads from to → GoesOn to new → ChosenAreOwn shapes from to stored
+
+-- Over disks that answer truly no other bytes with its digest could be chosen of a block, where digests tell the blocks by what stands.
+abbrev pub HonestChoicesAreOwn : Type 0
+HonestChoicesAreOwn =
+    (shapes : List VdevShape) (old new : Disks) (missing : List ℕ) (stored : Contents)
+    → OnlyReads old new → AreUntouched missing old new → IsHonestSince old new → AreTold shapes new missing stored → ChosenAreOwn shapes old new stored
+
+-- ---- what mending spares
+
 -- two copies of these blocks are one, or share no byte
 abbrev pub AreCopiesApart : List VdevShape → List Block → Type 0
 AreCopiesApart shapes blocks = (block other : Block) (i k : ℕ) (extent behind : Extent) → Contains blocks block → Contains blocks other
@@ -80,14 +100,25 @@ MendsSpareBlocks =
     → IsCopyOn shapes block i extent → ((disk : ℕ) → Contains missing disk → Contains absent disk)
     → ExtentStands (content old) absent extent bytes → ExtentStands (content new) absent extent bytes
 
--- Where blocks were looked at over disks that answer truly, each column of which nothing was found stands, if their digests tell them: beside those that
--- stood anyway.
+-- Where blocks were mended, whatever the disks gave, each column of them that stood stands, if in no part of it in which disks were only read other bytes with
+-- its digest could be chosen of a block.
+abbrev pub MendsSpareToldBlocks : Type 0
+MendsSpareToldBlocks =
+    (shapes : List VdevShape) (old new : Disks) (missing : List ℕ) (blocks : List Block) (stored : Contents)
+    → AreMendedFirst shapes missing blocks old new → ChosenAreOwnThroughout shapes old new stored → AreCopiesApart shapes blocks
+    → AreStored stored blocks → AreKnown shapes new missing stored
+    → (block : Block) (bytes : List ℕ) (i : ℕ) (extent : Extent) (absent : List ℕ) → Contains blocks block → stored block ≡ Some bytes
+    → IsCopyOn shapes block i extent → ((disk : ℕ) → Contains missing disk → Contains absent disk)
+    → ExtentStands (content old) absent extent bytes → ExtentStands (content new) absent extent bytes
+
+-- Where blocks were looked at, and of none other bytes with its digest could be chosen, each column of which nothing was found stands, if its disk gave what
+-- stood there: beside those columns that stood anyway.
 abbrev pub BlocksLookedAtStand : Type 0
 BlocksLookedAtStand =
     (shapes : List VdevShape) (old new : Disks) (missing left : List ℕ) (blocks : List Block) (found : List Finding) (stored : Contents)
-    → AreChecked shapes old new missing blocks found → OnlyReads old new → AreUntouched missing old new → IsHonestSince old new
+    → AreChecked shapes old new missing blocks found → OnlyReads old new
     → ((one : Finding) → Contains found one → Contains left one.disk) → ((disk : ℕ) → Contains missing disk → Contains left disk)
-    → AreTold shapes new missing stored
+    → ChosenAreOwn shapes old new stored → AreKnown shapes new missing stored
     → (block : Block) (bytes : List ℕ) (i : ℕ) (extent : Extent) (absent rest : List ℕ) → Contains blocks block → stored block ≡ Some bytes
-    → IsCopyOn shapes block i extent → ((disk : ℕ) → Contains absent disk → ¬ Contains rest disk → ¬ Contains left disk)
+    → IsCopyOn shapes block i extent → ((disk : ℕ) → Contains absent disk → ¬ Contains rest disk → (¬ Contains left disk) × GivesTruly old new disk)
     → ExtentStands (content new) absent extent bytes → ExtentStands (content new) rest extent bytes

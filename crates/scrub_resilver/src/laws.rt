@@ -1,16 +1,20 @@
 //! What holds of blocks that were looked at.
 ghost use Rattle.scrub_resilver.specs.Findings.{ApartBlocksHaveOwnPlaces, ColumnsAreFoundOnce, FindingsAreOfTheDisks};
-ghost use Rattle.scrub_resilver.specs.Laws.{ApartBlocksShareNoByte, BlocksLookedAtStand, CheckedBlocksStand, MendsSpareBlocks};
+ghost use Rattle.scrub_resilver.specs.Laws.{ApartBlocksShareNoByte, BlocksLookedAtStand, CheckedBlocksStand};
+ghost use Rattle.scrub_resilver.specs.Laws.{HonestChoicesAreOwn, MendsSpareBlocks, MendsSpareToldBlocks};
 
 use raidz_io::{
-    apart_extents_share_no_byte, few_are_not_more, other_vdevs_share_no_byte, stands_while_kept,
+    apart_extents_share_no_byte, few_are_not_more, honest_disks_give_truly,
+    other_vdevs_share_no_byte, stands_while_kept,
 };
 use raidz_map::child_holds_one_column;
 
 /// Blocks that were looked at stand, but on disks of which something was found.
 pub fn checked_blocks_stand()
     ensures { CheckedBlocksStand }
-{}
+{
+    honest_disks_give_truly();
+}
 
 /// What is found of blocks is just what is wrong on their disks.
 pub fn findings_are_of_the_disks()
@@ -45,7 +49,19 @@ pub fn mends_spare_blocks()
     child_holds_one_column();
 }
 
-/// Of blocks that their digests tell, each column stands of which nothing was found.
+/// Mending spoils no column that stood, whatever disks answer, where no other bytes that could be chosen of a block have its digest.
+pub fn mends_spare_told_blocks()
+    ensures { MendsSpareToldBlocks }
+{
+    child_holds_one_column();
+}
+
+/// Of blocks that their digests tell no other bytes could be chosen, over disks that answer truly.
+pub fn honest_choices_are_own()
+    ensures { HonestChoicesAreOwn }
+{}
+
+/// Of blocks of which no other bytes could be chosen, each column stands of which nothing was found, on disks that gave what stood there.
 pub fn blocks_looked_at_stand()
     ensures { BlocksLookedAtStand }
 {}
