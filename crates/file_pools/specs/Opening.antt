@@ -1,8 +1,6 @@
--- Pools in files. What a file held at first no clause knows, so that this tells of some disks how a pool on them was opened, made or put away.
+-- Pools in files. What a file held at first no clause knows, so that this tells of some disks of a type how a pool on them was opened, made or put away.
 use Rattle.std.specs.Prelude.{◌≡◌, ◌⊎◌, List}
-use Rattle.model_disk.specs.contracts.file.FileDiskDisk.TheImpl.{ghosts}
 use Rattle.model_disk.specs.declared.disk.Disk as disk
-use Rattle.model_disk.specs.declared.file.FileDisk.{FileDisk}
 use Rattle.model_disk.specs.declared.member.Member.{Member}
 use Rattle.pool_command.specs.declared.command.NewPool.{NewPool}
 use Rattle.pool_command.specs.declared.scrubbing.ScrubReport.{ScrubReport}
@@ -24,82 +22,83 @@ use Rattle.file_pools.specs.declared.pool.PoolFront.{PoolFront}
 use Rattle.file_pools.specs.declared.refusal.Refusal.{Refusal}
 use Rattle.file_pools.specs.declared.refusal.Refusal.TheVariants as refusal
 
--- the pool was opened, without going back, and goes by the name that its labels have
-pub record IsOpenedPool (core : CoreState) (front : PoolFront) : Type 0 where
-  pub disks : List FileDisk
-  pub from : OpenedFrom FileDisk
-  pub opened : IsOpenedOn ghosts disks 0 front.uberblock core from
-  pub name : front.name ≡ from.identity.name
-  pub absent : front.absent.items ≡ core.commit.store.out
-
 -- another command has a file; or memory ran out
 abbrev pub IsNotHeld : Refusal → Type 0
 IsNotHeld refusal.Busy = Unit {0}
 IsNotHeld (refusal.Pool cause) = cause ≡ NoMemory
 IsNotHeld other = ⊥
 
--- it was refused; or memory ran out
-abbrev pub IsRefusedOpen : Cause → Type 0
-IsRefusedOpen cause = (cause ≡ NoMemory) ⊎ ((disks : List FileDisk) × (failed : NotOpened FileDisk) × OpenRefuses ghosts disks 0 failed × (cause ≡ refusal_of failed))
+module _ {D : Type 0} where
+  -- the pool was opened, without going back, and goes by the name that its labels have
+  pub record IsOpenedPool (g : disk.Ghosts D) (core : CoreState) (front : PoolFront) : Type 0 where
+    pub disks : List D
+    pub from : OpenedFrom D
+    pub opened : IsOpenedOn g disks 0 front.uberblock core from
+    pub name : front.name ≡ from.identity.name
+    pub absent : front.absent.items ≡ core.commit.store.out
 
--- another command has a file; or the pool is refused
-abbrev pub IsNotOpened : Refusal → Type 0
-IsNotOpened refusal.Busy = Unit {0}
-IsNotOpened (refusal.Pool cause) = IsRefusedOpen cause
-IsNotOpened other = ⊥
+  -- it was refused; or memory ran out
+  abbrev pub IsRefusedOpen : disk.Ghosts D → Cause → Type 0
+  IsRefusedOpen g cause = (cause ≡ NoMemory) ⊎ ((disks : List D) × (failed : NotOpened D) × OpenRefuses g disks 0 failed × (cause ≡ refusal_of failed))
 
--- the pool was opened and scrubbed, goes by the name that its labels have, and so much was counted
-pub record IsScrubbedPool (core : CoreState) (front : PoolFront) (report : ScrubReport) : Type 0 where
-  pub disks : List FileDisk
-  pub from : OpenedFrom FileDisk
-  pub counts : ScrubCounts
-  pub scrubbed : IsScrubbed ghosts disks front.uberblock core from counts
-  pub name : front.name ≡ from.identity.name
-  pub absent : front.absent.items ≡ core.commit.store.out
-  pub group : report.group ≡ counts.group
-  pub findings : report.findings ≡ counts.findings
-  pub left : report.left ≡ counts.left
+  -- another command has a file; or the pool is refused
+  abbrev pub IsNotOpened : disk.Ghosts D → Refusal → Type 0
+  IsNotOpened g refusal.Busy = Unit {0}
+  IsNotOpened g (refusal.Pool cause) = IsRefusedOpen g cause
+  IsNotOpened g other = ⊥
 
--- it was refused; or memory ran out
-abbrev pub IsRefusedScrub : Cause → Type 0
-IsRefusedScrub cause = (cause ≡ NoMemory) ⊎ ((disks back : List FileDisk) × ScrubRefuses ghosts disks cause back)
+  -- the pool was opened and scrubbed, goes by the name that its labels have, and so much was counted
+  pub record IsScrubbedPool (g : disk.Ghosts D) (core : CoreState) (front : PoolFront) (report : ScrubReport) : Type 0 where
+    pub disks : List D
+    pub from : OpenedFrom D
+    pub counts : ScrubCounts
+    pub scrubbed : IsScrubbed g disks front.uberblock core from counts
+    pub name : front.name ≡ from.identity.name
+    pub absent : front.absent.items ≡ core.commit.store.out
+    pub group : report.group ≡ counts.group
+    pub findings : report.findings ≡ counts.findings
+    pub left : report.left ≡ counts.left
 
--- another command has a file; or the scrub is refused
-abbrev pub IsNotScrubbed : Refusal → Type 0
-IsNotScrubbed refusal.Busy = Unit {0}
-IsNotScrubbed (refusal.Pool cause) = IsRefusedScrub cause
-IsNotScrubbed other = ⊥
+  -- it was refused; or memory ran out
+  abbrev pub IsRefusedScrub : disk.Ghosts D → Cause → Type 0
+  IsRefusedScrub g cause = (cause ≡ NoMemory) ⊎ ((disks back : List D) × ScrubRefuses g disks cause back)
 
--- the pool that the line asks for was made
-pub record IsMadePool (pool : NewPool) : Type 0 where
-  pub disks : List FileDisk
-  pub identity : PoolIdentity
-  pub config : Config
-  pub asked : IsAskedFor pool identity config
-  pub first : Uberblock
-  pub core : CoreState
-  pub made : IsCreatedOn ghosts disks identity config first core
+  -- another command has a file; or the scrub is refused
+  abbrev pub IsNotScrubbed : disk.Ghosts D → Refusal → Type 0
+  IsNotScrubbed g refusal.Busy = Unit {0}
+  IsNotScrubbed g (refusal.Pool cause) = IsRefusedScrub g cause
+  IsNotScrubbed g other = ⊥
 
--- the pool that the line asks for was refused on the new files
-pub record IsRefusedNew (pool : NewPool) (cause : Cause) : Type 0 where
-  pub disks : List FileDisk
-  pub identity : PoolIdentity
-  pub config : Config
-  pub asked : IsAskedFor pool identity config
-  pub back : List FileDisk
-  pub refused : CreateRefusesOn ghosts disks identity config back cause
+  -- the pool that the line asks for was made
+  pub record IsMadePool (g : disk.Ghosts D) (pool : NewPool) : Type 0 where
+    pub disks : List D
+    pub identity : PoolIdentity
+    pub config : Config
+    pub asked : IsAskedFor pool identity config
+    pub first : Uberblock
+    pub core : CoreState
+    pub made : IsCreatedOn g disks identity config first core
 
--- a file can't be made; or memory ran out; or the line asks for what no pool has; or the pool is refused
-abbrev pub IsNotMade : NewPool → Refusal → Type 0
-IsNotMade pool refusal.NotMade = Unit {0}
-IsNotMade pool (refusal.Pool cause) = (cause ≡ NoMemory) ⊎ ((cause ≡ BadConfig) × IsNoPool pool) ⊎ IsRefusedNew pool cause
-IsNotMade pool other = ⊥
+  -- the pool that the line asks for was refused on the new files
+  pub record IsRefusedNew (g : disk.Ghosts D) (pool : NewPool) (cause : Cause) : Type 0 where
+    pub disks : List D
+    pub identity : PoolIdentity
+    pub config : Config
+    pub asked : IsAskedFor pool identity config
+    pub back : List D
+    pub refused : CreateRefusesOn g disks identity config back cause
 
--- the pool's labels say that it is put away
-abbrev pub IsPutAway : disk.Ghosts (Member FileDisk) → CoreState → Type 0
-IsPutAway g core = (disks : List (Member FileDisk)) × IsExported g core disks
+  -- a file can't be made; or memory ran out; or the line asks for what no pool has; or the pool is refused
+  abbrev pub IsNotMade : disk.Ghosts D → NewPool → Refusal → Type 0
+  IsNotMade g pool refusal.NotMade = Unit {0}
+  IsNotMade g pool (refusal.Pool cause) = (cause ≡ NoMemory) ⊎ ((cause ≡ BadConfig) × IsNoPool pool) ⊎ IsRefusedNew g pool cause
+  IsNotMade g pool other = ⊥
 
--- it can't be put away now; or it was stopped
-abbrev pub IsNotPutAway : disk.Ghosts (Member FileDisk) → CoreState → Refusal → Type 0
-IsNotPutAway g core (refusal.Export cause) = RefusesExport core cause ⊎ ((disks : List (Member FileDisk)) × IsGivenBack g core cause disks)
-IsNotPutAway g core other = ⊥
+  -- the pool's labels say that it is put away
+  abbrev pub IsPutAway : disk.Ghosts (Member D) → CoreState → Type 0
+  IsPutAway g core = (disks : List (Member D)) × IsExported g core disks
+
+  -- it can't be put away now; or it was stopped
+  abbrev pub IsNotPutAway : disk.Ghosts (Member D) → CoreState → Refusal → Type 0
+  IsNotPutAway g core (refusal.Export cause) = RefusesExport core cause ⊎ ((disks : List (Member D)) × IsGivenBack g core cause disks)
+  IsNotPutAway g core other = ⊥

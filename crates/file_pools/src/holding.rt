@@ -3,15 +3,21 @@ ghost use Rattle.std.specs.Prelude.{IfErr};
 ghost use Rattle.file_pools.specs.Opening.{IsNotHeld, IsNotMade};
 
 use crate::refusal::Refusal;
-use model_disk::FileDisk;
+use model_disk::{Disk, FileDisk};
 use pool_command::{Files as Paths, NewPool};
-use std::alloc::Global;
+use progress::{MeteredDisk, ReadMeter};
+use std::alloc::{AllocError, Global};
 use std::fs::{self, File, Files, TryLockError};
+use std::io::Write;
+use std::rc::Rc;
+
+/// A disk in a file whose reads are counted.
+pub(crate) type MeteredFile<W> = MeteredDisk<FileDisk, W>;
 
 /// Disks in files, and what keeps other commands from them until it is dropped.
 #[derive(Drop)]
-pub(crate) struct HeldDisks {
-    pub(crate) disks: Vec<FileDisk>,
+pub(crate) struct HeldDisks<W> {
+    pub(crate) disks: Vec<MeteredFile<W>>,
     pub(crate) locks: Vec<File>,
 }
 
@@ -34,13 +40,25 @@ pub(crate) fn is_among(path: &str, paths: &[String]) -> bool {
     paths.iter().any(|other| other.as_str() == path)
 }
 
-/// The disks in those files that can be opened, in their order. `Busy` where another command has one. A path that stands twice is
-/// locked once, and gives two disks.
-pub(crate) fn hold<F: Files<File = File>>(
+/// Puts a disk behind these, whose reads are counted there.
+fn put<W: Write + Drop>(
+    disks: &mut Vec<MeteredFile<W>>,
+    disk: FileDisk,
+    meter: &Rc<ReadMeter<W>>,
+) -> Result<(), AllocError> {
+    let meter = meter.clone()?;
+    disks.push(MeteredDisk::new(disk, meter))?;
+    Ok(())
+}
+
+/// The disks in those files that can be opened, in their order, whose reads are counted there. `Busy` where another command has one. A path that
+/// stands twice is locked once, and gives two disks.
+pub(crate) fn hold<F: Files<File = File>, W: Write + Drop>(
     alloc: Global,
     files: &F,
     paths: &Paths,
-) -> Result<HeldDisks, Refusal>
+    meter: &Rc<ReadMeter<W>>,
+) -> Result<HeldDisks<W>, Refusal>
     ensures { IfErr result IsNotHeld }
 {
     let mut disks = Vec::new(alloc);
@@ -55,7 +73,7 @@ pub(crate) fn hold<F: Files<File = File>>(
             locks.push(file)?;
         }
         if let Ok(disk) = FileDisk::open(files, path) {
-            disks.push(disk)?;
+            put(&mut disks, disk, meter)?;
         }
     }
     Ok(HeldDisks { disks, locks })
@@ -84,13 +102,15 @@ fn make_one<F: Files<File = File>>(
     }
 }
 
-/// Makes the files of a new pool, of zeros, and keeps other commands from them; where one of them can't be made the others are removed.
-pub(crate) fn make<F: Files<File = File>>(
+/// Makes the files of a new pool, of zeros, and keeps other commands from them; where one of them can't be made the others are removed. The reads of
+/// its disks are counted there.
+pub(crate) fn make<F: Files<File = File>, W: Write + Drop>(
     alloc: Global,
     files: &F,
     pool: &NewPool,
-) -> Result<HeldDisks, Refusal>
-    ensures { IfErr result (IsNotMade pool.now) }
+    meter: &Rc<ReadMeter<W>>,
+) -> Result<HeldDisks<W>, Refusal>
+    ensures { IfErr result (IsNotMade ⟦<MeteredDisk<FileDisk, W> as Disk>⟧ pool.now) }
 {
     let paths = &pool.files;
     let mut disks = Vec::new(alloc);
@@ -105,7 +125,7 @@ pub(crate) fn make<F: Files<File = File>>(
             Some(lock) => locks.push(lock).is_ok(),
             None => true,
         };
-        if disks.push(disk).is_err() || !kept {
+        if put(&mut disks, disk, meter).is_err() || !kept {
             remove(files, paths, made + 1);
             return Err(Refusal::Pool(pool_create::Refusal::NoMemory));
         }

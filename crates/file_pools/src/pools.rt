@@ -5,7 +5,7 @@ ghost use Rattle.pool_create.specs.CoreStateOf.{state_of};
 
 use crate::asking::asked;
 use crate::explaining::{misfit_of, why_strange};
-use crate::holding::{HeldDisks, hold, is_among, make, remove};
+use crate::holding::{HeldDisks, MeteredFile, hold, is_among, make, remove};
 use crate::pool::PoolFront;
 use crate::refusal::Refusal;
 use crate::rows::volume_rows;
@@ -17,30 +17,59 @@ use pool_command::{Files as Paths, NewPool, PoolStatus, ScrubReport, VolumeRow};
 use pool_create::{Core, NotExported, OpenedPool, create, export, open};
 use pool_model::Refusal as StepRefusal;
 use pool_scrub::{ScrubCounts, Scrubbed, scrub};
+use progress::{MeteredDisk, READ_INTERVAL, ReadMeter};
 use std::alloc::{AllocError, Global};
 use std::fs::{File, Files};
 use std::io::Write;
+use std::rc::Rc;
 
 /// The core of a pool in files.
-pub type FileCore = Core<Member<FileDisk>>;
+pub type FileCore<W> = Core<Member<MeteredDisk<FileDisk, W>>>;
 
 /// Pools whose disks are files.
 #[derive(Drop)]
-pub struct FilePools<'a, F: Files<File = File>> {
+pub struct FilePools<'a, F: Files<File = File>, W: Write + Copy> {
     files: &'a F,
+    /// Where a scrub tells how much it has looked at.
+    errors: W,
+    /// The program's name, which each such line begins with.
+    program: &'static str,
+    /// Nothing is told otherwise.
+    is_shown: bool,
 }
 
-impl<'a, F: Files<File = File>> FilePools<'a, F> {
-    /// The pools in these files.
-    pub fn new(files: &'a F) -> FilePools<'a, F> {
-        FilePools { files }
+impl<'a, F: Files<File = File>, W: Write + Copy> FilePools<'a, F, W> {
+    /// The pools in these files. A scrub tells, where that is asked, a line in the program's name each time it has read another 256 MiB of the
+    /// disks. No other command tells what it reads.
+    pub fn new(
+        files: &'a F,
+        errors: W,
+        program: &'static str,
+        is_shown: bool,
+    ) -> FilePools<'a, F, W> {
+        FilePools {
+            files,
+            errors,
+            program,
+            is_shown,
+        }
+    }
+
+    /// Counts what one command reads of all its disks, and tells it where that is asked.
+    fn meter(&self, alloc: Global, is_shown: bool) -> Result<Rc<ReadMeter<W>>, AllocError> {
+        let meter = ReadMeter::new(self.errors, self.program, is_shown, READ_INTERVAL);
+        Ok(Rc::new(alloc, meter)?)
     }
 }
 
 /// The pool on these disks, opened and claimed.
-fn opened(alloc: Global, held: HeldDisks) -> Result<(FileCore, PoolFront), Refusal>
-    ensures opened { IfOk result (λ opened. IsOpenedPool (state_of opened.0) opened.1) }
-    ensures refused { IfErr result IsNotOpened }
+fn opened<W: Write + Drop>(
+    alloc: Global,
+    held: HeldDisks<W>,
+) -> Result<(FileCore<W>, PoolFront), Refusal>
+    ensures opened { IfOk result (λ opened.
+        IsOpenedPool ⟦<MeteredDisk<FileDisk, W> as Disk>⟧ (state_of opened.0) opened.1) }
+    ensures refused { IfErr result (IsNotOpened ⟦<MeteredDisk<FileDisk, W> as Disk>⟧) }
 {
     let HeldDisks { disks, locks } = held;
     let (opened, from) = match open(alloc, disks, 0) {
@@ -59,10 +88,14 @@ fn opened(alloc: Global, held: HeldDisks) -> Result<(FileCore, PoolFront), Refus
 }
 
 /// The pool on these disks, opened and scrubbed, and what was counted.
-fn scrubbed(alloc: Global, held: HeldDisks) -> Result<(FileCore, PoolFront, ScrubReport), Refusal>
+fn scrubbed<W: Write + Drop>(
+    alloc: Global,
+    held: HeldDisks<W>,
+) -> Result<(FileCore<W>, PoolFront, ScrubReport), Refusal>
     ensures scrubbed { IfOk result (λ scrubbed.
-        IsScrubbedPool (state_of scrubbed.0) scrubbed.1 scrubbed.2) }
-    ensures refused { IfErr result IsNotScrubbed }
+        IsScrubbedPool ⟦<MeteredDisk<FileDisk, W> as Disk>⟧
+        (state_of scrubbed.0) scrubbed.1 scrubbed.2) }
+    ensures refused { IfErr result (IsNotScrubbed ⟦<MeteredDisk<FileDisk, W> as Disk>⟧) }
 {
     let HeldDisks { disks, locks } = held;
     let Scrubbed { pool, from, counts } = match scrub(alloc, disks) {
@@ -91,9 +124,13 @@ fn scrubbed(alloc: Global, held: HeldDisks) -> Result<(FileCore, PoolFront, Scru
 }
 
 /// Makes the pool that the line asks for on disks in new files.
-fn made(alloc: Global, disks: Vec<FileDisk>, pool: &NewPool) -> Result<(), Refusal>
-    ensures made { OnOk result (IsMadePool pool.now) }
-    ensures refused { IfErr result (IsNotMade pool.now) }
+fn made<W: Write + Drop>(
+    alloc: Global,
+    disks: Vec<MeteredFile<W>>,
+    pool: &NewPool,
+) -> Result<(), Refusal>
+    ensures made { OnOk result (IsMadePool ⟦<MeteredDisk<FileDisk, W> as Disk>⟧ pool.now) }
+    ensures refused { IfErr result (IsNotMade ⟦<MeteredDisk<FileDisk, W> as Disk>⟧ pool.now) }
 {
     let (identity, config) = match asked(alloc, pool) {
         Ok(asked) => asked,
@@ -105,40 +142,43 @@ fn made(alloc: Global, disks: Vec<FileDisk>, pool: &NewPool) -> Result<(), Refus
     }
 }
 
-impl<'a, F: Files<File = File>> Pools for FilePools<'a, F> {
+impl<'a, F: Files<File = File>, W: Write + Copy> Pools for FilePools<'a, F, W> {
     ghost use Rattle.std.specs.Prelude.{string_bytes};
     ghost use Rattle.file_pools.specs.Opening.{IsMadePool, IsNotMade, IsNotOpened, IsNotPutAway, IsNotScrubbed, IsOpenedPool, IsPutAway, IsScrubbedPool};
     ghost use Rattle.file_pools.specs.Telling.{Shows, has_lost};
     ghost use Rattle.pool_create.specs.CoreStateOf.{state_of};
 
-    type Pool = FileCore;
+    type Pool = FileCore<W>;
 
     type Front = PoolFront;
 
     type Refusal = Refusal;
 
-    ghost opens = { λ old files core front new.
-        (new ≡ old) × IsOpenedPool (state_of core) front };
+    ghost opens = { λ old files core front new. (new ≡ old)
+        × IsOpenedPool ⟦<MeteredDisk<FileDisk, W> as Disk>⟧ (state_of core) front };
 
-    ghost refuses = { λ old files cause new. (new ≡ old) × IsNotOpened cause };
+    ghost refuses = { λ old files cause new. (new ≡ old)
+        × IsNotOpened ⟦<MeteredDisk<FileDisk, W> as Disk>⟧ cause };
 
-    ghost scrubs = { λ old files core front report new.
-        (new ≡ old) × IsScrubbedPool (state_of core) front report };
+    ghost scrubs = { λ old files core front report new. (new ≡ old)
+        × IsScrubbedPool ⟦<MeteredDisk<FileDisk, W> as Disk>⟧ (state_of core) front report };
 
-    ghost refuses_scrub = { λ old files cause new. (new ≡ old) × IsNotScrubbed cause };
+    ghost refuses_scrub = { λ old files cause new. (new ≡ old)
+        × IsNotScrubbed ⟦<MeteredDisk<FileDisk, W> as Disk>⟧ cause };
 
-    ghost makes = { λ old pool new. (new ≡ old) × IsMadePool pool };
+    ghost makes = { λ old pool new. (new ≡ old)
+        × IsMadePool ⟦<MeteredDisk<FileDisk, W> as Disk>⟧ pool };
 
-    ghost refuses_new = { λ old pool cause new. (new ≡ old) × IsNotMade pool cause };
+    ghost refuses_new = { λ old pool cause new. (new ≡ old)
+        × IsNotMade ⟦<MeteredDisk<FileDisk, W> as Disk>⟧ pool cause };
 
     ghost closes = { λ old core front new. new ≡ old };
 
     ghost exports = { λ old core front new. (new ≡ old)
-        × IsPutAway ⟦<Member<FileDisk> as Disk>⟧ (state_of core) };
+        × IsPutAway ⟦<Member<MeteredDisk<FileDisk, W>> as Disk>⟧ (state_of core) };
 
-    ghost refuses_export = { λ old core front cause new.
-        (new ≡ old)
-        × IsNotPutAway ⟦<Member<FileDisk> as Disk>⟧ (state_of core) cause };
+    ghost refuses_export = { λ old core front cause new. (new ≡ old)
+        × IsNotPutAway ⟦<Member<MeteredDisk<FileDisk, W>> as Disk>⟧ (state_of core) cause };
 
     ghost has_lost = { λ core front.
         has_lost front.absent.items (state_of core).commit.store.out };
@@ -146,8 +186,9 @@ impl<'a, F: Files<File = File>> Pools for FilePools<'a, F> {
     ghost shows = { λ core front status.
         Shows (state_of core) (string_bytes front.name) front.uberblock status };
 
-    fn open(&mut self, alloc: Global, files: &Paths) -> Result<(FileCore, PoolFront), Refusal> {
-        let held = hold(alloc, self.files, files)?;
+    fn open(&mut self, alloc: Global, files: &Paths) -> Result<(FileCore<W>, PoolFront), Refusal> {
+        let meter = self.meter(alloc, false)?;
+        let held = hold(alloc, self.files, files, &meter)?;
         opened(alloc, held)
     }
 
@@ -155,8 +196,9 @@ impl<'a, F: Files<File = File>> Pools for FilePools<'a, F> {
         &mut self,
         alloc: Global,
         files: &Paths,
-    ) -> Result<(FileCore, PoolFront, ScrubReport), Refusal> {
-        let held = hold(alloc, self.files, files)?;
+    ) -> Result<(FileCore<W>, PoolFront, ScrubReport), Refusal> {
+        let meter = self.meter(alloc, self.is_shown)?;
+        let held = hold(alloc, self.files, files, &meter)?;
         scrubbed(alloc, held)
     }
 
@@ -165,7 +207,8 @@ impl<'a, F: Files<File = File>> Pools for FilePools<'a, F> {
         if sectors_for_blocks(pool.bytes).is_none() {
             return Err(Refusal::Pool(pool_create::Refusal::BadConfig));
         }
-        let HeldDisks { disks, locks } = make(alloc, self.files, &pool)?;
+        let meter = self.meter(alloc, false)?;
+        let HeldDisks { disks, locks } = make(alloc, self.files, &pool, &meter)?;
         let ended = made(alloc, disks, &pool);
         drop(locks);
         if ended.is_err() {
@@ -174,12 +217,17 @@ impl<'a, F: Files<File = File>> Pools for FilePools<'a, F> {
         ended
     }
 
-    fn close(&mut self, pool: FileCore, front: PoolFront) {
+    fn close(&mut self, pool: FileCore<W>, front: PoolFront) {
         drop(pool);
         drop(front);
     }
 
-    fn export(&mut self, alloc: Global, pool: FileCore, front: PoolFront) -> Result<(), Refusal> {
+    fn export(
+        &mut self,
+        alloc: Global,
+        pool: FileCore<W>,
+        front: PoolFront,
+    ) -> Result<(), Refusal> {
         let opened = OpenedPool {
             core: pool,
             uberblock: front.uberblock,
@@ -193,14 +241,14 @@ impl<'a, F: Files<File = File>> Pools for FilePools<'a, F> {
 
     fn has_lost_disk(
         alloc: Global,
-        pool: &FileCore,
+        pool: &FileCore<W>,
         front: &PoolFront,
     ) -> Result<bool, AllocError> {
         let marks = pool.marks(alloc)?;
         Ok(has_lost(front.absent.as_slice(), marks.as_slice()))
     }
 
-    fn rows(alloc: Global, pool: &FileCore) -> Result<Vec<VolumeRow>, StepRefusal> {
+    fn rows(alloc: Global, pool: &FileCore<W>) -> Result<Vec<VolumeRow>, StepRefusal> {
         let Ok(rows) = pool.rows(alloc) else {
             return Err(StepRefusal::NoMemory);
         };
@@ -208,7 +256,11 @@ impl<'a, F: Files<File = File>> Pools for FilePools<'a, F> {
         Ok(told)
     }
 
-    fn status(alloc: Global, pool: &FileCore, front: &PoolFront) -> Result<PoolStatus, AllocError> {
+    fn status(
+        alloc: Global,
+        pool: &FileCore<W>,
+        front: &PoolFront,
+    ) -> Result<PoolStatus, AllocError> {
         status_of(alloc, pool, &front.name, &front.uberblock)
     }
 

@@ -4,7 +4,7 @@ ghost use Rattle.file_pools.specs.Telling.{Shows, disk_rows, has_lost, state_of,
 ghost use Rattle.pool_create.specs.CoreStateOf.{state_of as core_state};
 
 use meta_objset::StaleSpan;
-use model_disk::{FileDisk, Member};
+use model_disk::Disk;
 use pool_command::{DiskState, DiskStatus, PoolStatus, VdevStatus};
 use pool_create::Core;
 use std::alloc::{AllocError, Global};
@@ -95,9 +95,9 @@ pub(crate) fn has_lost(before: &[bool], now: &[bool]) -> bool
 }
 
 /// What a status tells of an opened pool.
-pub(crate) fn status_of(
+pub(crate) fn status_of<D: Disk + Drop>(
     alloc: Global,
-    core: &Core<Member<FileDisk>>,
+    core: &Core<D>,
     name: &String,
     uberblock: &Uberblock,
 ) -> Result<PoolStatus, AllocError>

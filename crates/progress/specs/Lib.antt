@@ -1,1 +1,3 @@
 pub mod Metered
+pub mod MeteredDisk
+pub mod Reads

@@ -430,7 +430,7 @@ fn run(rt: &HostRuntime, line: &str, given: (u8, usize)) -> Result<String, Fail>
     let input = vec![in alloc; given.0; given.1]?;
     let mut output = Vec::new(alloc);
     let mut errors = Vec::new(alloc);
-    let mut pools = FilePools::new(rt);
+    let mut pools = FilePools::new(rt, rt.stderr(), "zpool", false);
     let status = command(
         alloc,
         &mut pools,

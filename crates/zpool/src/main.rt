@@ -5,7 +5,7 @@
 use commands::command;
 use file_pools::FilePools;
 use std::alloc::{AllocError, Global};
-use std::io::BufWriter;
+use std::io::{BufWriter, IsTerminal};
 use std::process::ExitCode;
 use std::time::{SystemTime, UNIX_EPOCH};
 use std::{env, io};
@@ -35,7 +35,8 @@ fn run(rt: &HostRuntime) -> io::Result<u8> {
     let alloc = rt.alloc();
     let given: Vec<String> = env::args(rt)?.collect(alloc)?;
     let words = words_of(alloc, given.as_slice())?;
-    let mut pools = FilePools::new(rt);
+    let is_shown = rt.stderr().is_terminal();
+    let mut pools = FilePools::new(rt, rt.stderr(), "zpool", is_shown);
     let mut output = BufWriter::new(alloc, io::writer(rt))?;
     let status = command(
         alloc,

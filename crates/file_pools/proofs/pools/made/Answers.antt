@@ -3,7 +3,7 @@ use Rattle.pool_create.specs.CoreStateOf.{state_of}
 use Rattle.file_pools.proofs.pools.made.Goals as goal
 
 pub returns-in-Ok-create-clause-made : goal.returns-in-Ok-create-clause-made
-returns-in-Ok-create-clause-made c = record {
+returns-in-Ok-create-clause-made g c = record {
   disks = c.args.disks.items;
   identity = c.in-Ok.asked.0;
   config = c.in-Ok.asked.1;
@@ -14,7 +14,7 @@ returns-in-Ok-create-clause-made c = record {
 }
 
 pub returns-in-Err-create-clause-refused : goal.returns-in-Err-create-clause-refused
-returns-in-Err-create-clause-refused c = inr (inr (record {
+returns-in-Err-create-clause-refused g c = inr (inr (record {
   disks = c.args.disks.items;
   identity = c.in-Ok.asked.0;
   config = c.in-Ok.asked.1;

@@ -6,7 +6,7 @@ use Rattle.file_pools.proofs.Causes.{for_cause}
 use Rattle.file_pools.proofs.pools.opened.Goals as goal
 
 pub returns-in-Err-clause-refused : goal.returns-in-Err-clause-refused
-returns-in-Err-clause-refused c = inr (c.args.held.disks.items, c.in-Err.failed, c.in-Err.ensures.refused, c.refusal.ensures)
+returns-in-Err-clause-refused g c = inr (c.args.held.disks.items, c.in-Err.failed, c.in-Err.ensures.refused, c.refusal.ensures)
 
 pub returns-in_err-absent-clause-refused : goal.returns-in_err-absent-clause-refused
-returns-in_err-absent-clause-refused c = for_cause c.from_residual.result IsNotOpened (Pool NoMemory) (inl refl) c.from_residual.ensures.1
+returns-in_err-absent-clause-refused g c = for_cause c.from_residual.result (IsNotOpened _) (Pool NoMemory) (inl refl) c.from_residual.ensures.1

@@ -6,7 +6,7 @@ use Rattle.file_pools.proofs.Causes.{for_cause}
 use Rattle.file_pools.proofs.pools.scrubbed.Goals as goal
 
 pub returns-in-Err-clause-refused : goal.returns-in-Err-clause-refused
-returns-in-Err-clause-refused c = inr (c.args.held.disks.items, c.in-Err.field-0-1.items, c.in-Err.ensures.refused)
+returns-in-Err-clause-refused g c = inr (c.args.held.disks.items, c.in-Err.field-0-1.items, c.in-Err.ensures.refused)
 
 pub returns-in_err-absent-clause-refused : goal.returns-in_err-absent-clause-refused
-returns-in_err-absent-clause-refused c = for_cause c.from_residual.result IsNotScrubbed (Pool NoMemory) (inl refl) c.from_residual.ensures.1
+returns-in_err-absent-clause-refused g c = for_cause c.from_residual.result (IsNotScrubbed _) (Pool NoMemory) (inl refl) c.from_residual.ensures.1
