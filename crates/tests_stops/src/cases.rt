@@ -5,7 +5,7 @@ use crate::judging::{Outcome, Part, first_failure, judge};
 use crate::openings::{first_stopped, stopped};
 use crate::pools::made;
 use crate::runs::recorded;
-use crate::stages::{FIRST_GROUPS, LATER_GROUPS, NEW};
+use crate::stages::{FIRST, LATER, NEW};
 use crate::stopping::{Away, Stop};
 use pool_create::Refusal;
 use std::alloc::Global;
@@ -14,10 +14,10 @@ use std::test::*;
 /// What is stopped.
 #[derive(Clone, Copy)]
 enum Stopped {
-    /// A new pool as it is opened and commits its groups: all parts together stop it at each call.
+    /// A new pool as it is opened, commits its groups and is exported: all parts together stop it at each call, with each image.
     Commits,
-    /// The pool that is opened after a stop without a disk, and commits two groups. The disk is there again after some of the stops, and
-    /// lacks what was written without it.
+    /// The pool that is opened after a stop without a disk, commits two groups and is exported. The disk is there again after some of the
+    /// stops, and lacks what was written without it.
     CommitsWithout,
     /// The open after a stop.
     Opens,
@@ -33,7 +33,7 @@ fn outcome(alloc: Global, what: Stopped, part: Part) -> Outcome {
         until: u64::MAX,
     };
     let possible = vec![in alloc; new]?;
-    let run = recorded(alloc, made(alloc)?, None, possible, &FIRST_GROUPS)?;
+    let run = recorded(alloc, made(alloc)?, None, possible, &FIRST)?;
     match what {
         Stopped::Commits => first_failure(alloc, &run, part, Away::Any).map_err(Refusal::from),
         Stopped::CommitsWithout => {
@@ -44,7 +44,7 @@ fn outcome(alloc: Global, what: Stopped, part: Part) -> Outcome {
                 absent: Some(1),
                 goes_on: false,
             };
-            stopped(alloc, &run, halfway, &LATER_GROUPS, part, Away::Only(1))
+            stopped(alloc, &run, halfway, &LATER, part, Away::Only(1))
         }
         Stopped::Opens => first_stopped(alloc, &run, part, false),
         Stopped::OpensTwice => first_stopped(alloc, &run, part, true),
@@ -52,19 +52,19 @@ fn outcome(alloc: Global, what: Stopped, part: Part) -> Outcome {
 }
 
 #[test]
-fn stops_leave_a_whole_group(rt: HostRuntime) {
+fn old_images_show_a_whole_group(rt: HostRuntime) {
     let part = Part { first: 0, of: 3 };
     judge(&rt, outcome(rt.alloc(), Stopped::Commits, part));
 }
 
 #[test]
-fn next_stops_leave_a_whole_group(rt: HostRuntime) {
+fn new_images_show_a_whole_group(rt: HostRuntime) {
     let part = Part { first: 1, of: 3 };
     judge(&rt, outcome(rt.alloc(), Stopped::Commits, part));
 }
 
 #[test]
-fn last_stops_leave_a_whole_group(rt: HostRuntime) {
+fn mixed_images_show_a_whole_group(rt: HostRuntime) {
     let part = Part { first: 2, of: 3 };
     judge(&rt, outcome(rt.alloc(), Stopped::Commits, part));
 }
@@ -79,10 +79,6 @@ fn stops_without_a_disk_leave_a_whole_group(rt: HostRuntime) {
 fn opens_are_stopped(rt: HostRuntime) {
     let part = Part { first: 0, of: 1 };
     judge(&rt, outcome(rt.alloc(), Stopped::Opens, part));
-}
-
-#[test]
-fn opens_are_stopped_twice(rt: HostRuntime) {
-    let part = Part { first: 2, of: 7 };
+    let part = Part { first: 2, of: 16 };
     judge(&rt, outcome(rt.alloc(), Stopped::OpensTwice, part));
 }

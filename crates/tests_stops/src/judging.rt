@@ -26,7 +26,7 @@ pub(crate) fn failure_of(run: &Run, stop: Stop, seen: Result<Seen, Refusal>) -> 
     Some([Some(stop.cut), None, None])
 }
 
-/// Some of the stops of a run: of so many that follow each other one.
+/// Some of the stops of a run: from the one of this number on, of so many that follow each other one.
 #[derive(Clone, Copy)]
 pub(crate) struct Part {
     pub(crate) first: u64,
@@ -40,15 +40,18 @@ pub(crate) fn first_failure(
     part: Part,
     away: Away,
 ) -> Result<Option<Stops>, AllocError> {
-    for cut in 0..run.end.saturating_add(1) {
-        if cut.checked_rem(part.of) == Some(part.first) {
-            let stop = stop_at(cut, cut, away);
-            let images = run.images(alloc, cut, stop.pattern)?;
-            let seen = reopened(alloc, images, stop.absent, stop.goes_on);
-            let failure = failure_of(run, stop, seen);
-            if failure.is_some() {
-                return Ok(failure);
-            }
+    let mut number = part.first;
+    for before in 0..run.stops {
+        if number >= run.stops {
+            break;
+        }
+        let stop = stop_at(number, before, away);
+        number = number.saturating_add(part.of);
+        let images = run.images(alloc, stop.cut, stop.pattern)?;
+        let seen = reopened(alloc, images, stop.absent, stop.goes_on);
+        let failure = failure_of(run, stop, seen);
+        if failure.is_some() {
+            return Ok(failure);
         }
     }
     Ok(None)

@@ -1,4 +1,4 @@
-//! Tests of pools that are stopped at any device call of a commit or of an open, and opened again.
+//! Tests of pools that are stopped at any device call of a commit, of an open or of an export, and opened again.
 #![tactic(auto)]
 
 #[cfg(test)]

@@ -1,9 +1,8 @@
 //! Stops of opens that come after a stop, and of the opens after these.
 use crate::images::{Left, Pattern};
 use crate::judging::{Outcome, Part, behind, failure_after, failure_of};
-use crate::pools::Doing;
 use crate::runs::Run;
-use crate::stages::next_run;
+use crate::stages::{OPENS_ALONE, Schedule, next_run};
 use crate::stopping::{Away, Stop, stop_at};
 use std::alloc::Global;
 
@@ -30,16 +29,16 @@ const IN_SLOTS: [Stop; 3] = [
     },
 ];
 
-/// The first failure of an open after a stop, which commits these groups, and among stops of its own.
+/// The first failure of an open after a stop, which goes on as the schedule says, and among stops of its own.
 pub(crate) fn stopped(
     alloc: Global,
     run: &Run,
     stop: Stop,
-    groups: &[&[Doing]],
+    schedule: &Schedule,
     part: Part,
     away: Away,
 ) -> Outcome {
-    match next_run(alloc, run, stop, groups) {
+    match next_run(alloc, run, stop, schedule) {
         Ok(opening) => failure_after(alloc, run, stop, &opening, part, away),
         Err(refusal) => Ok(failure_of(run, stop, Err(refusal))),
     }
@@ -47,24 +46,27 @@ pub(crate) fn stopped(
 
 /// The first failure among the opens after an open that came after a stop, and is stopped itself.
 fn stopped_again(alloc: Global, opening: &Run, stop: Stop, part: Part) -> Outcome {
-    for cut in 0..opening.end.saturating_add(1) {
-        if cut.checked_rem(part.of) == Some(part.first) {
-            let again = Part {
-                first: cut % 5,
-                of: 5,
-            };
-            let next = stop_at(cut, cut, Away::Any);
-            let failure = stopped(alloc, opening, next, &[], again, Away::Any)?;
-            if let Some(stops) = failure {
-                return Ok(Some(behind(stop, stops)));
-            }
+    let mut number = part.first;
+    for before in 0..opening.stops {
+        if number >= opening.stops {
+            break;
+        }
+        let again = Part {
+            first: number % 13,
+            of: 13,
+        };
+        let next = stop_at(number, before, Away::Any);
+        number = number.saturating_add(part.of);
+        let failure = stopped(alloc, opening, next, &OPENS_ALONE, again, Away::Any)?;
+        if let Some(stops) = failure {
+            return Ok(Some(behind(stop, stops)));
         }
     }
     Ok(None)
 }
 
 fn stopped_twice(alloc: Global, run: &Run, stop: Stop, part: Part) -> Outcome {
-    let opening = next_run(alloc, run, stop, &[])?;
+    let opening = next_run(alloc, run, stop, &OPENS_ALONE)?;
     stopped_again(alloc, &opening, stop, part)
 }
 
@@ -76,7 +78,7 @@ pub(crate) fn first_stopped(alloc: Global, run: &Run, part: Part, is_twice: bool
         let failure = if is_twice {
             stopped_twice(alloc, run, stop, part)?
         } else {
-            stopped(alloc, run, stop, &[], part, Away::Any)?
+            stopped(alloc, run, stop, &OPENS_ALONE, part, Away::Any)?
         };
         if failure.is_some() {
             return Ok(failure);

@@ -1,6 +1,6 @@
-//! Pools of three disks with two volumes, and what they show.
+//! Pools of three disks with two volumes, a snapshot and a clone, and what they show.
 use model_disk::{Disk, MemDisk, Member};
-use pool_create::{Core, OpenedPool, Refusal, create, open};
+use pool_create::{Core, OpenedPool, Refusal, create, export, open};
 use pool_format::PoolIdentity;
 use pool_model::{Action, Bytes, Change, Name, Phase, Reply, Step, Write};
 use std::alloc::{AllocError, Global};
@@ -19,21 +19,26 @@ const BLOCK_BYTES: usize = 512;
 pub(crate) enum Which {
     V,
     W,
+    /// The snapshot `v@a` of `v`.
+    Snapshot,
+    /// The clone `c` of that snapshot.
+    Cloned,
 }
 
-/// What is done to a volume.
+/// What is done to a volume or a snapshot.
 #[derive(Clone, Copy)]
 pub(crate) enum Act {
-    /// It is made, and its blocks are zeros.
+    /// It is made, and has zeros or what it is made of.
     Makes,
     /// A block of it is filled with that byte.
     Fills(usize, u8),
+    Destroys,
 }
 
 /// What a group does.
 pub(crate) type Doing = (Which, Act);
 
-/// A volume as it is read.
+/// A volume or a snapshot as it is read.
 #[derive(Clone, Copy, PartialEq, Eq)]
 pub(crate) enum Volume {
     /// There is none of this name.
@@ -44,18 +49,21 @@ pub(crate) enum Volume {
     Lost,
 }
 
-/// What a pool shows: its group and its volumes.
+/// What a pool shows: its group, and what it has under each name.
 #[derive(Clone, Copy, PartialEq, Eq)]
 pub(crate) struct Shown {
     pub(crate) group: u64,
     pub(crate) v: Volume,
     pub(crate) w: Volume,
+    pub(crate) snapshot: Volume,
+    pub(crate) cloned: Volume,
 }
 
 impl Volume {
-    fn done(self, act: Act) -> Volume {
+    /// What comes of it, where `origin` is what it is made of.
+    fn done(self, act: Act, origin: Volume) -> Volume {
         match (self, act) {
-            (Volume::Absent, Act::Makes) => Volume::Blocks([0; BLOCKS]),
+            (Volume::Absent, Act::Makes) => origin,
             (Volume::Blocks(blocks), Act::Fills(block, byte)) => {
                 let mut blocks = blocks;
                 if block < BLOCKS {
@@ -63,19 +71,27 @@ impl Volume {
                 }
                 Volume::Blocks(blocks)
             }
+            (_, Act::Destroys) => Volume::Absent,
             (volume, _) => volume,
         }
     }
 }
 
 impl Shown {
-    /// What the next group shows which does that.
+    /// What the next group shows which does that: all of its writes come before all else.
     pub(crate) fn next(self, doings: &[Doing]) -> Shown {
+        let zeros = Volume::Blocks([0; BLOCKS]);
         let mut shown = self;
-        for (which, act) in doings {
-            match which {
-                Which::V => shown.v = shown.v.done(*act),
-                Which::W => shown.w = shown.w.done(*act),
+        for is_write in [true, false] {
+            for (which, act) in doings {
+                if matches!(act, Act::Fills(_, _)) == is_write {
+                    match which {
+                        Which::V => shown.v = shown.v.done(*act, zeros),
+                        Which::W => shown.w = shown.w.done(*act, zeros),
+                        Which::Snapshot => shown.snapshot = shown.snapshot.done(*act, shown.v),
+                        Which::Cloned => shown.cloned = shown.cloned.done(*act, shown.snapshot),
+                    }
+                }
             }
         }
         shown.group = shown.group.saturating_add(1);
@@ -98,11 +114,15 @@ pub(crate) fn config(alloc: Global) -> Result<Config, AllocError> {
     })
 }
 
-/// The bytes of the disks that are there, in order.
-pub(crate) fn bytes_of(
-    alloc: Global,
-    members: Vec<Member<MemDisk>>,
-) -> Result<Vec<Vec<u8>>, AllocError> {
+/// The bytes of a new pool's disks, in order.
+pub(crate) fn made(alloc: Global) -> Result<Vec<Vec<u8>>, Refusal> {
+    let name = String::from_str(alloc, "pool")?;
+    let config = config(alloc)?;
+    let disks = MemDisk::several(alloc, 3, DISK_BYTES)?;
+    let members = match create(alloc, disks, PoolIdentity { name, guid: 1 }, config) {
+        Ok(OpenedPool { core, .. }) => core.into_disks(),
+        Err((refusal, _)) => return Err(refusal),
+    };
     let mut all = Vec::new(alloc);
     for member in members {
         if let Some(disk) = member.into_disk() {
@@ -112,14 +132,18 @@ pub(crate) fn bytes_of(
     Ok(all)
 }
 
-/// The disks of a new pool.
-pub(crate) fn made(alloc: Global) -> Result<Vec<Vec<u8>>, Refusal> {
-    let name = String::from_str(alloc, "pool")?;
-    let config = config(alloc)?;
-    let disks = MemDisk::several(alloc, 3, DISK_BYTES)?;
-    match create(alloc, disks, PoolIdentity { name, guid: 1 }, config) {
-        Ok(OpenedPool { core, .. }) => Ok(bytes_of(alloc, core.into_disks())?),
-        Err((refusal, _)) => Err(refusal),
+/// The disks of a pool that ends here. It may be exported first: `DiskFault` where that is refused.
+pub(crate) fn ended<D: Disk + Drop>(
+    alloc: Global,
+    pool: OpenedPool<D>,
+    is_exported: bool,
+) -> Result<Vec<D>, Refusal> {
+    if !is_exported {
+        return Ok(pool.core.into_disks());
+    }
+    match export(alloc, pool) {
+        Ok(disks) => Ok(disks),
+        Err(_failed) => Err(Refusal::DiskFault),
     }
 }
 
@@ -135,8 +159,45 @@ fn name_of(alloc: Global, which: Which) -> Result<Name, AllocError> {
     let text = match which {
         Which::V => "v",
         Which::W => "w",
+        Which::Snapshot => "v@a",
+        Which::Cloned => "c",
     };
     Ok(Name::new(Vec::from_slice(alloc, text.as_bytes())?))
+}
+
+/// The step by which writer 1 does this, as its item of that number.
+fn step_of(alloc: Global, number: u64, which: Which, act: Act) -> Result<Step, AllocError> {
+    let name = name_of(alloc, which)?;
+    let change = match (act, which) {
+        (Act::Fills(block, byte), _) => {
+            return Ok(Step::Write(Write {
+                writer: 1,
+                number,
+                volume: name,
+                offset: (block as u64).saturating_mul(512),
+                bytes: Bytes::new(vec![in alloc; byte; BLOCK_BYTES]?),
+            }));
+        }
+        (Act::Destroys, _) => Change::Destroy { name },
+        (Act::Makes, Which::Snapshot) => Change::Snapshot {
+            volume: name_of(alloc, Which::V)?,
+            part: Name::new(Vec::from_slice(alloc, b"a")?),
+        },
+        (Act::Makes, Which::Cloned) => Change::Clone {
+            snapshot: name_of(alloc, Which::Snapshot)?,
+            name,
+        },
+        (Act::Makes, _) => Change::Create {
+            name,
+            size: 2048,
+            block_size: 512,
+        },
+    };
+    Ok(Step::Act(Action {
+        writer: 1,
+        number,
+        change,
+    }))
 }
 
 /// The open group does these things, as items of writer 1 from that number on.
@@ -149,25 +210,7 @@ pub(crate) fn do_all<D: Disk + Drop>(
     core.step(Step::Hold(1));
     let mut number = first;
     for (which, act) in doings {
-        let name = name_of(alloc, *which)?;
-        let step = match *act {
-            Act::Makes => Step::Act(Action {
-                writer: 1,
-                number,
-                change: Change::Create {
-                    name,
-                    size: 2048,
-                    block_size: 512,
-                },
-            }),
-            Act::Fills(block, byte) => Step::Write(Write {
-                writer: 1,
-                number,
-                volume: name,
-                offset: (block as u64).saturating_mul(512),
-                bytes: Bytes::new(vec![in alloc; byte; BLOCK_BYTES]?),
-            }),
-        };
+        let step = step_of(alloc, number, *which, *act)?;
         core.step(step);
         number = number.saturating_add(1);
     }
@@ -213,35 +256,32 @@ fn blocks_of(bytes: &[u8]) -> Option<[u8; BLOCKS]> {
     Some(blocks)
 }
 
-fn volume_in<D: Disk + Drop>(
-    alloc: Global,
-    core: &mut Core<D>,
-    which: Which,
-) -> Result<Volume, AllocError> {
+fn volume_in<D: Disk + Drop>(alloc: Global, core: &mut Core<D>, which: Which) -> Volume {
+    let Ok(name) = name_of(alloc, which) else {
+        return Volume::Lost;
+    };
     let step = Step::Read {
-        name: name_of(alloc, which)?,
+        name,
         offset: 0,
         len: 2048,
     };
-    Ok(match core.step(step) {
+    match core.step(step) {
         Reply::Bytes(bytes) => match blocks_of(bytes.as_slice()) {
             Some(blocks) => Volume::Blocks(blocks),
             None => Volume::Lost,
         },
         Reply::Refused(pool_model::Refusal::NoSuchName) => Volume::Absent,
         _ => Volume::Lost,
-    })
+    }
 }
 
 /// What a pool shows that stands at that group.
-pub(crate) fn shown_in<D: Disk + Drop>(
-    alloc: Global,
-    core: &mut Core<D>,
-    group: u64,
-) -> Result<Shown, AllocError> {
-    Ok(Shown {
+pub(crate) fn shown_in<D: Disk + Drop>(alloc: Global, core: &mut Core<D>, group: u64) -> Shown {
+    Shown {
         group,
-        v: volume_in(alloc, core, Which::V)?,
-        w: volume_in(alloc, core, Which::W)?,
-    })
+        v: volume_in(alloc, core, Which::V),
+        w: volume_in(alloc, core, Which::W),
+        snapshot: volume_in(alloc, core, Which::Snapshot),
+        cloned: volume_in(alloc, core, Which::Cloned),
+    }
 }

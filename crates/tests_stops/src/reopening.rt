@@ -21,7 +21,7 @@ fn shown_and_wanted(
     group: u64,
     goes_on: bool,
 ) -> Result<[Shown; 2], AllocError> {
-    let first = shown_in(alloc, core, group)?;
+    let first = shown_in(alloc, core, group);
     if !goes_on {
         return Ok([first, first]);
     }

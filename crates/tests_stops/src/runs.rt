@@ -1,8 +1,10 @@
 //! Runs of a pool over disks that record their calls.
 use crate::history::{Possible, settle};
 use crate::images::{Pattern, image_of};
-use crate::pools::{Doing, Shown, commit, do_all, opened, shown_in};
+use crate::pools::{Doing, Shown, commit, do_all, ended, opened, shown_in};
 use crate::recording::{RecordingDisk, TimedCall, calls_of, recording_disk};
+use crate::stages::Schedule;
+use crate::stopping::IMAGES;
 use model_disk::{Disk, MemDisk};
 use pool_create::{Core, OpenedPool, Refusal};
 use std::alloc::{AllocError, Global};
@@ -14,8 +16,8 @@ use std::rc::Rc;
 pub(crate) struct Run {
     starts: Vec<Vec<u8>>,
     calls: Vec<Vec<TimedCall>>,
-    /// How many calls there are in all.
-    pub(crate) end: u64,
+    /// How many stops of it there are: of each number of calls, from none to all, those with each image.
+    pub(crate) stops: u64,
     /// What was shown as the pool was opened.
     pub(crate) opened: Shown,
     pub(crate) history: Vec<Possible>,
@@ -73,7 +75,7 @@ fn run_on<D: Disk + Drop>(
     moments: &Cell<u64>,
     history: &mut Vec<Possible>,
 ) -> Result<Shown, AllocError> {
-    let opened = shown_in(alloc, core, group)?;
+    let opened = shown_in(alloc, core, group);
     settle(history, opened, moments.get());
     let mut shown = opened;
     let mut number: u64 = 1;
@@ -92,14 +94,14 @@ fn run_on<D: Disk + Drop>(
     Ok(opened)
 }
 
-/// Opens a pool on disks that hold these bytes, one of which may be absent, and commits these groups. `possible` is what may be shown
-/// as it is opened.
+/// Opens a pool on disks that hold these bytes, one of which may be absent, and does what the schedule says. `possible` is what may be
+/// shown as it is opened.
 pub(crate) fn recorded(
     alloc: Global,
     starts: Vec<Vec<u8>>,
     absent: Option<usize>,
     possible: Vec<Possible>,
-    groups: &[&[Doing]],
+    schedule: &Schedule,
 ) -> Result<Run, Refusal> {
     let moments = Rc::new(alloc, Cell::new(0u64))?;
     let disks = recording(alloc, &starts, absent, &moments)?;
@@ -112,16 +114,17 @@ pub(crate) fn recorded(
         alloc,
         &mut core,
         uberblock.group,
-        groups,
+        schedule.groups,
         &moments,
         &mut history,
     );
-    let calls = calls_of(alloc, core.into_disks());
+    let disks = ended(alloc, OpenedPool { core, uberblock }, schedule.is_exported)?;
+    let calls = calls_of(alloc, disks)?;
     let opened = opened?;
     Ok(Run {
-        calls: calls?,
+        calls,
         starts,
-        end: moments.get(),
+        stops: moments.get().saturating_add(1).saturating_mul(IMAGES),
         opened,
         history,
     })

@@ -3,8 +3,8 @@ use crate::history::Possible;
 use crate::pools::{Act, Doing, Shown, Volume, Which};
 use crate::runs::{Run, recorded};
 use crate::stopping::Stop;
-use Act::{Fills, Makes};
-use Which::{V, W};
+use Act::{Destroys, Fills, Makes};
+use Which::{Cloned, Snapshot, V, W};
 use pool_create::Refusal;
 use std::alloc::Global;
 
@@ -13,37 +13,68 @@ pub(crate) const NEW: Shown = Shown {
     group: 3,
     v: Volume::Absent,
     w: Volume::Absent,
+    snapshot: Volume::Absent,
+    cloned: Volume::Absent,
 };
 
-/// What the groups from 4 to 8 do. Each may use the room that was given back three groups before.
-pub(crate) const FIRST_GROUPS: [&[Doing]; 5] = [
-    &[(V, Makes)],
-    &[
-        (V, Fills(0, 0x10)),
-        (V, Fills(1, 0x11)),
-        (V, Fills(2, 0x12)),
-    ],
-    &[(V, Fills(1, 0x21))],
-    &[(W, Makes), (V, Fills(0, 0x30))],
-    &[(W, Fills(0, 0x40)), (V, Fills(3, 0x43))],
-];
+/// What a run does with the pool that it opened.
+pub(crate) struct Schedule {
+    /// It commits these groups, one after another.
+    pub(crate) groups: &'static [&'static [Doing]],
+    /// And then it exports the pool.
+    pub(crate) is_exported: bool,
+}
 
-/// What two groups after these do.
-pub(crate) const LATER_GROUPS: [&[Doing]; 2] = [
-    &[
-        (V, Fills(1, 0x51)),
-        (V, Fills(2, 0x52)),
-        (W, Fills(1, 0x53)),
+/// Of a new pool: groups 4 to 8. Each may use the room that was given back three groups before.
+pub(crate) const FIRST: Schedule = Schedule {
+    groups: &[
+        &[(V, Makes), (W, Makes)],
+        &[
+            (V, Fills(0, 0x10)),
+            (V, Fills(1, 0x11)),
+            (Snapshot, Makes),
+            (V, Fills(2, 0x12)),
+        ],
+        &[(V, Fills(1, 0x21)), (Cloned, Makes)],
+        &[
+            (V, Fills(0, 0x30)),
+            (W, Fills(0, 0x31)),
+            (Cloned, Fills(1, 0x32)),
+        ],
+        &[
+            (V, Fills(3, 0x43)),
+            (Cloned, Destroys),
+            (Snapshot, Destroys),
+        ],
     ],
-    &[(V, Fills(1, 0x61)), (W, Fills(0, 0x60))],
-];
+    is_exported: true,
+};
 
-/// A pool is opened after a stop of its run, by which it may show what was possible then, and commits these groups.
+/// Of a pool that lacks a disk, after these.
+pub(crate) const LATER: Schedule = Schedule {
+    groups: &[
+        &[
+            (V, Fills(1, 0x51)),
+            (V, Fills(2, 0x52)),
+            (W, Fills(1, 0x53)),
+            (Snapshot, Makes),
+        ],
+        &[(V, Fills(1, 0x61)), (Cloned, Makes), (W, Destroys)],
+    ],
+    is_exported: true,
+};
+
+pub(crate) const OPENS_ALONE: Schedule = Schedule {
+    groups: &[],
+    is_exported: false,
+};
+
+/// A pool is opened after a stop of its run, by which it may show what was possible then, and goes on as the schedule says.
 pub(crate) fn next_run(
     alloc: Global,
     run: &Run,
     stop: Stop,
-    groups: &[&[Doing]],
+    schedule: &Schedule,
 ) -> Result<Run, Refusal> {
     let mut possible = Vec::new(alloc);
     for it in &run.history {
@@ -56,5 +87,5 @@ pub(crate) fn next_run(
         }
     }
     let images = run.images(alloc, stop.cut, stop.pattern)?;
-    recorded(alloc, images, stop.absent, possible, groups)
+    recorded(alloc, images, stop.absent, possible, schedule)
 }

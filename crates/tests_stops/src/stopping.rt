@@ -22,23 +22,24 @@ pub(crate) enum Away {
     Only(usize),
 }
 
-/// What is left of the ranges that were written last, in one of nine ways.
-fn pattern_at(cut: u64, way: u64) -> Pattern {
+/// How many images are made of what is left after so many calls.
+pub(crate) const IMAGES: u64 = 3;
+
+/// What is left in the third image: some of the ranges that were written last are old, or filled, or torn, in one of seven ways.
+fn mixed_at(cut: u64) -> Pattern {
     let last = cut.saturating_sub(1);
-    match way % 9 {
-        0 => Pattern::Every(Left::Old),
-        1 => Pattern::Every(Left::New),
-        2 => Pattern::Every(Left::Filled),
-        3 => Pattern::Every(Left::Torn),
-        4 => Pattern::InTurn(0),
-        5 => Pattern::InTurn(cut),
-        6 => Pattern::Except {
+    match cut % 7 {
+        0 => Pattern::Every(Left::Filled),
+        1 => Pattern::Every(Left::Torn),
+        2 => Pattern::InTurn(0),
+        3 => Pattern::InTurn(cut),
+        4 => Pattern::Except {
             moment: last,
             left: Left::Filled,
             others: Left::New,
         },
-        7 => Pattern::Except {
-            moment: last.saturating_sub(cut % 7),
+        5 => Pattern::Except {
+            moment: last.saturating_sub(cut % 5),
             left: Left::Torn,
             others: Left::New,
         },
@@ -50,8 +51,17 @@ fn pattern_at(cut: u64, way: u64) -> Pattern {
     }
 }
 
-/// The stop after so many calls, in the way of that number. There are 180 ways.
-pub(crate) fn stop_at(cut: u64, way: u64, away: Away) -> Stop {
+/// The stop of that number. There are three after so many calls: all ranges that were written last are old, all are new, or they are mixed.
+/// By how many were tried before it goes which disk is absent, and whether one more group is committed.
+pub(crate) fn stop_at(number: u64, before: u64, away: Away) -> Stop {
+    let cut = number / IMAGES;
+    let image = number % IMAGES;
+    let way = before.saturating_add(image);
+    let pattern = match image {
+        0 => Pattern::Every(Left::Old),
+        1 => Pattern::Every(Left::New),
+        _ => mixed_at(cut),
+    };
     let absent = match (away, way % 4) {
         (_, 0) => None,
         (Away::Any, 1) => Some(0),
@@ -63,7 +73,7 @@ pub(crate) fn stop_at(cut: u64, way: u64, away: Away) -> Stop {
     };
     Stop {
         cut,
-        pattern: pattern_at(cut, way),
+        pattern,
         absent,
         goes_on: way % 5 < 2,
     }
