@@ -52,20 +52,26 @@ fn outcome(alloc: Global, what: Stopped, part: Part) -> Outcome {
 }
 
 #[test]
-fn old_images_show_a_whole_group(rt: HostRuntime) {
-    let part = Part { first: 0, of: 3 };
+fn first_quarter_of_the_stops_shows_a_whole_group(rt: HostRuntime) {
+    let part = Part { first: 0, of: 4 };
     judge(&rt, outcome(rt.alloc(), Stopped::Commits, part));
 }
 
 #[test]
-fn new_images_show_a_whole_group(rt: HostRuntime) {
-    let part = Part { first: 1, of: 3 };
+fn second_quarter_of_the_stops_shows_a_whole_group(rt: HostRuntime) {
+    let part = Part { first: 1, of: 4 };
     judge(&rt, outcome(rt.alloc(), Stopped::Commits, part));
 }
 
 #[test]
-fn mixed_images_show_a_whole_group(rt: HostRuntime) {
-    let part = Part { first: 2, of: 3 };
+fn third_quarter_of_the_stops_shows_a_whole_group(rt: HostRuntime) {
+    let part = Part { first: 2, of: 4 };
+    judge(&rt, outcome(rt.alloc(), Stopped::Commits, part));
+}
+
+#[test]
+fn fourth_quarter_of_the_stops_shows_a_whole_group(rt: HostRuntime) {
+    let part = Part { first: 3, of: 4 };
     judge(&rt, outcome(rt.alloc(), Stopped::Commits, part));
 }
 

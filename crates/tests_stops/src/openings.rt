@@ -65,18 +65,14 @@ fn stopped_again(alloc: Global, opening: &Run, stop: Stop, part: Part) -> Outcom
     Ok(None)
 }
 
-fn stopped_twice(alloc: Global, run: &Run, stop: Stop, part: Part) -> Outcome {
-    let opening = next_run(alloc, run, stop, &OPENS_ALONE)?;
-    stopped_again(alloc, &opening, stop, part)
-}
-
 /// The first failure of an open after one of the stops: the open is stopped too, or it and the one after it.
 pub(crate) fn first_stopped(alloc: Global, run: &Run, part: Part, is_twice: bool) -> Outcome {
     for stop in &IN_SLOTS {
         let mut stop = *stop;
         stop.cut = run.slots_of(8).saturating_add(stop.cut);
         let failure = if is_twice {
-            stopped_twice(alloc, run, stop, part)?
+            let opening = next_run(alloc, run, stop, &OPENS_ALONE)?;
+            stopped_again(alloc, &opening, stop, part)?
         } else {
             stopped(alloc, run, stop, &OPENS_ALONE, part, Away::Any)?
         };
