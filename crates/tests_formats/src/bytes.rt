@@ -1,6 +1,6 @@
 //! What bytes are read as, and that it is written as they are. The drivers call `nvlist::decode`,
 //! `pool_slots::survey`, `pool_export::export_labels` and their like.
-use crate::{blocks, disks, lists, maps, slots};
+use crate::{blocks, lists, maps, slots};
 use std::process::Abort;
 use std::test::Fail;
 use words::*;
@@ -49,15 +49,6 @@ fn slots_and_labels_are_read_and_written(rt: HostRuntime) -> Result<(), Fail> {
     }
     for (line, wanted) in lists::CASES {
         let text = lists::answer(rt.alloc(), line)?;
-        assert!(rt; text.as_str() == *wanted, "{line}: {text}");
-    }
-    Ok(())
-}
-
-#[test]
-fn disks_answer(rt: HostRuntime) -> Result<(), Fail> {
-    for (line, wanted) in disks::CASES {
-        let text = disks::played(rt.alloc(), line)?;
         assert!(rt; text.as_str() == *wanted, "{line}: {text}");
     }
     Ok(())

@@ -625,3 +625,12 @@ pub(crate) fn played(alloc: Global, line: &str) -> Result<String, Fail> {
     }
     Ok(text)
 }
+
+#[test]
+fn disks_answer(rt: HostRuntime) -> Result<(), Fail> {
+    for (line, wanted) in CASES {
+        let text = played(rt.alloc(), line)?;
+        assert!(rt; text.as_str() == *wanted, "{line}: {text}");
+    }
+    Ok(())
+}
