@@ -4,6 +4,7 @@ pub mod Beside
 pub mod Calling
 pub mod Causes
 pub mod Choosing
+pub mod ComingBack
 pub mod Copies
 pub mod CopyWrites
 pub mod Demands

@@ -45,7 +45,7 @@ abbrev away : Store → ℕ → List ℕ
 away store birth = filter (λ disk. nat_le (slice_index store.spans.since disk) birth) (outs store)
 
 -- a disk that is lost is out since the birth or earlier, or missed it
-lost_cases : (store : Store) (birth disk : ℕ) → Contains (lost store birth) disk
+pub lost_cases : (store : Store) (birth disk : ℕ) → Contains (lost store birth) disk
     → (Contains (outs store) disk × (slice_index store.spans.since disk ≤ birth)) ⊎ Contains (missed store birth) disk
 lost_cases store birth disk held = elim (Contains-append_cases (away store birth) (missed store birth) disk held) [
   | inl first ↦

@@ -1,5 +1,5 @@
 -- A store of blocks, and what it holds.
-use Rattle.std.specs.Prelude.{ℕ, ◌≡◌, ◌⊎◌, ◌++◌, nat_le, nat_lt, Some, Bool, if◌then◌else◌, List, filter, slice_get, slice_index, Contains}
+use Rattle.std.specs.Prelude.{ℕ, ◌≡◌, ◌⊎◌, ◌++◌, nat_le, nat_lt, Option, Some, Bool, true, if◌then◌else◌, List, filter, slice_get, slice_index, Contains}
 use Rattle.model_disk.specs.Joint.{Disks, content}
 use Rattle.block_pointer.specs.declared.block.Block.{Block}
 use Rattle.block_pointer.specs.declared.dva.Dva.{Dva}
@@ -7,7 +7,8 @@ use Rattle.block_pointer.specs.Copies.{dvas}
 use Rattle.raidz_io.specs.declared.vdev.Extent.{Extent}
 use Rattle.raidz_io.specs.Writes.{ColumnWrite}
 use Rattle.raidz_io.specs.Stands.{ExtentStands, IsColumnWrite}
-pub use Rattle.disk_set.specs.Outs.{Spans, is_out, is_stale, IsOutToo, outs_from, stale_from, in_group, spans_without}
+use Rattle.disk_set.specs.declared.stale.GroupSpan.{GroupSpan}
+pub use Rattle.disk_set.specs.Outs.{Spans, is_in, is_out, is_stale, IsInUseToo, IsOutToo, MissedThese, outs_from, stale_from, in_group, spans_without}
 use Rattle.block_store.specs.Spaces.{VdevSpace}
 use Rattle.block_store.specs.Blocks.{Contents, IsWrittenAs}
 use Rattle.block_store.specs.Places.{Marks, filled, IsLaidOut, IsTaken, IsCopy, ArePlacesIn, ArePlacesApart}
@@ -41,6 +42,11 @@ reaching spans birth = if nat_lt birth spans.group then in_group spans birth els
 abbrev pub GoesOut : Store → ℕ → Store → Type 0
 GoesOut old disk new =
     new.spans ≡ spans_without old.out old.spans disk
+
+-- of these blocks that disk lacks none but those that were born in these groups
+abbrev pub LacksOnly : Store → ℕ → Option GroupSpan → Contents → Type 0
+LacksOnly store disk missed stored =
+    (block : Block) (bytes : List ℕ) → stored block ≡ Some bytes → Contains (lost store block.birth) disk → is_in missed block.birth ≡ true
 
 -- Each block that is known is what its pointer tells. Its copies lie apart, in places of their region that are in use.
 pub record ArePlaced (spaces : List VdevSpace) (marks : Marks) (contents : Contents) : Type 0 where

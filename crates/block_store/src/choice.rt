@@ -46,6 +46,17 @@ fn may_take(shape: VdevShape, taken: &[Dva], vdev: usize, metaslab: usize, sprea
     }
 }
 
+/// Whether no metaslab of a vdev may be taken, since another copy lies in the vdev.
+fn is_barred(taken: &[Dva], vdev: usize, spread: Spread) -> bool
+    ensures { IsTrue result → (shape : VdevShape) (metaslab : ℕ)
+        → ¬ MayTake shape taken.now vdev metaslab spread }
+{
+    match spread {
+        Spread::Vdevs => is_in_vdev(taken, vdev),
+        Spread::Metaslabs | Spread::Anywhere => false,
+    }
+}
+
 /// What a copy of a block wants of its place.
 #[derive(Clone, Copy)]
 pub(crate) struct Wanted {
@@ -77,6 +88,9 @@ impl VdevMetaslabs {
             → IsInRegion self.now.shape wanted.copies metaslab
             → ¬ MayTake self.now.shape taken.now vdev metaslab wanted.spread) }
     {
+        if is_barred(taken, vdev, wanted.spread) {
+            return None;
+        }
         let count = self.count();
         let start = start.min(count);
         if let Some(metaslab) = self.find_between(start, count, vdev, wanted, taken) {

@@ -2,6 +2,7 @@
 #![tactic(auto)]
 
 mod aside;
+mod back;
 mod block;
 mod choice;
 mod create;

@@ -115,8 +115,9 @@ impl<D: Disk + Drop> BlockStore<D> {
         drop_plans(&mut self.spaces);
     }
 
-    /// The plan's group is that one.
-    pub(crate) fn enter(&mut self, group: u64)
+    /// The plan's group is that one: a disk that goes out from then on may lack blocks that were born in it or later. Behind a plan
+    /// that has ended, the next group is entered so, before another plan begins. It takes no memory.
+    pub fn enter(&mut self, group: u64)
         ensures disks { self.new.disks ≡ self.old.disks }
         ensures out { self.new.out ≡ self.old.out }
         ensures spaces { self.new.spaces ≡ self.old.spaces }
@@ -124,6 +125,7 @@ impl<D: Disk + Drop> BlockStore<D> {
         ensures stray { self.new.stray ≡ self.old.stray }
         ensures spans { self.new.spans ≡ in_group self.old.spans group }
         ensures keeps { Keeps self.old self.new }
+        ensures stores { KeepsStored self.old self.new }
     {
         self.set.enter(group);
     }

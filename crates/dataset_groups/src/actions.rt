@@ -56,7 +56,8 @@ impl GroupDatasets {
         ensures value { OnOk result ((stored planned : Contents) (objects : ℕ → Option Object)
             (own : List Block) (blocks : ℕ → List Block) (pool : Pool) (readings : ℕ → Reading)
             (plain : PlainPool) → Plans store.old stored planned
-            → AreObjects stored (birth_of self.old.changes) (set_of self.old.changes) objects own blocks
+            → AreObjects stored (birth_of self.old.changes) (set_of self.old.changes)
+            objects own blocks
             → AnswersTell store.old store.new []
             → SpellsGroup planned group objects self.old pool readings plain
             → (later : Contents) × Plans store.new stored later × Extends planned later
@@ -75,7 +76,8 @@ impl GroupDatasets {
             (objects : ℕ → Option Object) (own : List Block) (blocks : ℕ → List Block)
             (pool : Pool) (readings : ℕ → Reading) (plain : PlainPool) → AreGoodChanges actions.now
             → Plans store.old stored planned
-            → AreObjects stored (birth_of self.old.changes) (set_of self.old.changes) objects own blocks
+            → AreObjects stored (birth_of self.old.changes) (set_of self.old.changes)
+            objects own blocks
             → AnswersTell store.old store.new []
             → SpellsGroup planned group objects self.old pool readings plain
             → IsForRoom refusal ⊎ (refusal ≡ Refusal.DiskFault)) }
@@ -117,7 +119,8 @@ impl GroupDatasets {
             → (later : Contents) × Plans store.new stored later × Extends planned later
             × ((objects : ℕ → Option Object) (own : List Block) (blocks : ℕ → List Block)
             (pool : Pool) (readings : ℕ → Reading) (plain : PlainPool)
-            → AreObjects stored (birth_of self.old.changes) (set_of self.old.changes) objects own blocks
+            → AreObjects stored (birth_of self.old.changes) (set_of self.old.changes)
+            objects own blocks
             → SpellsGroup planned group objects self.old pool readings plain
             → AreActed group objects planned later self.old self.new pool
             (changed group plain change.now))) }
@@ -130,7 +133,8 @@ impl GroupDatasets {
             (objects : ℕ → Option Object) (own : List Block) (blocks : ℕ → List Block)
             (pool : Pool) (readings : ℕ → Reading) (plain : PlainPool)
             → is_good_making change.now ≡ true → Plans store.old stored planned
-            → AreObjects stored (birth_of self.old.changes) (set_of self.old.changes) objects own blocks
+            → AreObjects stored (birth_of self.old.changes) (set_of self.old.changes)
+            objects own blocks
             → AnswersTell store.old store.new []
             → SpellsGroup planned group objects self.old pool readings plain
             → IsForRoom refusal ⊎ (refusal ≡ Refusal.DiskFault)) }

@@ -64,7 +64,8 @@ impl GroupDatasets {
         ensures value { OnOk result ((stored known : Contents) (objects : ℕ → Option Object)
             (own : List Block) (blocks : ℕ → List Block) (pool : Pool) (readings : ℕ → Reading)
             (plain : PlainPool) → Holds store.old stored
-            → AreObjects stored (birth_of self.old.changes) (set_of self.old.changes) objects own blocks
+            → AreObjects stored (birth_of self.old.changes) (set_of self.old.changes)
+            objects own blocks
             → AnswersTell store.old store.new []
             → SpellsGroup known group objects self.old pool readings plain
             → AreActed group objects known known self.old self.new pool
@@ -78,7 +79,8 @@ impl GroupDatasets {
             (objects : ℕ → Option Object) (own : List Block) (blocks : ℕ → List Block)
             (pool : Pool) (readings : ℕ → Reading) (plain : PlainPool)
             → is_good_making (Clone snapshot.now name.now) ≡ true → Holds store.old stored
-            → AreObjects stored (birth_of self.old.changes) (set_of self.old.changes) objects own blocks
+            → AreObjects stored (birth_of self.old.changes) (set_of self.old.changes)
+            objects own blocks
             → AnswersTell store.old store.new []
             → SpellsGroup known group objects self.old pool readings plain
             → IsForRoom refusal ⊎ (refusal ≡ Refusal.DiskFault)) }
@@ -133,7 +135,8 @@ impl GroupDatasets {
         ensures known { IfErr result (λ refusal. (stored known : Contents)
             (objects : ℕ → Option Object) (own : List Block) (blocks : ℕ → List Block)
             (pool : Pool) (readings : ℕ → Reading) → Holds store.old stored
-            → AreObjects stored (birth_of self.old.changes) (set_of self.old.changes) objects own blocks
+            → AreObjects stored (birth_of self.old.changes) (set_of self.old.changes)
+            objects own blocks
             → AnswersTell store.old store.new []
             → SpellsChains known group objects self.old.changes pool readings
             → IsSnapshot pool.datasets origin

@@ -49,7 +49,8 @@ impl GroupDatasets {
         ensures value { OnOk result ((stored : Contents) (objects : ℕ → Option Object)
             (own : List Block) (blocks : ℕ → List Block) (pool : Pool) (readings : ℕ → Reading)
             (plain : PlainPool) → Holds store.old stored
-            → AreObjects stored (birth_of self.old.changes) (set_of self.old.changes) objects own blocks
+            → AreObjects stored (birth_of self.old.changes) (set_of self.old.changes)
+            objects own blocks
             → AnswersTell store.old store.new []
             → SpellsGroup stored group objects self.old pool readings plain
             → MayBeDestroyed names.now plain
@@ -68,7 +69,8 @@ impl GroupDatasets {
         ensures known { IfErr result (λ refusal. (stored : Contents) (objects : ℕ → Option Object)
             (own : List Block) (blocks : ℕ → List Block) (pool : Pool) (readings : ℕ → Reading)
             (plain : PlainPool) → Holds store.old stored
-            → AreObjects stored (birth_of self.old.changes) (set_of self.old.changes) objects own blocks
+            → AreObjects stored (birth_of self.old.changes) (set_of self.old.changes)
+            objects own blocks
             → AnswersTell store.old store.new []
             → SpellsGroup stored group objects self.old pool readings plain
             → MayBeDestroyed names.now plain → HasAtMost pool most → IsForLoss refusal) }
@@ -102,7 +104,8 @@ impl GroupDatasets {
         ensures value { OnOk result ((stored : Contents) (objects : ℕ → Option Object)
             (own : List Block) (blocks : ℕ → List Block) (pool : Pool) (readings : ℕ → Reading)
             (plain : PlainPool) → Holds store.old stored
-            → AreObjects stored (birth_of self.old.changes) (set_of self.old.changes) objects own blocks
+            → AreObjects stored (birth_of self.old.changes) (set_of self.old.changes)
+            objects own blocks
             → AnswersTell store.old store.new []
             → SpellsGroup stored group objects self.old pool readings plain
             → MayBeDestroyed (name.now ∷ []) plain
@@ -117,7 +120,8 @@ impl GroupDatasets {
         ensures known { IfErr result (λ refusal. (stored : Contents) (objects : ℕ → Option Object)
             (own : List Block) (blocks : ℕ → List Block) (pool : Pool) (readings : ℕ → Reading)
             (plain : PlainPool) → Holds store.old stored
-            → AreObjects stored (birth_of self.old.changes) (set_of self.old.changes) objects own blocks
+            → AreObjects stored (birth_of self.old.changes) (set_of self.old.changes)
+            objects own blocks
             → AnswersTell store.old store.new []
             → SpellsGroup stored group objects self.old pool readings plain
             → MayBeDestroyed (name.now ∷ []) plain → HasAtMost pool most → IsForLoss refusal) }

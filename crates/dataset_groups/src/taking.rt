@@ -66,7 +66,8 @@ impl GroupDatasets {
         ensures value { OnOk result ((stored known : Contents) (objects : ℕ → Option Object)
             (own : List Block) (blocks : ℕ → List Block) (pool : Pool) (readings : ℕ → Reading)
             (plain : PlainPool) → Holds store.old stored
-            → AreObjects stored (birth_of self.old.changes) (set_of self.old.changes) objects own blocks
+            → AreObjects stored (birth_of self.old.changes) (set_of self.old.changes)
+            objects own blocks
             → AnswersTell store.old store.new []
             → SpellsGroup known group objects self.old pool readings plain
             → AreActed group objects known known self.old self.new pool
@@ -79,7 +80,8 @@ impl GroupDatasets {
             (objects : ℕ → Option Object) (own : List Block) (blocks : ℕ → List Block)
             (pool : Pool) (readings : ℕ → Reading) (plain : PlainPool)
             → is_good_making (Snapshot volume.now part.now) ≡ true → Holds store.old stored
-            → AreObjects stored (birth_of self.old.changes) (set_of self.old.changes) objects own blocks
+            → AreObjects stored (birth_of self.old.changes) (set_of self.old.changes)
+            objects own blocks
             → AnswersTell store.old store.new []
             → SpellsGroup known group objects self.old pool readings plain
             → IsForRoom refusal ⊎ (refusal ≡ Refusal.DiskFault)) }
@@ -132,7 +134,8 @@ impl GroupDatasets {
         ensures known { IfErr result (λ refusal. (stored known : Contents)
             (objects : ℕ → Option Object) (own : List Block) (blocks : ℕ → List Block)
             (pool : Pool) (readings : ℕ → Reading) → Holds store.old stored
-            → AreObjects stored (birth_of self.old.changes) (set_of self.old.changes) objects own blocks
+            → AreObjects stored (birth_of self.old.changes) (set_of self.old.changes)
+            objects own blocks
             → AnswersTell store.old store.new []
             → SpellsChains known group objects self.old.changes pool readings
             → IsHead pool.datasets head → IsForLoss refusal) }

@@ -70,7 +70,8 @@ impl GroupDatasets {
             (objects : ℕ → Option Object) (own : List Block) (blocks : ℕ → List Block)
             (pool : Pool) (readings : ℕ → Reading) (plain : PlainPool) (writes : List Write)
             → Plans store.old stored planned
-            → AreObjects stored (birth_of self.old.changes) (set_of self.old.changes) objects own blocks
+            → AreObjects stored (birth_of self.old.changes) (set_of self.old.changes)
+            objects own blocks
             → AnswersTell store.old store.new [] → bound ≤ group
             → SpellsGroup planned group objects self.old pool readings plain
             → AreWritten stored bound pool readings self.old.directory writes written.items
@@ -89,7 +90,8 @@ impl GroupDatasets {
             (objects : ℕ → Option Object) (own : List Block) (blocks : ℕ → List Block)
             (pool : Pool) (readings : ℕ → Reading) (plain : PlainPool) (writes : List Write)
             → Plans store.old stored planned
-            → AreObjects stored (birth_of self.old.changes) (set_of self.old.changes) objects own blocks
+            → AreObjects stored (birth_of self.old.changes) (set_of self.old.changes)
+            objects own blocks
             → AnswersTell store.old store.new [] → bound ≤ group
             → SpellsGroup planned group objects self.old pool readings plain
             → AreWritten stored bound pool readings self.old.directory writes written.items
@@ -133,7 +135,8 @@ impl GroupDatasets {
             (objects : ℕ → Option Object) (own : List Block) (blocks : ℕ → List Block)
             (pool : Pool) (readings : ℕ → Reading) (array : List ℕ)
             → Plans store.old stored planned
-            → AreObjects stored (birth_of self.old.changes) (set_of self.old.changes) objects own blocks
+            → AreObjects stored (birth_of self.old.changes) (set_of self.old.changes)
+            objects own blocks
             → AnswersTell store.old store.new [] → bound ≤ group
             → SpellsChains planned group objects self.old.changes pool readings
             → IsWrittenTo stored bound pool readings head array
@@ -146,7 +149,8 @@ impl GroupDatasets {
             (objects : ℕ → Option Object) (own : List Block) (blocks : ℕ → List Block)
             (pool : Pool) (readings : ℕ → Reading) (array : List ℕ)
             → Plans store.old stored planned
-            → AreObjects stored (birth_of self.old.changes) (set_of self.old.changes) objects own blocks
+            → AreObjects stored (birth_of self.old.changes) (set_of self.old.changes)
+            objects own blocks
             → AnswersTell store.old store.new [] → bound ≤ group
             → SpellsChains planned group objects self.old.changes pool readings
             → IsWrittenTo stored bound pool readings head array

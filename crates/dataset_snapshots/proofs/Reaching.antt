@@ -17,9 +17,11 @@ use Rattle.dead_list.specs.Datasets.{IsReached as IsDatasetBlock}
 use Rattle.dnode.specs.declared.dnode.Dnode.{Dnode}
 use Rattle.dnode.specs.declared.dnode.Dnode.TheVariants.{Free, Object as Node}
 use Rattle.dnode.specs.declared.object_set.ObjectSet.{ObjectSet}
+use Rattle.dnode.specs.ObjectSet.{FitsObjectSet}
 use Rattle.objset.specs.Nodes.{birth_of}
 use Rattle.dnode_tree.proofs.Standing.{tree_blocks_known}
 use Rattle.object_table.proofs.Tables.{spaces_stay}
+use Rattle.objset.proofs.Kept.{within_set}
 use Rattle.objset.specs.Objects.{Object, IsObject, AreObjects}
 use Rattle.objset.specs.Within.{blocks_of_set, reads_of, IsSetWalked}
 use Rattle.pool_model.specs.Pools.{PlainPool}
@@ -98,6 +100,38 @@ reach_known stored birth root pool is block held =
       | inr later ↦ elim (Contains-append_cases (blocks_of_set is.set is.own is.blocks) (volume_blocks_of is) block later) [
         | inl here ↦ set_known stored root.birth is.set is.objects is.own is.blocks block is.are here
         | inr below ↦ chains_known stored root.birth is.objects is.datasets is.readings block is.chains (reached_by_rows is.datasets is.rows block below)
+      ]
+    ]
+
+-- ---- and were born no later than the root
+
+object_born : (stored : Contents) (birth : ℕ) (node : Dnode) (object : Option Object) (blocks : List Block) (block : Block) → IsObject stored birth node object blocks → Contains blocks block → block.birth ≤ birth
+object_born stored birth Free object blocks block is held = absurd (let there : Contains [] block = subst (λ bs. Contains bs block) is.1 held in omega (arith, there.1))
+object_born stored birth (Node node) None blocks block is held = absurd is
+object_born stored birth (Node node) (Some object) blocks block is held = let there = tree_blocks_known stored birth node object.array blocks is.3 block held in there.0
+
+set_born : (stored : Contents) (birth : ℕ) (set : ObjectSet) (objects : ℕ → Option Object) (own : List Block) (blocks : ℕ → List Block) (block : Block) → FitsObjectSet set
+    → AreObjects stored birth set objects own blocks → Contains (blocks_of_set set own blocks) block → block.birth ≤ birth
+set_born stored birth set objects own blocks block fits are held =
+    elim (Contains-append_cases own (flat_map blocks (range_with_len 0 set.objects)) block held) [
+      | inl here ↦ let there = tree_blocks_known stored birth set.dnodes are.dnodes.array own are.dnodes.tree block here in there.0
+      | inr later ↦
+          let there = in_range blocks block 0 set.objects later in
+          object_born stored birth (are.nodes there.0) (objects there.0) (blocks there.0) block (within_set stored birth set objects own blocks fits are there.0) there.1
+    ]
+
+chains_born : (stored : Contents) (birth : ℕ) (objects : ℕ → Option Object) (pool : Pool) (readings : ℕ → Reading) (block : Block) → HasChains stored birth objects pool readings
+    → IsDatasetBlock pool.datasets block → block.birth ≤ birth
+chains_born stored birth objects pool readings block chains (m, held) =
+    let fits = chains.sound.fits m in omega (arith, fits.born block held, fits.past, chains.now)
+
+pub reach_born : (stored : Contents) (birth : ℕ) (root : Block) (pool : PlainPool) (is : SpellsPool stored birth root pool) (block : Block) → Contains (reach_of is) block → block.birth ≤ root.birth
+reach_born stored birth root pool is block held =
+    elim (first_or_later root block (blocks_of_set is.set is.own is.blocks ++ volume_blocks_of is) held) [
+      | inl same ↦ subst (λ (b : Block). b.birth ≤ root.birth) same (omega arith)
+      | inr later ↦ elim (Contains-append_cases (blocks_of_set is.set is.own is.blocks) (volume_blocks_of is) block later) [
+        | inl here ↦ set_born stored root.birth is.set is.objects is.own is.blocks block is.is_set.spelled.0 is.are here
+        | inr below ↦ chains_born stored root.birth is.objects is.datasets is.readings block is.chains (reached_by_rows is.datasets is.rows block below)
       ]
     ]
 

@@ -20,7 +20,7 @@ use Rattle.dataset_snapshots.specs.Reach.{volume_blocks_of}
 use Rattle.dataset_snapshots.proofs.BlocksOnce.{numbered}
 use Rattle.dataset_snapshots.proofs.ChainWalks.{in_reach}
 use Rattle.dataset_groups.proofs.KeptVolumes.{HasVolumeBlocks, volume_blocks}
-use Rattle.dataset_snapshots.proofs.Reaching.{reach_known}
+use Rattle.dataset_snapshots.proofs.Reaching.{reach_born, reach_known}
 
 -- ---- parts of what is kept
 
@@ -144,5 +144,6 @@ roots_stand old new bound birth root pool le is keeps =
 pub reach_is_known : ReachIsKnown
 reach_is_known = record {
   known = reach_known;
+  born = reach_born;
   stays = λ old new bound birth root pool le more is. roots_stand old new bound birth root pool le is (λ block bytes held known. more block bytes known);
 }

@@ -56,12 +56,15 @@ RootsStandOnTheirReach =
     → (still : SpellsPool new birth root pool) × (reach_of still ≡ reach_of is)
     × (still.rows ≡ is.rows) × KeepsItsMaps is still × (still.objects ≡ is.objects)
 
--- Each block that a root leads to is known; and where more is known it leads to the same blocks,
--- spells its pool by the same rows, and has the same maps and objects.
+-- Each block that a root leads to is known, and was born no later than the root; and where more is
+-- known it leads to the same blocks, spells its pool by the same rows, and has the same maps and objects.
 pub record ReachIsKnown : Type 0 where
   pub known : (stored : Contents) (birth : ℕ) (root : Block) (pool : PlainPool)
       (is : SpellsPool stored birth root pool) (block : Block) → Contains (reach_of is) block
       → (bytes : List ℕ) × (stored block ≡ Some bytes)
+  pub born : (stored : Contents) (birth : ℕ) (root : Block) (pool : PlainPool)
+      (is : SpellsPool stored birth root pool) (block : Block) → Contains (reach_of is) block
+      → block.birth ≤ root.birth
   pub stays : (old new : Contents) (bound birth : ℕ) (root : Block) (pool : PlainPool)
       → bound ≤ birth → Extends old new → (is : SpellsPool old bound root pool)
       → (still : SpellsPool new birth root pool) × (reach_of still ≡ reach_of is)

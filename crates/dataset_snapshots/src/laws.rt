@@ -13,7 +13,8 @@ pub fn roots_stand_on_their_reach()
     ensures { RootsStandOnTheirReach }
 {}
 
-/// Each block that a root leads to is known, and it leads to the same blocks, and spells its pool by the same rows, where more is known.
+/// Each block that a root leads to is known and was born no later than the root, and it leads to the same blocks, and spells its pool by the same rows, where
+/// more is known.
 pub fn reach_is_known()
     ensures { ReachIsKnown }
 {}

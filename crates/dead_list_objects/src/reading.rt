@@ -110,7 +110,8 @@ pub fn read_dead_list_end<D: Disk + Drop>(
         (own : List Block) (blocks : ℕ → List Block) → Holds store.old stored
         → AreObjects stored birth set.now objects own blocks
         → AnswersTell store.old store.new missing.now
-        → IsForLossOf refusal ⊎ ((rows : List ℕ) → ¬ HasTable dead_list_kind (objects number) rows)) }
+        → IsForLossOf refusal
+        ⊎ ((rows : List ℕ) → ¬ HasTable dead_list_kind (objects number) rows)) }
 {
     let end = object_table::read_end(set, store, alloc, DEAD_LIST_KIND, number, birth, missing)?;
     Ok(end)

@@ -1,4 +1,5 @@
 pub mod Calls
+pub mod ComingBack
 pub mod Missed
 pub mod Outs
 pub mod Spans

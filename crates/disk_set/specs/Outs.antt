@@ -1,5 +1,5 @@
 -- Disks that are out, and which blocks disks may lack.
-use Rattle.std.specs.Prelude.{ℕ, suc, ◌≡◌, ◌&&◌, ◌||◌, ◌==◌, nat_le, nat_lt, min, Bool, false, if◌then◌else◌, Option, Some, None, List, [], ◌∷◌, length, map, slice_index_or, slice_set}
+use Rattle.std.specs.Prelude.{ℕ, suc, ◌≡◌, ◌≢◌, ◌&&◌, ◌||◌, ◌==◌, nat_le, nat_lt, min, not, Bool, false, if◌then◌else◌, Option, Some, None, List, [], ◌∷◌, length, map, slice_index_or, slice_set}
 use Rattle.disk_set.specs.declared.stale.GroupSpan.{GroupSpan}
 
 -- Which blocks disks may lack. A plan is of a transaction group, and no block of it was born before that group.
@@ -43,3 +43,15 @@ in_group spans group = record spans { group = group; since = if nat_lt group spa
 -- that disk may lack blocks from the plan's group on, if it was not out before; of the others nothing changes
 abbrev pub spans_without : List Bool → Spans → ℕ → Spans
 spans_without out spans disk = if is_out out disk then spans else record spans { since = slice_set spans.since disk spans.group }
+
+-- that disk is in use, and of the others those that were
+pub record IsInUseToo (old : List Bool) (disk : ℕ) (new : List Bool) : Type 0 where
+  pub count : length new ≡ length old
+  pub disks : (other : ℕ) → is_out new other ≡ (is_out old other && not (other == disk))
+
+-- that disk missed these groups, whatever it missed before; of the others nothing changes
+pub record MissedThese (old : Spans) (disk : ℕ) (missed : Option GroupSpan) (new : Spans) : Type 0 where
+  pub since : new.since ≡ old.since
+  pub group : new.group ≡ old.group
+  pub this : (birth : ℕ) → is_stale new.stale disk birth ≡ is_in missed birth
+  pub others : (other birth : ℕ) → other ≢ disk → is_stale new.stale other birth ≡ is_stale old.stale other birth

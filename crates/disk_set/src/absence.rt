@@ -1,8 +1,9 @@
 //! Disks that are out.
-ghost use Rattle.std.specs.Prelude.{◌≡◌, ◌++◌, min, map, nat_lt, if◌then◌else◌, IfOk};
-ghost use Rattle.disk_set.specs.Outs.{in_group, outs_from};
+ghost use Rattle.std.specs.Prelude.{◌≡◌, ◌<◌, ◌++◌, length, min, map, nat_lt, if◌then◌else◌, IfOk, OnOk, OnErr};
+ghost use Rattle.disk_set.specs.Outs.{in_group, outs_from, IsInUseToo, MissedThese};
 
 use crate::set::DiskSet;
+use crate::stale::GroupSpan;
 use model_disk::Disk;
 use std::alloc::{AllocError, Global};
 
@@ -33,6 +34,24 @@ impl<D: Disk + Drop> DiskSet<D> {
     {
         lower(&mut self.since, self.group, group);
         self.group = group;
+    }
+
+    /// A disk is in use from then on, with no call on it. It missed these transaction groups, and lacks what was born in them.
+    /// Without memory nothing changes.
+    pub fn bring_back(&mut self, disk: usize, missed: Option<GroupSpan>) -> Result<(), AllocError>
+        requires { disk < length self.old.disks.starts }
+        ensures disks { self.new.disks ≡ self.old.disks }
+        ensures due { self.new.due ≡ self.old.due }
+        ensures out { OnOk result (IsInUseToo self.old.out disk self.new.out) }
+        ensures spans { OnOk result (MissedThese self.old.spans disk missed self.new.spans) }
+        ensures err { OnErr result (self.new ≡ self.old) }
+    {
+        if self.stale.len() <= disk {
+            self.stale.resize(disk + 1, None)?;
+        }
+        self.stale[disk] = missed;
+        self.out[disk] = false;
+        Ok(())
     }
 
     /// The disks that are out, and those that are named.

@@ -1,13 +1,14 @@
 //! Reads.
-ghost use Rattle.std.specs.Prelude.{ℕ, ◌≡◌, ◌⊎◌, List, IfOk, IfErr};
+ghost use Rattle.std.specs.Prelude.{ℕ, ◌≡◌, ◌⊎◌, ◌<◌, ◌≤◌, ◌+◌, ◌∷◌, length, List, IfOk, IfErr};
 ghost use Rattle.sha2.specs.Sha256.{sha256};
-ghost use Rattle.model_disk.specs.Joint.{AreHonestSince};
+ghost use Rattle.model_disk.specs.Call.{read_call};
+ghost use Rattle.model_disk.specs.Joint.{AreHonestSince, on, bytes_of};
 ghost use Rattle.raidz_io.specs.Choices.{IsChoice, HasNoChoice};
 ghost use Rattle.raidz_io.specs.Places.{CanHold, IsOnDisks};
 ghost use Rattle.raidz_io.specs.Reads.{OnlyReads, AreUntouched, IsHonestSince, StandsOnPresent, absent_since, MoreAreLost};
 
 use crate::set::DiskSet;
-use model_disk::{Disk, HonestDisk};
+use model_disk::{Disk, DiskError, HonestDisk};
 use raidz_io::{Extent, Refusal};
 use std::alloc::Global;
 
@@ -40,6 +41,20 @@ impl<D: Disk + Drop> DiskSet<D> {
             × HasNoChoice self.old.disks self.new.disks missing.now digest.now extent))) }
     {
         extent.read_checked(&mut self.disks, alloc, missing, digest)
+    }
+
+    /// Fills the buffer with the bytes of a disk from this byte of it on, also where the disk is out. After an error it may hold
+    /// anything.
+    pub fn read_at(&mut self, disk: usize, offset: u64, buffer: &mut [u8]) -> Result<(), DiskError>
+        requires there { disk < length self.old.disks.starts }
+        requires within { offset + length buffer.old
+            ≤ length (bytes_of self.old.disks.starts disk) }
+        ensures rest { self.new ≡ record self.old { disks = self.new.disks } }
+        ensures starts { self.new.disks.starts ≡ self.old.disks.starts }
+        ensures call { self.new.disks.calls
+            ≡ on disk (read_call result offset buffer.new) ∷ self.old.disks.calls }
+    {
+        self.disks.read(disk, offset, buffer)
     }
 }
 

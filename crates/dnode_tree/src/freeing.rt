@@ -40,7 +40,7 @@ pub fn free_blocks<D: Disk + Drop>(
         → AreOnlyIn blocks others freed.items) }
     ensures cause { IfErr result (λ refusal. refusal ≢ Refusal.NoSpace) }
 
-    // And whole trees are walked, over disks that answer truly, unless too many disks miss of a block.
+    // And whole trees are walked, where answers tell, unless too many disks miss of a block.
     ensures known { IfErr result (λ refusal. (stored : Contents) (bound : ℕ)
         (array later : ℕ → Option (List ℕ)) (blocks others : List Block) → Holds store.old stored
         → IsTree stored bound before.now array blocks → bound ≤ birth

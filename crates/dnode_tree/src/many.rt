@@ -49,7 +49,7 @@ pub fn get_many<D: Disk + Drop>(
     ensures caused { IfErr result (IsCaused store.old store.new missing.now) }
     ensures cause { IfErr result (λ refusal. refusal ≢ Refusal.NoSpace) }
 
-    // And a whole tree is read, over disks that answer truly, unless too many disks miss of a block.
+    // And a whole tree is read, where answers tell, unless too many disks miss of a block.
     ensures known { IfErr result (λ refusal. (stored : Contents) (array : ℕ → Option (List ℕ))
         (blocks : List Block) → Holds store.old stored
         → IsTree stored birth node.now array blocks → AnswersTell store.old store.new missing.now
@@ -94,7 +94,8 @@ impl<'a> TreeReading<'a> {
         ensures reads { OnlyReadsBlocks store.old store.new self.entry.missing.now }
         ensures idle { (ids.now ≡ []) ⊎ (part.pointer ≡ BlockPtr.Hole) → store.new ≡ store.old }
         ensures added { OnOk result (HaveAdded store.old store.new
-            self.entry.missing.now self.entry.node.now part first ids.now found.old.items found.new.items) }
+            self.entry.missing.now self.entry.node.now part first ids.now found.old.items
+            found.new.items) }
         ensures refused { IfErr result (IsOneRefusedIn store.old store.new self.entry.missing.now
             self.entry.node.now part first ids.now) }
         ensures caused { IfErr result (IsCaused store.old store.new self.entry.missing.now) }

@@ -72,7 +72,7 @@ pub fn put_many<D: Disk + Drop>(
     ensures no_room { IfErr result (λ refusal. refusal ≡ Refusal.NoSpace
         → HasNoRoom store.old store.new missing.now node.now copies) }
 
-    // And a whole tree is rewritten, over disks that answer truly, unless there is no room or too
+    // And a whole tree is rewritten, where answers tell, unless there is no room or too
     // many disks miss of a block.
     ensures known { IfErr result (λ refusal. (stored planned : Contents) (bound : ℕ)
         (array : ℕ → Option (List ℕ)) (blocks : List Block) → Plans store.old stored planned

@@ -51,7 +51,7 @@ pub fn get<D: Disk + Drop>(
     ensures caused { IfErr result (IsCaused store.old store.new missing.now) }
     ensures cause { IfErr result (λ refusal. refusal ≢ Refusal.NoSpace) }
 
-    // And a whole tree is read, over disks that answer truly, unless too many disks miss of a block.
+    // And a whole tree is read, where answers tell, unless too many disks miss of a block.
     ensures known { IfErr result (λ refusal. (stored : Contents) (array : ℕ → Option (List ℕ))
         (blocks : List Block) → Holds store.old stored
         → IsTree stored birth node.now array blocks → AnswersTell store.old store.new missing.now
@@ -90,7 +90,7 @@ pub fn get_block<D: Disk + Drop>(
     ensures caused { IfErr result (IsCaused store.old store.new missing.now) }
     ensures cause { IfErr result (λ refusal. refusal ≢ Refusal.NoSpace) }
 
-    // And a whole tree is read, over disks that answer truly, unless too many disks miss of a block.
+    // And a whole tree is read, where answers tell, unless too many disks miss of a block.
     ensures known { IfErr result (λ refusal. (stored : Contents) (array : ℕ → Option (List ℕ))
         (blocks : List Block) → Holds store.old stored
         → IsTree stored birth node.now array blocks → AnswersTell store.old store.new missing.now

@@ -42,7 +42,7 @@ pub fn walk<D: Disk + Drop>(
     ensures caused { IfErr result (IsCaused store.old store.new missing.now) }
     ensures cause { IfErr result (λ refusal. refusal ≢ Refusal.NoSpace) }
 
-    // And a whole tree is walked, over disks that answer truly, unless too many disks miss of a block.
+    // And a whole tree is walked, where answers tell, unless too many disks miss of a block.
     ensures known { IfErr result (λ refusal. (stored : Contents) (array : ℕ → Option (List ℕ))
         (blocks : List Block) → Holds store.old stored
         → IsTree stored birth node.now array blocks → AnswersTell store.old store.new missing.now

@@ -51,7 +51,7 @@ pub fn walk_within<D: Disk + Drop>(
     ensures caused { IfErr result (IsCaused store.old store.new missing.now) }
     ensures cause { IfErr result (λ refusal. refusal ≢ Refusal.NoSpace) }
 
-    // And a whole tree that has each block once is walked, over disks that answer truly, where as
+    // And a whole tree that has each block once is walked, where answers tell, where as
     // many are left, unless too many disks miss of a block.
     ensures known { IfErr result (λ refusal. (stored : Contents) (array : ℕ → Option (List ℕ))
         (blocks : List Block) → Holds store.old stored
@@ -102,7 +102,7 @@ pub fn walk_younger<D: Disk + Drop>(
     ensures caused { IfErr result (IsCaused store.old store.new missing.now) }
     ensures cause { IfErr result (λ refusal. refusal ≢ Refusal.NoSpace) }
 
-    // And a whole tree that has each younger block once is walked, over disks that answer truly,
+    // And a whole tree that has each younger block once is walked, where answers tell,
     // where as many are left, unless too many disks miss of a block.
     ensures known { IfErr result (λ refusal. (stored : Contents) (array : ℕ → Option (List ℕ))
         (blocks : List Block) → Holds store.old stored

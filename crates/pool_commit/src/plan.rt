@@ -142,7 +142,8 @@ fn root_after<D: Disk + Drop>(
         → GroupTakesEffect group pool items.now
         → IsForRoom refusal ⊎ (refusal ≡ lost_blocks.DiskFault)) }
     ensures refused { IfErr result (IsNextRefused store.old store.new last.now.root
-        last.now.directory.value (config_view last.now.config.value) next.now.number next.now.spans items.now) }
+        last.now.directory.value (config_view last.now.config.value)
+        next.now.number next.now.spans items.now) }
 {
     let parted = part(alloc, items.actions())?;
     match &last.root {

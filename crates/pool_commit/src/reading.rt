@@ -46,12 +46,15 @@ fn read_of<D: Disk + Drop>(
     ensures refused { IfErr result (λ refusal. (stored : Contents) (pool : PlainPool)
         → Holds store.old stored → SpellsGroup stored birth kept.now pool
         → (refusal ≡ Refusal.NoMemory)
-        ⊎ (IsReadCause (read_refusal range.now.offset range.now.len (volume_at range.now.name.now pool)) refusal
+        ⊎ (IsReadCause
+        (read_refusal range.now.offset range.now.len (volume_at range.now.name.now pool)) refusal
         ⊎ ((read_refusal range.now.offset range.now.len (volume_at range.now.name.now pool) ≡ None)
-        × IsUnreadOf store.old store.new kept.now birth range.now.name.now range.now.offset range.now.len
+        × IsUnreadOf store.old store.new kept.now birth range.now.name.now
+        range.now.offset range.now.len
         missing.now refusal × IsFaultIn store.old store.new missing.now refusal))) }
     ensures unread { IfErr result (λ refusal. IsReadFault refusal
-        → IsUnreadOf store.old store.new kept.now birth range.now.name.now range.now.offset range.now.len
+        → IsUnreadOf store.old store.new kept.now birth range.now.name.now
+        range.now.offset range.now.len
         missing.now refusal) }
 {
     let Some(shape) = kept.names().find(range.name) else {
@@ -117,11 +120,13 @@ impl<D: Disk + Drop> Commit<D> {
         ensures bytes { IfOk result (λ bytes. (v : View) (size : ℕ)
             → Backs (state_of self.old) v
             → PoolAnswersTell (state_of self.old) (state_of self.new) []
-            → StandsThere (option_copied name.entry) (v.pools v.committed) size → offset + len ≤ size
+            → StandsThere (option_copied name.entry) (v.pools v.committed) size
+            → offset + len ≤ size
             → HasRangeAt bytes.items (option_copied name.entry) (v.pools v.committed) size offset) }
         ensures refused { IfErr result (λ refusal. (v : View) (size : ℕ)
             → Backs (state_of self.old) v
-            → StandsThere (option_copied name.entry) (v.pools v.committed) size → offset + len ≤ size
+            → StandsThere (option_copied name.entry) (v.pools v.committed) size
+            → offset + len ≤ size
             → (refusal ≡ Refusal.NoMemory)
             ⊎ IsLostAt v (state_of self.old) (state_of self.new) (option_copied name.entry)
             offset len refusal) }

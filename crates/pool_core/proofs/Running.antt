@@ -8,7 +8,7 @@ use Rattle.pool_model.specs.Machine.{Run}
 use Rattle.pool_model.proofs.Whole.{headline}
 use Rattle.pool_commit.specs.Calls.{GrewTo}
 use Rattle.pool_commit.proofs.Accounted.{no_room_is_lost}
-use Rattle.pool_core.specs.Runs.{Chain, GiveTrust, Links, Passes, Ran, RunsTo, TellIn}
+use Rattle.pool_core.specs.Runs.{Chain, GiveTrust, Links, Passes, Ran, RunsTo, TellIn, states_linked, states_passed}
 use Rattle.pool_core.specs.Moves.{Moves}
 use Rattle.pool_core.specs.State.{CoreState, disks_of}
 use Rattle.pool_core.specs.Steps.{AnswersTellThroughout, CameFrom, IsPlanned, Link, TakesStep}
@@ -34,6 +34,17 @@ chain_more old v (x ∷ steps) (y ∷ givens) (z ∷ replies) mid between step g
     (chain.0, chain.1, chain.2, chain.3, chain.4, chain_more chain.0 chain.1 steps givens replies mid between step given reply new w chain.5 grew link moves)
 chain_more old v steps givens replies mid between step given reply new w chain grew link moves = absurd chain
 
+-- its states are those of the chain before, and the new one
+linked_more : (old : CoreState) (v : View) (steps : List Step) (givens : List Given) (replies : List Reply) (mid : CoreState) (between : View) (step : Step) (given : Given) (reply : Reply) (new : CoreState) (w : View)
+    (chain : Chain old v steps givens replies mid between) (grew : GrewTo (disks_of mid) (disks_of new)) (link : Link mid between step given reply new w) (moves : Moves step mid.commit new.commit)
+    → states_linked old v (steps ++ step ∷ []) (givens ++ given ∷ []) (replies ++ reply ∷ []) new w (chain_more old v steps givens replies mid between step given reply new w chain grew link moves)
+    ≡ states_linked old v steps givens replies mid between chain ++ new ∷ []
+unfolding chain_more
+linked_more old v [] [] [] mid between step given reply new w chain grew link moves = refl
+linked_more old v (x ∷ steps) (y ∷ givens) (z ∷ replies) mid between step given reply new w chain grew link moves =
+    ap (λ (them : List CoreState). chain.0 ∷ them) (linked_more chain.0 chain.1 steps givens replies mid between step given reply new w chain.5 grew link moves)
+linked_more old v steps givens replies mid between step given reply new w chain grew link moves = absurd chain
+
 pub run_of : (old : CoreState) (v : View) (steps : List Step) (givens : List Given) (replies : List Reply) (new : CoreState) (w : View) → Chain old v steps givens replies new w → Run v steps givens replies w
 run_of old v [] [] [] new w chain = sym chain.1
 run_of old v (step ∷ steps) (given ∷ givens) (reply ∷ replies) new w chain = (chain.1, chain.3.is_step, run_of chain.0 chain.1 steps givens replies new w chain.5)
@@ -52,6 +63,16 @@ passes_more old [] [] mid step reply new passes came moves = (
 passes_more old (x ∷ steps) (z ∷ replies) mid step reply new passes came moves =
     (passes.0, passes.1, passes.2, passes_more passes.0 steps replies mid step reply new passes.3 came moves)
 passes_more old steps replies mid step reply new passes came moves = absurd passes
+
+passed_more : (old : CoreState) (steps : List Step) (replies : List Reply) (mid : CoreState) (step : Step) (reply : Reply) (new : CoreState) (passes : Passes old steps replies mid)
+    (came : CameFrom mid new) (moves : Moves step mid.commit new.commit)
+    → states_passed old (steps ++ step ∷ []) (replies ++ reply ∷ []) new (passes_more old steps replies mid step reply new passes came moves)
+    ≡ states_passed old steps replies mid passes ++ new ∷ []
+unfolding passes_more
+passed_more old [] [] mid step reply new passes came moves = refl
+passed_more old (x ∷ steps) (z ∷ replies) mid step reply new passes came moves =
+    ap (λ (them : List CoreState). passes.0 ∷ them) (passed_more passes.0 steps replies mid step reply new passes.3 came moves)
+passed_more old steps replies mid step reply new passes came moves = absurd passes
 
 pub came_through : (old : CoreState) (steps : List Step) (replies : List Reply) (new : CoreState) → Passes old steps replies new → CameFrom old new
 came_through old [] [] new passes = subst (λ (s : CoreState). CameFrom old s) passes (came_none old)
@@ -123,8 +144,8 @@ trust_more (flag ∷ flags) [] trusted given all one = absurd all
 pub runs_none : (old : CoreState) (before : List Reply) → RunsTo old [] before old before
 runs_none old before = ([], sym (append-nil before), refl, none)
   where
-    none : (v : View) (flags : List Bool) → Represents old v → TellIn old [] [] old refl flags → Links old v flags [] [] old
-    none v [] r tell = record { givens = []; trust = tt; after = v; chain = (refl, refl); represents = r }
+    none : (v : View) (flags : List Bool) → Represents old v → TellIn old [] [] old refl flags → Links old v flags [] [] old refl
+    none v [] r tell = record { givens = []; trust = tt; after = v; chain = (refl, refl); through = refl; represents = r }
     none v (flag ∷ flags) r tell = absurd tell
 
 pub runs_on : (old : CoreState) (steps : List Step) (before : List Reply) (mid : CoreState) (now : List Reply) (step : Step) (reply : Reply) (new : CoreState)
@@ -144,6 +165,10 @@ runs_on old steps before mid now step reply new runs grew goes moves =
                 (trust_more parts.front so_far.givens parts.last one.given so_far.trust one.trust);
             after = one.after;
             chain = chain_more old v steps so_far.givens runs.0 mid so_far.after step one.given reply new one.after so_far.chain grew one.link moves;
+            through =
+                linked_more old v steps so_far.givens runs.0 mid so_far.after step one.given reply new one.after so_far.chain grew one.link moves
+                ∙ ap (λ (them : List CoreState). them ++ new ∷ []) so_far.through
+                ∙ sym (passed_more old steps runs.0 mid step reply new runs.2 came moves);
             represents = one.link.represents;
           },
     )

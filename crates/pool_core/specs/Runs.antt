@@ -32,6 +32,18 @@ Passes old (step ∷ steps) (reply ∷ replies) new =
     (mid : CoreState) × CameFrom old mid × Moves step old.commit mid.commit × Passes mid steps replies new
 Passes old steps replies new = ⊥
 
+-- the states behind the steps of a chain, in order
+abbrev pub states_linked : (old : CoreState) (v : View) (steps : List Step) (givens : List Given) (replies : List Reply) (new : CoreState) (w : View)
+    → Chain old v steps givens replies new w → List CoreState
+states_linked old v (step ∷ steps) (given ∷ givens) (reply ∷ replies) new w chain =
+    chain.0 ∷ states_linked chain.0 chain.1 steps givens replies new w chain.5
+states_linked old v steps givens replies new w chain = []
+
+-- the states behind the steps of a run, in order
+abbrev pub states_passed : (old : CoreState) (steps : List Step) (replies : List Reply) (new : CoreState) → Passes old steps replies new → List CoreState
+states_passed old (step ∷ steps) (reply ∷ replies) new passes = passes.0 ∷ states_passed passes.0 steps replies new passes.3
+states_passed old steps replies new passes = []
+
 -- A flag for each step, which may be set only where what the disks answered in that step tells what was written. For a plan that was made it is set.
 abbrev pub TellIn : (old : CoreState) (steps : List Step) (replies : List Reply) (new : CoreState) → Passes old steps replies new → List Bool → Type 0
 TellIn old [] [] new passes [] = Unit {0}
@@ -45,23 +57,25 @@ GiveTrust [] [] = Unit {0}
 GiveTrust (trusted ∷ flags) (given ∷ givens) = (trusted ≡ true → given.trusted ≡ true) × GiveTrust flags givens
 GiveTrust flags givens = ⊥
 
--- a chain from v, with what was given and its end
-pub record Links (old : CoreState) (v : View) (flags : List Bool) (steps : List Step) (replies : List Reply) (new : CoreState) : Type 0 where
+-- a chain from v through the states that were passed, with what was given and its end
+pub record Links (old : CoreState) (v : View) (flags : List Bool) (steps : List Step) (replies : List Reply) (new : CoreState)
+    (passes : Passes old steps replies new) : Type 0 where
   pub givens : List Given
   pub trust : GiveTrust flags givens
   pub after : View
   pub chain : Chain old v steps givens replies new after
+  pub through : states_linked old v steps givens replies new after chain ≡ states_passed old steps replies new passes
   pub represents : Represents new after
 
 -- so far
 abbrev pub RunsTo : CoreState → List Step → List Reply → CoreState → List Reply → Type 0
 RunsTo old steps before new after = (replies : List Reply) × (after ≡ before ++ replies) × (passes : Passes old steps replies new)
-    × ((v : View) (flags : List Bool) → Represents old v → TellIn old steps replies new passes flags → Links old v flags steps replies new)
+    × ((v : View) (flags : List Bool) → Represents old v → TellIn old steps replies new passes flags → Links old v flags steps replies new passes)
 
 -- The core took these steps and added their replies. From each view that it represented, and whatever steps are trusted, this is a chain to a view that
 -- it now represents; so it is a run of the machine, and tells what the headline says. No room is lost at its end, and none used twice.
 abbrev pub Ran : CoreState → List Step → List Reply → CoreState → List Reply → Type 0
 Ran old steps before new after = (replies : List Reply) × (after ≡ before ++ replies) × (passes : Passes old steps replies new)
     × ((v : View) (flags : List Bool) → Represents old v → TellIn old steps replies new passes flags
-    → (links : Links old v flags steps replies new) × Run v steps links.givens replies links.after × Headline v steps links.givens replies links.after
+    → (links : Links old v flags steps replies new passes) × Run v steps links.givens replies links.after × Headline v steps links.givens replies links.after
     × HasAllRoom new.commit links.after)

@@ -247,7 +247,7 @@ pub fn scan<D: Disk + Drop>(alloc: Global, disks: &mut DiskArray<D>) -> Result<S
     // What it tells is what the disks hold, where their answers are true, and which of them failed.
     ensures scans { IfOk result (IsScanOf disks.old disks.new) }
 
-    // At most one read is made of each label and each slot of a disk.
+    // At most 516 calls are made for each disk, all disks together: as many as it has labels and slots.
     ensures few { MakesAtMost (516 * length disks.old.starts) disks.old disks.new }
 {
     let mut scan = Scan::new(alloc);

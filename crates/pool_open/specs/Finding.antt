@@ -65,7 +65,8 @@ module _ {D : Type 0} where
     pub calls : (which : ℕ) → log_of (map (calls_of g) members) which ≡ calls_on which array.calls
     pub given : back ≡ disks_back members places
 
-  -- nothing but reads of disks of an allowed size was called, between these two moments: at most one of each label and each slot of a disk
+  -- nothing but reads of disks of an allowed size was called, between these two moments: at most 516 for each disk, as many as it has labels and
+  -- slots, all disks together
   pub record AreRead (g : disk.Ghosts D) (disks : List D) (old new : Disks) : Type 0 where
     pub before : IsArrayOf g disks old
     pub only : OnlyReads (has_allowed_size old) anywhere old new

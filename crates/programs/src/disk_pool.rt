@@ -93,7 +93,8 @@ impl StepMachine for Core<MemDisk> {
 pub fn schedules_are_runs(first: &Core<MemDisk>)
     ensures { (last : _) (v : View) (commands : List Command) (text : List ℕ)
         → Represents (state_of first.now) v
-        → Plays (Replies (λ old step reply new. StepsTruly (state_of old) step reply (state_of new)))
+        → Plays (Replies (λ old step reply new.
+        StepsTruly (state_of old) step reply (state_of new)))
         first.now commands text last
         → IsOneRun (state_of first.now) v commands text (state_of last) }
 {

@@ -289,7 +289,8 @@ pub fn commands_are_runs(first: &PoolOnDisks)
 
 /// A law: the steps of a commit that is stopped are one run of the core too, and its disks are those that are kept.
 pub fn stopped_commits_are_runs(first: &PoolOnDisks)
-    ensures { (core : CoreState) (v : View) (command : Command) (outcome : Printed) (new : PoolState)
+    ensures { (core : CoreState) (v : View) (command : Command) (outcome : Printed)
+        (new : PoolState)
         → (state_of first.now).core ≡ Some core → Represents core v
         → (stops : StopsThere (state_of first.now) command outcome new)
         → IsStoppedRun core v stops.first stops.later

@@ -106,7 +106,8 @@ pub fn read_map_end<D: Disk + Drop>(
         (own : List Block) (blocks : ℕ → List Block) → Holds store.old stored
         → AreObjects stored birth set.now objects own blocks
         → AnswersTell store.old store.new missing.now
-        → IsForLossOf refusal ⊎ ((entries : List ℕ) → ¬ HasTable map_kind (objects number) entries)) }
+        → IsForLossOf refusal
+        ⊎ ((entries : List ℕ) → ¬ HasTable map_kind (objects number) entries)) }
 {
     let end = object_table::read_end(set, store, alloc, SPACE_MAP_KIND, number, birth, missing)?;
     Ok(end)

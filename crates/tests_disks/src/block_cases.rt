@@ -9,8 +9,8 @@
 //!
 //! `plan` has the seed of a block's bytes, its sectors, its copies and its group, and blocks are named by
 //! their number in the order of their plans. `read` has a block and the disks that are missing; names
-//! such as `wide` stand for a read by another pointer. `missed` has a disk and the first and last group that it missed. `take` has the blocks that are taken in, `release`
-//! a block and a group, and `maps` the blocks that are given back: it gives by how many bytes the maps
+//! such as `wide` stand for a read by another pointer. `missed` and `back` have a disk and the first and last group that it missed, `leave` has
+//! one that goes out, and `look` one whose first four bytes are read. `take` has the blocks that are taken in, `release` a block and a group, and `maps` the blocks that are given back: it gives by how many bytes the maps
 //! grow.
 
 /// Blocks that are written and read, disks that fail, and what a store refuses.
@@ -29,6 +29,15 @@ pub(crate) const STORED: &[(&str, &str)] = &[
             missed 1 8 8; read 0; read 0 0; read 1; read 1 1; read 1 0; missed 1 9 9; read 1 0",
         "new; ok; ok; 0 failed; ok; ok; ok; 0 failed; ok; marked; right; right; right; right; DiskFault; marked;
             right",
+    ),
+    // A disk goes out behind a group, misses the next one, and comes back: it is read for all others.
+    (
+        "small; drop 7; plan 1 12 1 7; write; finish; enter 8; leave 1; out 1; since 1; drop 8; plan 2 12 1 8; write;
+            finish; enter 9; read 0 0; read 1 0; look 1; back 1 8 8; out 1; since 1; read 0 0; read 1; read 1 0;
+            drop 9; plan 3 12 1 9; write; finish; read 2 0; read 2 2; read 1 2; leave 3; look 0",
+        "new; ok; ok; 0 failed; ok; entered; done; true; Some(8); ok; ok; 0 failed;
+            ok; entered; DiskFault; DiskFault; 00000000; done; false; None; right; right; DiskFault;
+            ok; ok; 0 failed; ok; right; right; DiskFault; no disk; 00000000",
     ),
     // A plan is dropped between two that are finished: what is stored stays, and the place is used again.
     (

@@ -15,6 +15,7 @@ use space_map::append_update;
 use std::alloc::Global;
 use std::sync::atomic::{AtomicU64, Ordering};
 use std::test::Fail;
+use std::thread::Threads;
 use worker_items::Gate;
 
 type TestDisk = FaultDisk<MemDisk>;
@@ -97,57 +98,62 @@ fn opened(alloc: Global, store: TestStore, geometry: Geometry, call: &Call) -> R
     }
 }
 
-/// The store that a call makes, by that which was there.
-fn made(alloc: Global, call: &Call, before: Option<TestStore>) -> Result<Made, Fail> {
-    let (children, parity) = if call.name == "double" {
-        (4, 2)
-    } else {
-        (3, 1)
-    };
-    let small = VdevConfig {
-        geometry: Geometry::new(children, parity, 9)?,
-        metaslab_shift: 12,
-        meta_slabs: 1,
-    };
+/// What comes of a new store over disks.
+fn built(alloc: Global, disks: Vec<TestDisk>, vdevs: &[VdevConfig]) -> Result<Made, Fail> {
+    let text = format!(in alloc; "new")?;
+    match BlockStore::new(alloc, disks, vdevs) {
+        Ok(store) => Ok((Some(store), text)),
+        Err(refusal) => Ok((None, format!(in alloc; "{refusal:?}")?)),
+    }
+}
+
+/// So many vdevs of two disks each, of these sizes.
+fn pairs(alloc: Global, call: &Call) -> Result<Made, Fail> {
     let pair = VdevConfig {
         geometry: Geometry::new(2, 1, 9)?,
         metaslab_shift: call.number(1).min(64) as u32,
         meta_slabs: 1,
     };
-    let is_small = call.name != "vdevs";
-    let small_disks = [SMALL_DISK; 4];
-    let sizes = if is_small {
-        small_disks.get(..children as usize).unwrap_or(&[])
-    } else {
-        call.numbers.get(2..).unwrap_or(&[])
-    };
+    let vdevs = vec![in alloc; pair; call.number(0)]?;
+    let sizes = call.numbers.get(2..).unwrap_or(&[]);
+    let disks = disks(alloc, sizes, Fault::At(u64::MAX))?;
+    built(alloc, disks, &vdevs)
+}
+
+/// A vdev of small disks, the second with a fault where the call names a write.
+fn small(alloc: Global, call: &Call, vdev: VdevConfig) -> Result<Made, Fail> {
     let fault = match call.numbers.first() {
-        Some(write) if is_small => Fault::Write(*write as u64),
-        _ => Fault::At(u64::MAX),
+        Some(write) => Fault::Write(*write as u64),
+        None => Fault::At(u64::MAX),
     };
-    let store = match (call.name, before) {
-        ("small" | "beside" | "double", _) => BlockStore::new(
-            alloc,
-            disks(alloc, sizes, fault)?,
-            &[small],
-        ),
-        ("vdevs", _) => {
-            let vdevs = vec![in alloc; pair; call.number(0)]?;
-            BlockStore::new(alloc, disks(alloc, sizes, fault)?, &vdevs)
-        }
-        ("over", Some(store)) => BlockStore::new(alloc, store.into_disks(), &[small]),
-        ("opened", Some(store)) => return opened(alloc, store, small.geometry, call),
+    let small_disks = [SMALL_DISK; 4];
+    let children = vdev.geometry.children as usize;
+    let sizes = small_disks.get(..children).unwrap_or(&[]);
+    let disks = disks(alloc, sizes, fault)?;
+    built(alloc, disks, &[vdev])
+}
+
+/// The store that a call makes, by that which was there.
+fn made(alloc: Global, call: &Call, before: Option<TestStore>) -> Result<Made, Fail> {
+    let (children, parity) = match call.name {
+        "vdevs" => return pairs(alloc, call),
+        "double" => (4, 2),
+        _ => (3, 1),
+    };
+    let vdev = VdevConfig {
+        geometry: Geometry::new(children, parity, 9)?,
+        metaslab_shift: 12,
+        meta_slabs: 1,
+    };
+    match (call.name, before) {
+        ("small" | "beside" | "double", _) => small(alloc, call, vdev),
+        ("over", Some(store)) => built(alloc, store.into_disks(), &[vdev]),
+        ("opened", Some(store)) => opened(alloc, store, vdev.geometry, call),
         ("disks", Some(store)) => {
-            return Ok((
-                None,
-                format!(in alloc; "{} disks", store.into_disks().len())?,
-            ));
+            let count = store.into_disks().len();
+            Ok((None, format!(in alloc; "{count} disks")?))
         }
-        _ => return Err(Fail::new("no store")),
-    };
-    match store {
-        Ok(store) => Ok((Some(store), format!(in alloc; "new")?)),
-        Err(refusal) => Ok((None, format!(in alloc; "{refusal:?}")?)),
+        _ => Err(Fail::new("no store")),
     }
 }
 
@@ -360,12 +366,39 @@ fn planned(
     Ok(())
 }
 
+/// The groups that a call names behind a disk.
+pub(crate) fn span(call: &Call) -> GroupSpan {
+    GroupSpan {
+        from: call.number(1) as u64,
+        to: call.number(2) as u64,
+    }
+}
+
 /// The groups that this disk missed, and no other one.
 pub(crate) fn missed(alloc: Global, call: &Call) -> Result<Vec<Option<GroupSpan>>, Fail> {
     let mut stale = vec![in alloc; None; call.number(0).min(9)]?;
-    let (from, to) = (call.number(1) as u64, call.number(2) as u64);
-    stale.push(Some(GroupSpan { from, to }))?;
+    stale.push(Some(span(call)))?;
     Ok(stale)
+}
+
+/// What comes of a disk that leaves or comes back, and of the first bytes of one, out or not.
+fn moved(store: &mut TestStore, alloc: Global, call: &Call) -> Result<String, Fail> {
+    let disk = call.number(0);
+    if disk >= store.disk_count() || store.disk_size(disk) < 4 {
+        return Ok(format!(in alloc; "no disk")?);
+    }
+    match call.name {
+        "leave" => store.put_out(disk),
+        "back" => store.bring_back(disk, Some(span(call)))?,
+        _ => {
+            let mut bytes = [0; 4];
+            return match store.read_aside(disk, 0, &mut bytes) {
+                Ok(()) => Ok(hex::encode(alloc, &bytes)?),
+                Err(_) => Ok(format!(in alloc; "failed")?),
+            };
+        }
+    }
+    Ok(format!(in alloc; "done")?)
 }
 
 /// What comes of a call on a store that is there.
@@ -410,17 +443,46 @@ fn called(
     Ok(format!(in alloc; "{refusal:?}")?)
 }
 
+/// On how many disks two stores have other bytes.
+fn differing(one: TestStore, other: TestStore) -> usize {
+    let mut differ = 0usize;
+    for (one, other) in one.into_disks().into_iter().zip(other.into_disks()) {
+        if one.into_inner().bytes() != other.into_inner().bytes() {
+            differ = differ.saturating_add(1);
+        }
+    }
+    differ
+}
+
+/// What comes of a call that only a store which is there takes.
+fn taken(blocks: &mut Blocks, alloc: Global, call: &Call) -> Result<String, Fail> {
+    let Some(store) = &mut blocks.store else {
+        return Err(Fail::new("no store"));
+    };
+    match (call.name, &blocks.other) {
+        ("missed", _) => {
+            store.mark_stale(missed(alloc, call)?);
+            Ok(format!(in alloc; "marked")?)
+        }
+        ("enter", _) => {
+            store.enter(call.number(0) as u64);
+            Ok(format!(in alloc; "entered")?)
+        }
+        ("leave" | "back" | "look", _) => moved(store, alloc, call),
+        ("load", Some(other)) => {
+            let (differ, refused) = load(store, other)?;
+            Ok(format!(in alloc; "{differ} differ {refused} refused")?)
+        }
+        _ => called(store, &mut blocks.known, alloc, call),
+    }
+}
+
 impl Bench for Blocks {
     fn answer(&mut self, alloc: Global, call: &Call) -> Result<String, Fail> {
         if call.name == "alike"
             && let (Some(one), Some(other)) = (self.store.take(), self.other.take())
         {
-            let mut differ = 0usize;
-            for (one, other) in one.into_disks().into_iter().zip(other.into_disks()) {
-                if one.into_inner().bytes() != other.into_inner().bytes() {
-                    differ = differ.saturating_add(1);
-                }
-            }
+            let differ = differing(one, other);
             return Ok(format!(in alloc; "{differ} differ")?);
         }
         if matches!(call.name, "small" | "vdevs" | "beside" | "double") {
@@ -435,50 +497,73 @@ impl Bench for Blocks {
             self.store = store;
             return Ok(text);
         }
-        let Some(store) = &mut self.store else {
-            return Err(Fail::new("no store"));
-        };
-        match (call.name, &self.other) {
-            ("missed", _) => {
-                store.mark_stale(missed(alloc, call)?);
-                Ok(format!(in alloc; "marked")?)
-            }
-            ("load", Some(other)) => {
-                let (differ, refused) = load(store, other)?;
-                Ok(format!(in alloc; "{differ} differ {refused} refused")?)
-            }
-            _ => called(store, &mut self.known, alloc, call),
-        }
+        taken(self, alloc, call)
     }
 }
 
-/// Besides, a plan whose parity is made as it is written leaves the same disks as one whose parity is made before,
-/// and each extent is passed once.
-#[test]
-fn extents_and_blocks(rt: HostRuntime) -> Result<(), Fail> {
-    let mut wrong = wrong_lines(&rt, rt.alloc(), &mut Extents, EXTENTS)?;
-    let mut blocks = Blocks {
+fn no_blocks(alloc: Global) -> Blocks {
+    Blocks {
         store: None,
         other: None,
-        known: Vec::new(rt.alloc()),
-    };
-    for cases in &[STORED, OPENED, RELEASED, MAPS] {
-        wrong.push_str(wrong_lines(&rt, rt.alloc(), &mut blocks, cases)?.as_str())?;
+        known: Vec::new(alloc),
     }
+}
+
+#[test]
+fn extents_are_written_and_read(rt: HostRuntime) -> Result<(), Fail> {
+    let wrong = wrong_lines(&rt, rt.alloc(), &mut Extents, EXTENTS)?;
+    assert!(rt; wrong.is_empty(), "{wrong}");
+    Ok(())
+}
+
+#[test]
+fn blocks_are_stored_and_opened(rt: HostRuntime) -> Result<(), Fail> {
+    let mut wrong = wrong_lines(&rt, rt.alloc(), &mut no_blocks(rt.alloc()), STORED)?;
+    let others = wrong_lines(&rt, rt.alloc(), &mut no_blocks(rt.alloc()), OPENED)?;
+    wrong.push_str(others.as_str())?;
+    assert!(rt; wrong.is_empty(), "{wrong}");
+    Ok(())
+}
+
+#[test]
+fn blocks_are_given_back(rt: HostRuntime) -> Result<(), Fail> {
+    let mut wrong = wrong_lines(&rt, rt.alloc(), &mut no_blocks(rt.alloc()), RELEASED)?;
+    let others = wrong_lines(&rt, rt.alloc(), &mut no_blocks(rt.alloc()), MAPS)?;
+    wrong.push_str(others.as_str())?;
+    assert!(rt; wrong.is_empty(), "{wrong}");
+    Ok(())
+}
+
+/// How often the gate is passed, as so many workers make the parity of what is due, or none but this thread.
+fn times_passed<R: Threads + Sync>(
+    rt: &R,
+    alloc: Global,
+    blocks: &mut Blocks,
+    workers: usize,
+) -> Result<u64, Fail> {
     let gate = Passed {
         times: AtomicU64::new(0),
     };
+    if let Some(store) = &mut blocks.store {
+        if workers > 0 {
+            store.make_due(rt, alloc, &gate, workers)?;
+        } else {
+            store.make_due_here();
+        }
+        store.make_due(rt, alloc, &gate, 1)?;
+    }
+    Ok(gate.times.swap(0, Ordering::SeqCst))
+}
+
+/// A plan whose parity is made as it is written leaves the same disks as one whose parity is made before, and each extent is
+/// passed once.
+#[test]
+fn parity_is_made_before(rt: HostRuntime) -> Result<(), Fail> {
+    let mut wrong = String::new(rt.alloc());
+    let mut blocks = no_blocks(rt.alloc());
     for (line, workers, extents, wanted) in MADE {
         let _ = play(rt.alloc(), &mut blocks, line)?;
-        if let Some(store) = &mut blocks.store {
-            if *workers > 0 {
-                store.make_due(&rt, rt.alloc(), &gate, *workers)?;
-            } else {
-                store.make_due_here();
-            }
-            store.make_due(&rt, rt.alloc(), &gate, 1)?;
-        }
-        let passed = gate.times.swap(0, Ordering::SeqCst);
+        let passed = times_passed(&rt, rt.alloc(), &mut blocks, *workers)?;
         let came = play(rt.alloc(), &mut blocks, "write; alike")?;
         if passed != *extents || came.as_str() != *wanted {
             wrong.push_str(format!(in rt.alloc(); "{workers} {passed} {came}\n")?.as_str())?;

@@ -6,7 +6,7 @@ ghost use Rattle.raidz_io.specs.Places.{CanHold, IsOnDisks};
 use crate::lines::{Bench, Call};
 use crate::pattern::Pattern;
 use model_disk::{DiskArray, Fault, FaultDisk, MemDisk};
-use raidz_io::{DATA_START, Extent, Refusal, Vdev, extent_fits};
+use raidz_io::{ColumnWrite, DATA_START, Extent, Refusal, Vdev, extent_fits};
 use raidz_map::Geometry;
 use sha2::{Digest, Sha256};
 use std::alloc::Global;
@@ -191,41 +191,64 @@ fn tally(
     Ok(format!(in alloc; "{count} {came}")?)
 }
 
-/// The writes of the columns of a block with one parity, or those of another copy that shares its bytes, and
-/// what stands at their places once the block is written.
-fn writes(alloc: Global, is_copy: bool) -> Result<String, Fail> {
-    let (extent, mut disks) = fresh(alloc, 1, 0)?;
-    let bytes = Pattern::BLOCK.bytes(alloc, 2560)?;
-    extent.write(&mut disks, alloc, &bytes)?;
-    let block = Arc::new(alloc, bytes.clone()?)?;
-    let first = extent.column_writes(alloc, &block)?;
-    let writes = if is_copy {
-        extent.column_writes(alloc, &block)?
-    } else {
-        first
-    };
+/// What a write tells of itself, where this is what stands at its place: and how far the block is told then.
+fn told(
+    alloc: Global,
+    write: &ColumnWrite,
+    there: &[u8],
+    bytes: &[u8],
+    at: usize,
+) -> Result<(String, usize), Fail> {
+    let place = format!(in alloc; "{}@{:#x}", write.disk(), write.offset())?;
+    if let Some(row) = write.parity(alloc)? {
+        let is_there = row.as_slice() == there;
+        return Ok((format!(in alloc; "{place} parity {is_there}")?, at));
+    }
+    let len = there.len();
+    let end = at.saturating_add(len);
+    if bytes.get(at..end) == Some(there) {
+        return Ok((format!(in alloc; "; {place} {at}+{len}")?, end));
+    }
+    Ok((format!(in alloc; "; {place} other bytes")?, at))
+}
+
+/// What writes of a block tell of themselves, by what stands at their places.
+fn written(
+    alloc: Global,
+    disks: &mut Disks,
+    writes: &[ColumnWrite],
+    bytes: &[u8],
+) -> Result<String, Fail> {
     let mut text = String::new(alloc);
     let mut at = 0usize;
-    for write in &writes {
+    for write in writes {
         let (disk, offset) = (write.disk(), write.offset());
         let len = if at < 2048 { 1024 } else { 512 };
         let mut there = vec![in alloc; 0; len]?;
         if disk < disks.len() && disks.size(disk) == SIZE as u64 && offset <= 0x400200 {
             disks.read(disk, offset, there.as_mut_slice())?;
         }
-        let end = at.saturating_add(len);
-        let place = format!(in alloc; "{disk}@{offset:#x}")?;
-        if let Some(row) = write.parity(alloc)? {
-            let is_there = row == there;
-            text.push_str(format!(in alloc; "{place} parity {is_there}")?.as_str())?;
-        } else if bytes.get(at..end) == Some(there.as_slice()) {
-            text.push_str(format!(in alloc; "; {place} {at}+{len}")?.as_str())?;
-            at = end;
-        } else {
-            text.push_str(format!(in alloc; "; {place} other bytes")?.as_str())?;
-        }
+        let (row, next) = told(alloc, write, &there, bytes, at)?;
+        text.push_str(row.as_str())?;
+        at = next;
     }
     Ok(text)
+}
+
+/// The writes of the columns of a block with one parity, or those of another copy that shares its bytes, and
+/// what stands at their places once the block is written.
+fn writes(alloc: Global, is_copy: bool) -> Result<String, Fail> {
+    let bytes = Pattern::BLOCK.bytes(alloc, 2560)?;
+    let block = Arc::new(alloc, bytes.clone()?)?;
+    let (extent, mut disks) = fresh(alloc, 1, 0)?;
+    extent.write(&mut disks, alloc, &bytes)?;
+    let first = extent.column_writes(alloc, &block)?;
+    let writes = if is_copy {
+        extent.column_writes(alloc, &block)?
+    } else {
+        first
+    };
+    written(alloc, &mut disks, &writes, &bytes)
 }
 
 #[derive(Drop)]

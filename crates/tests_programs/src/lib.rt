@@ -1,4 +1,4 @@
-//! Tests of the programs: lines and their texts, schedules with their whole output, over the machine in memory, the core over
+//! Tests of the programs: schedules with their whole output, over the machine in memory, the core over
 //! disks and pools that are opened again, and random ones on which the first two agree. Nothing here is proved but that it is safe.
 #![tactic(auto)]
 
@@ -10,8 +10,6 @@ mod programs_tests;
 mod random_schedules;
 #[cfg(test)]
 mod rows;
-#[cfg(test)]
-mod schedule_words;
 #[cfg(test)]
 mod stopped_pools;
 #[cfg(test)]

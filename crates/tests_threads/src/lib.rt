@@ -1,5 +1,4 @@
-//! Tests of pools that threads share, over the machine in memory, of schedules of which threads run a part, of workers, and of plans
-//! that they share.
+//! Tests of pools that threads share, over the machine in memory, of workers, and of plans that they share.
 #![tactic(auto)]
 
 #[cfg(test)]
@@ -12,9 +11,6 @@ mod gates;
 mod in_threads;
 #[cfg(test)]
 mod made;
-#[cfg(test)]
-mod rounds;
-#[cfg(test)]
-mod schedules;
+pub mod rounds;
 #[cfg(test)]
 mod shared_plans;

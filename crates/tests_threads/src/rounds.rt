@@ -2,16 +2,6 @@
 ghost use Rattle.std.specs.Prelude.{◌<◌};
 
 use std::alloc::{AllocError, Global};
-use std::test::*;
-
-/// What comes before them.
-pub(crate) const FRONT: &str = "pool 1 3 8388608 12 2
-hold 1
-create 1 1 v 8192 512
-release 1
-sync
-threads
-";
 
 /// How often a writer asks for a hold that it gets once.
 const HOLDS: u32 = 8;
@@ -36,7 +26,7 @@ fn push_turn(alloc: Global, text: &mut String, writer: u64, round: u64) -> Resul
 }
 
 /// So many rounds of writers 1 to 15, in one of a hundred also a snapshot by writer 16; and then two reads.
-pub(crate) fn rounds(alloc: Global, rounds: u64) -> Result<String, Fail>
+pub fn rounds(alloc: Global, rounds: u64) -> Result<String, AllocError>
     requires { rounds < 100000 }
 {
     let mut text = String::new(alloc);
@@ -53,13 +43,13 @@ pub(crate) fn rounds(alloc: Global, rounds: u64) -> Result<String, Fail>
 }
 
 /// How the record of so many rounds ends.
-pub(crate) fn end_of(alloc: Global, rounds: u64) -> Result<String, AllocError> {
+pub fn end_of(alloc: Global, rounds: u64) -> Result<String, AllocError> {
     let byte = rounds % 90 + 10;
     format!(in alloc; "\nread v 512 512\n# {byte}x512\nread v@s1 0 0\n# empty\n")
 }
 
 /// How many replies stand in a schedule as comments.
-pub(crate) fn replies_in(text: &str) -> u64 {
+pub fn replies_in(text: &str) -> u64 {
     let mut count = 0u64;
     for line in text.lines() {
         if line.starts_with("# ") {
@@ -90,11 +80,7 @@ fn lines_by(alloc: Global, text: &str, writer: &str) -> Result<String, AllocErro
 
 /// The first of writers 1 to 15 whose lines in a record are not just those that were handed in, in their order. (Writer 16's actions may come
 /// too late, and are sent again.)
-pub(crate) fn first_astray(
-    alloc: Global,
-    lines: &str,
-    record: &str,
-) -> Result<Option<u64>, AllocError> {
+pub fn first_astray(alloc: Global, lines: &str, record: &str) -> Result<Option<u64>, AllocError> {
     for writer in 1..16u64 {
         let word = format!(in alloc; "{writer}")?;
         if lines_by(alloc, lines, word.as_str())? != lines_by(alloc, record, word.as_str())? {

@@ -49,7 +49,8 @@ impl ThreadLines {
 
     fn push_line(&mut self, line: WriterLine) -> Result<bool, AllocError>
         ensures threads { self.new.threads ≡ self.old.threads }
-        ensures taken { IfOk result (λ is_taken. is_taken ≡ nat_eq (length self.old.reads.items) 0) }
+        ensures taken { IfOk result (λ is_taken.
+            is_taken ≡ nat_eq (length self.old.reads.items) 0) }
         ensures written { IfOk result (λ is_taken. self.new.writers.items
             ≡ if is_taken then self.old.writers.items ++ line ∷ [] else self.old.writers.items) }
         ensures reads { OnOk result (self.new.reads.items ≡ self.old.reads.items) }

@@ -117,7 +117,8 @@ impl VolumeSet {
             ¬ IsCovered self.now changes.now.name.now changes.now.items.now.writes block.id
             → (found : Option (List ℕ))
             × IsFound store.old.spaces self.now set.now block.id found) blocks.items) }
-        ensures unread { All (IsCovered self.now changes.now.name.now changes.now.items.now.writes) ids.now
+        ensures unread { All (IsCovered self.now changes.now.name.now
+            changes.now.items.now.writes) ids.now
             → store.new ≡ store.old }
         ensures caused { IfErr result (IsCaused store.old store.new []) }
         ensures refused { IfErr result (λ refusal. (refusal ≡ Refusal.NoMemory)

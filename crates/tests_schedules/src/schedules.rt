@@ -1,7 +1,6 @@
 //! Schedules of which threads run a part: what they print, and that it is a schedule which gives the replies that it says.
 ghost use Rattle.std.specs.Prelude.{◌<◌, ◌≤◌};
 
-use crate::rounds::{FRONT, end_of, replies_in, rounds};
 use programs::{Alone, PoolOnDisks, Workers, schedule};
 use shared_pool::ROOM;
 use std::alloc::Global;
@@ -9,7 +8,17 @@ use std::process::Abort;
 use std::sync::Wait;
 use std::test::*;
 use std::thread::Threads;
+use tests_threads::rounds::{end_of, replies_in, rounds};
 use thread_schedules::schedule_in_threads;
+
+/// What comes before the lines of sixteen writers.
+const FRONT: &str = "pool 1 3 8388608 12 2
+hold 1
+create 1 1 v 8192 512
+release 1
+sync
+threads
+";
 
 /// What was printed and told, and the number at the end.
 #[derive(Drop)]

@@ -1,5 +1,4 @@
 //! Lines with what they say, faults, and texts.
-use crate::telling::expect_none;
 use pool_model::{Bytes, Phase, Refusal as Cause, Reply};
 use schedule_lines::{
     Command, DiskNumbers, Line, Refusal, Run, made_text, opened_text, parse, reply_text, runs,
@@ -148,7 +147,8 @@ fn absent(alloc: Global, line: &str) -> Result<Vec<u32>, Fail> {
 
 #[test]
 fn lines_are_read(rt: HostRuntime) -> Result<(), Fail> {
-    expect_none(&rt, said_otherwise(rt.alloc(), &LINES))?;
+    let others = said_otherwise(rt.alloc(), &LINES)?;
+    assert!(rt; others.as_str() == "", "{others}");
     let absent = absent(rt.alloc(), "reopen 1 3 0 3")?;
     assert!(rt; DiskNumbers::new(absent).as_slice() == [3, 0, 3].as_slice());
     Ok(())
@@ -167,7 +167,9 @@ fn not_refused(alloc: Global, lines: &[(&str, &str)]) -> Result<String, Fail> {
 
 #[test]
 fn faults_are_refused(rt: HostRuntime) -> Result<(), Fail> {
-    expect_none(&rt, not_refused(rt.alloc(), &FAULTS))
+    let others = not_refused(rt.alloc(), &FAULTS)?;
+    assert!(rt; others.as_str() == "", "{others}");
+    Ok(())
 }
 
 /// Replies, and how each is written.
