@@ -1,6 +1,6 @@
 //! Sets of disks of which one fails, and what is left of a plan without it.
-use crate::blocks::{missed, span};
 use crate::lines::{Bench, Call};
+use crate::spans::{missed, span};
 use disk_set::{Behind, DiskSet, SlotWrite};
 use model_disk::{DiskArray, Fault, FaultDisk, MemDisk};
 use std::alloc::Global;

@@ -7,16 +7,16 @@ use std::alloc::Global;
 use std::test::Fail;
 
 /// What takes one call after another.
-pub(crate) trait Bench {
+pub trait Bench {
     /// What comes of a call, or an error where it is none of the bench's.
     fn answer(&mut self, alloc: Global, call: &Call) -> Result<String, Fail>;
 }
 
 #[derive(Drop)]
-pub(crate) struct Call<'a> {
-    pub(crate) name: &'a str,
-    pub(crate) numbers: Vec<usize>,
-    pub(crate) bytes: Vec<u8>,
+pub struct Call<'a> {
+    pub name: &'a str,
+    pub numbers: Vec<usize>,
+    pub bytes: Vec<u8>,
 }
 
 impl<'a> Call<'a> {
@@ -46,13 +46,13 @@ impl<'a> Call<'a> {
     }
 
     /// The number at an index, or 0.
-    pub(crate) fn number(&self, index: usize) -> usize {
+    pub fn number(&self, index: usize) -> usize {
         self.numbers.get(index).copied().unwrap_or(0)
     }
 }
 
 /// The answers to the calls of a line, with semicolons between them.
-pub(crate) fn play<B: Bench>(alloc: Global, bench: &mut B, line: &str) -> Result<String, Fail> {
+pub fn play<B: Bench>(alloc: Global, bench: &mut B, line: &str) -> Result<String, Fail> {
     let mut text = String::new(alloc);
     for part in line.split(';') {
         let call = Call::parse(alloc, part)?;
@@ -66,7 +66,7 @@ pub(crate) fn play<B: Bench>(alloc: Global, bench: &mut B, line: &str) -> Result
 }
 
 /// The lines of which another text comes than stands beside them, with what came.
-pub(crate) fn wrong_lines<B: Bench, R: Eprint>(
+pub fn wrong_lines<B: Bench, R: Eprint>(
     rt: &R,
     alloc: Global,
     bench: &mut B,

@@ -6,23 +6,23 @@ use std::alloc::{AllocError, Global};
 /// How bytes follow one another: the places times a stride, over a divisor and modulo a number, and the
 /// bits of a seed changed.
 #[derive(Clone, Copy)]
-pub(crate) struct Pattern {
-    pub(crate) stride: usize,
-    pub(crate) divisor: usize,
-    pub(crate) modulus: usize,
-    pub(crate) seed: u8,
+pub struct Pattern {
+    pub stride: usize,
+    pub divisor: usize,
+    pub modulus: usize,
+    pub seed: u8,
 }
 
 impl Pattern {
     /// The bytes of a block.
-    pub(crate) const BLOCK: Pattern = Pattern {
+    pub const BLOCK: Pattern = Pattern {
         stride: 1,
         divisor: 1,
         modulus: 251,
         seed: 0,
     };
 
-    pub(crate) fn bytes(self, alloc: Global, len: usize) -> Result<Vec<u8>, AllocError>
+    pub fn bytes(self, alloc: Global, len: usize) -> Result<Vec<u8>, AllocError>
         ensures { IfOk result (λ bytes. vec_len bytes ≡ len) }
     {
         let mut bytes = Vec::new(alloc);

@@ -1,6 +1,6 @@
 use Rattle.std.proofs.Common.{ℕ, ◌≡◌, ◌<◌, length}
 use Rattle.model_disk.specs.Joint.{bytes_of}
-use Rattle.tests_disks.proofs.extents.fresh.Given as goal
+use Rattle.tests_blocks.proofs.extents.fresh.Given as goal
 
 abbrev pub invariant-loop-which : goal.invariant-loop-which
 invariant-loop-which l = record {

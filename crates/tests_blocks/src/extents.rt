@@ -3,8 +3,6 @@ ghost use Rattle.std.specs.Prelude.{◌≡◌, ◌≤◌, length, IfOk};
 ghost use Rattle.model_disk.specs.Memory.{HaveSize};
 ghost use Rattle.raidz_io.specs.Places.{CanHold, IsOnDisks};
 
-use crate::lines::{Bench, Call};
-use crate::pattern::Pattern;
 use model_disk::{DiskArray, Fault, FaultDisk, MemDisk};
 use raidz_io::{ColumnWrite, DATA_START, Extent, Refusal, Vdev, extent_fits};
 use raidz_map::Geometry;
@@ -12,6 +10,8 @@ use sha2::{Digest, Sha256};
 use std::alloc::Global;
 use std::sync::Arc;
 use std::test::Fail;
+use tests_disks::lines::{Bench, Call};
+use tests_disks::pattern::Pattern;
 
 /// Blocks of five sectors with one parity on the disks 1 to 4, or with two on the disks 1 to 5: a column
 /// on each. `sets` has how many parities there are, how many disks are missing as the block is read, and

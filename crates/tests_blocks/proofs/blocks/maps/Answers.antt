@@ -1,4 +1,4 @@
-use Rattle.tests_disks.proofs.blocks.maps.Goals as goal
+use Rattle.tests_blocks.proofs.blocks.maps.Goals as goal
 
 pub unused_before-requires : goal.unused_before-requires
 unused_before-requires c = c.has_metaslab.ensures.0 c.if-has_metaslab.true

@@ -1,4 +1,4 @@
-use Rattle.tests_disks.proofs.blocks.load.Goals as goal
+use Rattle.tests_blocks.proofs.blocks.load.Goals as goal
 
 pub unused_after-requires : goal.unused_after-requires
 unused_after-requires c = c.has_metaslab.ensures.0 c.if-has_metaslab.true

@@ -1,5 +1,5 @@
 use Rattle.std.proofs.Common.{◌≡◌}
-use Rattle.tests_disks.proofs.extents.tally.Given as goal
+use Rattle.tests_blocks.proofs.extents.tally.Given as goal
 
 abbrev pub invariant-loop-pair : goal.invariant-loop-pair
 invariant-loop-pair l = l.disks.starts ≡ l.fn.disks.starts

@@ -1,13 +1,10 @@
 //! Stores of blocks by pointer.
 use crate::block_cases::{MADE, MAPS, OPENED, RELEASED, STORED};
 use crate::extents::{EXTENTS, Extents};
-use crate::lines::{Bench, Call, play, wrong_lines};
-use crate::pattern::Pattern;
 use block_pointer::{Block, Copies, Property};
 use block_store::{
     Asked, BlockStore, CopyCount, NewBlock, Refusal, VdevConfig, VdevShape, sectors_for_blocks,
 };
-use disk_set::GroupSpan;
 use model_disk::{Fault, FaultDisk, MemDisk};
 use raidz_io::Vdev;
 use raidz_map::Geometry;
@@ -16,6 +13,9 @@ use std::alloc::Global;
 use std::sync::atomic::{AtomicU64, Ordering};
 use std::test::Fail;
 use std::thread::Threads;
+use tests_disks::lines::{Bench, Call, play, wrong_lines};
+use tests_disks::pattern::Pattern;
+use tests_disks::spans::{missed, span};
 use worker_items::Gate;
 
 type TestDisk = FaultDisk<MemDisk>;
@@ -364,21 +364,6 @@ fn planned(
         }
     }
     Ok(())
-}
-
-/// The groups that a call names behind a disk.
-pub(crate) fn span(call: &Call) -> GroupSpan {
-    GroupSpan {
-        from: call.number(1) as u64,
-        to: call.number(2) as u64,
-    }
-}
-
-/// The groups that this disk missed, and no other one.
-pub(crate) fn missed(alloc: Global, call: &Call) -> Result<Vec<Option<GroupSpan>>, Fail> {
-    let mut stale = vec![in alloc; None; call.number(0).min(9)]?;
-    stale.push(Some(span(call)))?;
-    Ok(stale)
 }
 
 /// What comes of a disk that leaves or comes back, and of the first bytes of one, out or not.
