@@ -19,7 +19,7 @@ use pool_stops::{
 /// opened is the pool of the group that was committed or opened last, or of one of which a slot was begun to be written since; where the open goes back,
 /// of so many groups less. What is run from there on is a run of the machine, with the headline. And the claim of an open is above those of all before it.
 ///
-/// All disks are there, all their answers are true, no call of `create` or `open` fails, and nothing that a stop tears reads as a slot or a label by chance.
+/// All disks are there, all their answers are true (in runs it is enough that they tell what was written), no call of `create` or `open` fails, and nothing that a stop tears reads as a slot or a label by chance.
 pub fn crash_histories_keep_the_last_group<D: Disk + Drop>()
     ensures { CrashHistoriesKeepTheLastGroup D.Disk }
 {
@@ -40,7 +40,7 @@ pub fn crash_histories_keep_the_last_group<D: Disk + Drop>()
 /// memory alone, where no vdev lacks more of its disks than it has parities; and one that is done serves the pool of the group that was committed or opened
 /// last, or of one of which a slot was begun to be written since. What is run from there on is told by `run`: reads give the bytes of that pool.
 ///
-/// All answers are true, and no call of the open fails.
+/// All answers are true, but for those of runs, which tell; all disks were in use until that open, groups and claims are left, and no call of it fails.
 pub fn crash_histories_open_without<D: Disk + Drop>()
     ensures { CrashHistoriesOpenWithout D.Disk }
 {

@@ -225,7 +225,8 @@ pub fn scrubs_go_on<D: Disk + Drop>()
     reach_is_known();
 }
 
-/// A law: where nothing is left to be mended of a disk that is there, the pool goes on as the open found it, and no disk that is there is stale.
+/// A law: where nothing is left to be mended of a disk that is there, the pool goes on as the open found it, and no disk that is there is stale. So it
+/// is where the disks held the pool and answered truly, no write or flush failed, and no other bytes that stand have a block's digest.
 pub fn clean_scrubs_go_on_whole()
     ensures { CleanScrubsGoOnWhole }
 {

@@ -2,7 +2,7 @@
 use Rattle.std.proofs.Common.{ℕ, below_more, get_or, take, ◌≡◌, ◌≢◌, ◌⊎◌, inl, inr, ◌<◌, ◌≤◌, ◌+◌, Bool, true, false, Option, Some, None, Result, Ok, Err, OnOk, List, [], ◌∷◌, ◌++◌, length, All, Contains, refl, sym, ap, subst, ◌∙◌, append_assoc, length-append, arith}
 use Rattle.std.specs.List.{slice_get}
 use Rattle.std.proofs.lemmas.Bool.{cases_lt}
-use Rattle.std.proofs.lemmas.List.Elements.{Contains-push, Contains-push_cases, All-nil, All-cons, Contains-append_left, Contains-append_right, Contains-append_cases}
+use Rattle.std.proofs.lemmas.List.Elements.{Contains-push, Contains-push_cases, All-nil, All-cons, Contains-append_left}
 use Rattle.std.proofs.lemmas.Option.{slice_get_within, slice_get-get_or}
 use Rattle.std.proofs.lemmas.List.{take_more}
 use Rattle.sha2.specs.Sha256.{sha256}
@@ -19,7 +19,7 @@ use Rattle.raidz_map.specs.declared.column.Column.{Column}
 use Rattle.raidz_parity.specs.Layout.{Block}
 use Rattle.raidz_io.specs.declared.vdev.Extent.{Extent}
 use Rattle.raidz_io.specs.Places.{IsOnDisks, disk_of, offset_of}
-use Rattle.raidz_io.specs.Reads.{AreReads, AreUntouched, GaveSince, IsRead, OnlyReads, absent_since}
+use Rattle.raidz_io.specs.Reads.{AreReads, AreUntouched, GaveSince, IsRead, OnlyReads}
 use Rattle.raidz_io.proofs.Calls.{Contains-none, failed_since-cases, failed_since-more, failed_since-new, failed_since-none}
 use Rattle.raidz_io.specs.Stands.{AreBytesOf, IsLayout, all_columns}
 use Rattle.scrub_resilver.proofs.Logs.{judged_at, read_failed_from, untouched_on}
@@ -28,7 +28,7 @@ use Rattle.scrub_resilver.specs.declared.fault.Fault.{Fault}
 use Rattle.scrub_resilver.specs.declared.fault.Fault.TheVariants.{Unreadable, Wrong}
 use Rattle.scrub_resilver.specs.Columns.{IsSpread}
 use Rattle.scrub_resilver.specs.Copies.{AreUnread, IsExtentOn}
-use Rattle.scrub_resilver.specs.Mending.{AreDue, AreFlushedBelow, AreMendedBelow, ArePlacesMended, GoesOn, IsBlockMended, IsFlushed, IsFlushTried, IsColumnIn, IsColumnMended, IsColumnOf, IsCopyMended, IsDue, IsMendedAt, IsPlaceMended, IsPut, IsRightColumn, OnlyMends, Repairs, WasFaulty, WroteSince}
+use Rattle.scrub_resilver.specs.Mending.{AreDue, AreFlushedBelow, AreMendedBelow, ArePlacesMended, GoesOn, IsBlockMended, IsFlushed, IsFlushTried, IsColumnIn, IsColumnMended, IsColumnOf, IsCopyMended, IsDue, IsMendedAt, IsPlaceMended, IsPut, IsRightColumn, OnlyMends, Repairs, WasFaulty, WasMadeSince}
 use Rattle.scrub_resilver.specs.declared.spread.SpreadBlock.{SpreadBlock}
 
 -- ---- runs
@@ -75,15 +75,15 @@ gave_from n m (made ∷ calls) disk at bytes le gave = elim gave [
   | inr earlier ↦ inr (gave_from n m calls disk at bytes le earlier)
 ]
 
-wrote_more : (n : ℕ) (newer calls : List JointCall) (disk at : ℕ) (bytes : List ℕ) → WroteSince n calls disk at bytes → WroteSince n (newer ++ calls) disk at bytes
-wrote_more n [] calls disk at bytes wrote = wrote
-wrote_more n (made ∷ newer) calls disk at bytes wrote = inr (wrote_more n newer calls disk at bytes wrote)
+made_more : (n : ℕ) (newer calls : List JointCall) (call : JointCall) → WasMadeSince n calls call → WasMadeSince n (newer ++ calls) call
+made_more n [] calls call was = was
+made_more n (made ∷ newer) calls call was = inr (made_more n newer calls call was)
 
-wrote_from : (n m : ℕ) (calls : List JointCall) (disk at : ℕ) (bytes : List ℕ) → n ≤ m → WroteSince m calls disk at bytes → WroteSince n calls disk at bytes
-wrote_from n m [] disk at bytes le wrote = wrote
-wrote_from n m (made ∷ calls) disk at bytes le wrote = elim wrote [
+made_from : (n m : ℕ) (calls : List JointCall) (call : JointCall) → n ≤ m → WasMadeSince m calls call → WasMadeSince n calls call
+made_from n m [] call le was = was
+made_from n m (made ∷ calls) call le was = elim was [
   | inl (since, is) ↦ inl (omega arith, is)
-  | inr earlier ↦ inr (wrote_from n m calls disk at bytes le earlier)
+  | inr earlier ↦ inr (made_from n m calls call le earlier)
 ]
 
 failed_more : (n : ℕ) (newer calls : List JointCall) (disk : ℕ) → Contains (failed_since n calls) disk → Contains (failed_since n (newer ++ calls)) disk
@@ -113,39 +113,31 @@ pub failed_since_then : (old mid new : Disks) (disk : ℕ) → GoesOn old mid �
     → Contains (failed_since (length old.calls) new.calls) disk
 failed_since_then old mid new disk before failed = failed_from (length old.calls) (length mid.calls) new.calls disk (no_fewer old mid before) failed
 
-absent_later : (old mid new : Disks) (missing : List ℕ) (disk : ℕ) → GoesOn mid new → Contains (absent_since old mid missing) disk
-    → Contains (absent_since old new missing) disk
-absent_later old mid new missing disk later held = elim (Contains-append_cases missing (failed_since (length old.calls) mid.calls) disk held) [
-  | inl gone ↦ Contains-append_left missing (failed_since (length old.calls) new.calls) disk gone
-  | inr failed ↦ Contains-append_right missing (failed_since (length old.calls) new.calls) disk (failed_later old mid new disk later failed)
-]
-
-absent_from : (old mid new : Disks) (missing : List ℕ) (disk : ℕ) → GoesOn old mid → Contains (absent_since mid new missing) disk
-    → Contains (absent_since old new missing) disk
-absent_from old mid new missing disk before held = elim (Contains-append_cases missing (failed_since (length mid.calls) new.calls) disk held) [
-  | inl gone ↦ Contains-append_left missing (failed_since (length old.calls) new.calls) disk gone
-  | inr failed ↦ Contains-append_right missing (failed_since (length old.calls) new.calls) disk (failed_since_then old mid new disk before failed)
-]
+made_later : (old mid new : Disks) (call : JointCall) → GoesOn mid new → WasMadeSince (length old.calls) mid.calls call → WasMadeSince (length old.calls) new.calls call
+made_later old mid new call later was =
+    subst (λ (calls : List JointCall). WasMadeSince (length old.calls) calls call) (sym later.calls) (made_more (length old.calls) later.newer mid.calls call was)
 
 pub mended_later : (old mid new : Disks) (missing : List ℕ) (disk at : ℕ) (bytes : List ℕ) → GoesOn mid new → IsColumnMended old mid missing disk at bytes
     → IsColumnMended old new missing disk at bytes
 mended_later old mid new missing disk at bytes later is = elim is [
-  | inl absent ↦ inl (absent_later old mid new missing disk later absent)
+  | inl gone ↦ inl gone
   | inr (inl gave) ↦
       inr (inl (subst (λ (calls : List JointCall). GaveSince (length old.calls) calls disk at bytes) (sym later.calls)
       (gave_more (length old.calls) later.newer mid.calls disk at bytes gave)))
-  | inr (inr wrote) ↦
-      inr (inr (subst (λ (calls : List JointCall). WroteSince (length old.calls) calls disk at bytes) (sym later.calls)
-      (wrote_more (length old.calls) later.newer mid.calls disk at bytes wrote)))
+  | inr (inr (inl wrote)) ↦ inr (inr (inl (made_later old mid new (on disk (Wrote at bytes)) later wrote)))
+  | inr (inr (inr failed)) ↦ inr (inr (inr (made_later old mid new (on disk (FailedWrite at bytes)) later failed)))
 ]
 
 pub mended_from : (old mid new : Disks) (missing : List ℕ) (disk at : ℕ) (bytes : List ℕ) → GoesOn old mid → IsColumnMended mid new missing disk at bytes
     → IsColumnMended old new missing disk at bytes
-mended_from old mid new missing disk at bytes before is = elim is [
-  | inl absent ↦ inl (absent_from old mid new missing disk before absent)
-  | inr (inl gave) ↦ inr (inl (gave_from (length old.calls) (length mid.calls) new.calls disk at bytes (no_fewer old mid before) gave))
-  | inr (inr wrote) ↦ inr (inr (wrote_from (length old.calls) (length mid.calls) new.calls disk at bytes (no_fewer old mid before) wrote))
-]
+mended_from old mid new missing disk at bytes before is =
+    let le = no_fewer old mid before in
+    elim is [
+      | inl gone ↦ inl gone
+      | inr (inl gave) ↦ inr (inl (gave_from (length old.calls) (length mid.calls) new.calls disk at bytes le gave))
+      | inr (inr (inl wrote)) ↦ inr (inr (inl (made_from (length old.calls) (length mid.calls) new.calls (on disk (Wrote at bytes)) le wrote)))
+      | inr (inr (inr failed)) ↦ inr (inr (inr (made_from (length old.calls) (length mid.calls) new.calls (on disk (FailedWrite at bytes)) le failed)))
+    ]
 
 -- ---- writes that are due
 
@@ -270,18 +262,15 @@ put_well may old mid new missing disk at bytes before right faulty one =
     elim one.outcome [
       | inl (there, calls) ↦ record {
         repairs = one_more_call may missing old mid new disk (Wrote at bytes) before one.starts calls there right (faulty there);
-        mended = inr (inr (rw calls (inl (le, refl))));
+        mended = inr (inr (inl (rw calls (inl (le, refl)))));
       }
-      | inr (inl (there, calls)) ↦
-          let made : JointCall = on disk (FailedWrite at bytes) in record {
-            repairs = one_more_call may missing old mid new disk (FailedWrite at bytes) before one.starts calls there right (faulty there);
-            mended = inl (Contains-append_right missing (failed_since (length old.calls) new.calls) disk
-                (subst (λ (c : List JointCall). Contains (failed_since (length old.calls) c) disk) (sym calls)
-                (failed_since-new (length old.calls) made mid.calls le refl)));
-          }
+      | inr (inl (there, calls)) ↦ record {
+        repairs = one_more_call may missing old mid new disk (FailedWrite at bytes) before one.starts calls there right (faulty there);
+        mended = inr (inr (inr (rw calls (inl (le, refl)))));
+      }
       | inr (inr (gone, calls)) ↦ record {
         repairs = no_more_calls may missing old mid new before one.starts calls;
-        mended = inl (Contains-append_left missing (failed_since (length old.calls) new.calls) disk gone);
+        mended = inl gone;
       }
     ]
 

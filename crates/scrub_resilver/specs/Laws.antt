@@ -47,7 +47,7 @@ HaveOneChoice shapes content stored =
     (block : Block) (bytes others wrong : List ℕ) (i : ℕ) (extent : Extent) → stored block ≡ Some bytes → IsCopyOn shapes block i extent
     → length wrong ≤ parity_of extent → ExtentStands content wrong extent others → sha256 others ≡ block.checksum → others ≡ bytes
 
--- What the disks have of these blocks is known, but for those that are missing, so that no write failed there.
+-- Of these blocks no byte is unknown on the disks, but for those that are missing: none was left so by a write that failed.
 abbrev pub AreKnown : List VdevShape → Disks → List ℕ → Contents → Type 0
 AreKnown shapes disks missing stored =
     (block : Block) (bytes : List ℕ) (i : ℕ) (extent : Extent) → stored block ≡ Some bytes → IsCopyOn shapes block i extent → IsKnownBut disks missing extent
@@ -90,7 +90,7 @@ ApartBlocksShareNoByte =
     → slice_get shapes place.vdev ≡ Some shape → place.allocated ≡ asize shape.vdev.geometry block.property.sectors)
     → AreCopiesApart shapes blocks
 
--- Where blocks were mended over disks that answer truly, each column of them that stood stands, if their digests tell them.
+-- Where blocks were mended over disks that answer truly, and no byte of them is unknown behind it, each column of them that stood stands, if their digests tell them.
 abbrev pub MendsSpareBlocks : Type 0
 MendsSpareBlocks =
     (shapes : List VdevShape) (old new : Disks) (missing : List ℕ) (blocks : List Block) (stored : Contents)
@@ -100,7 +100,7 @@ MendsSpareBlocks =
     → IsCopyOn shapes block i extent → ((disk : ℕ) → Contains missing disk → Contains absent disk)
     → ExtentStands (content old) absent extent bytes → ExtentStands (content new) absent extent bytes
 
--- Where blocks were mended, whatever the disks gave, each column of them that stood stands, if in no part of it in which disks were only read other bytes with
+-- Where blocks were mended, whatever the disks gave, and no byte of them is unknown behind it, each column of them that stood stands, if in no part of it in which disks were only read other bytes with
 -- its digest could be chosen of a block.
 abbrev pub MendsSpareToldBlocks : Type 0
 MendsSpareToldBlocks =

@@ -12,7 +12,7 @@ use Rattle.raidz_map.specs.declared.column.Column.{Column}
 use Rattle.raidz_parity.specs.Layout.{Block as ColumnsOf}
 use Rattle.raidz_io.specs.declared.vdev.Extent.{Extent}
 use Rattle.raidz_io.specs.Places.{disk_of, offset_of}
-use Rattle.raidz_io.specs.Reads.{AreUntouched, GaveSince, OnlyReads, absent_since}
+use Rattle.raidz_io.specs.Reads.{AreUntouched, GaveSince, OnlyReads}
 use Rattle.raidz_io.specs.Stands.{IsLayout, AreBytesOf, all_columns}
 use Rattle.scrub_resilver.specs.Copies.{IsChosenOf, IsCopyOn, IsExtentOn, AreUnread}
 use Rattle.scrub_resilver.specs.Looking.{ReadFailedSince}
@@ -103,16 +103,17 @@ pub record GoesOn (old new : Disks) : Type 0 where
   pub newer : List JointCall
   pub calls : new.calls ≡ newer ++ old.calls
 
--- a write of these bytes there since there were n calls was answered
-abbrev pub WroteSince : ℕ → List JointCall → ℕ → ℕ → List ℕ → Type 0
-WroteSince n [] disk at bytes = ⊥
-WroteSince n (made ∷ earlier) disk at bytes = ((n ≤ length earlier) × (made ≡ on disk (Wrote at bytes))) ⊎ WroteSince n earlier disk at bytes
+-- that call was made since there were n calls
+abbrev pub WasMadeSince : ℕ → List JointCall → JointCall → Type 0
+WasMadeSince n [] call = ⊥
+WasMadeSince n (made ∷ earlier) call = ((n ≤ length earlier) × (made ≡ call)) ⊎ WasMadeSince n earlier call
 
--- a read gave these bytes since, or they were written, or the disk is missing or a call on it failed
+-- the disk is missing, or a read gave these bytes since, or they were written there, or that write failed
 abbrev pub IsColumnMended : Disks → Disks → List ℕ → ℕ → ℕ → List ℕ → Type 0
 IsColumnMended old new missing disk at bytes =
-    Contains (absent_since old new missing) disk
-    ⊎ (GaveSince (length old.calls) new.calls disk at bytes ⊎ WroteSince (length old.calls) new.calls disk at bytes)
+    Contains missing disk
+    ⊎ (GaveSince (length old.calls) new.calls disk at bytes
+    ⊎ (WasMadeSince (length old.calls) new.calls (on disk (Wrote at bytes)) ⊎ WasMadeSince (length old.calls) new.calls (on disk (FailedWrite at bytes))))
 
 -- so it is with column k
 abbrev pub IsMendedAt : Disks → Disks → List ℕ → Extent → List Column → List (List ℕ) → ℕ → Type 0

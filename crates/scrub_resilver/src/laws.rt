@@ -41,7 +41,7 @@ pub fn apart_blocks_share_no_byte()
     other_vdevs_share_no_byte();
 }
 
-/// Mending spoils no column that stood: of blocks that their digests tell, over disks that answer truly.
+/// Mending spoils no column that stood, where no write failed: of blocks that their digests tell, over disks that answer truly.
 pub fn mends_spare_blocks()
     ensures { MendsSpareBlocks }
 {
@@ -49,7 +49,7 @@ pub fn mends_spare_blocks()
     child_holds_one_column();
 }
 
-/// Mending spoils no column that stood, whatever disks answer, where no other bytes that could be chosen of a block have its digest.
+/// Mending spoils no column that stood, where no write failed, whatever disks answer, if no other bytes that could be chosen of a block have its digest.
 pub fn mends_spare_told_blocks()
     ensures { MendsSpareToldBlocks }
 {
