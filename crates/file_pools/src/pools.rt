@@ -197,7 +197,8 @@ impl<'a, F: Files<File = File>, W: Write + Copy> Pools for FilePools<'a, F, W> {
         alloc: Global,
         files: &Paths,
     ) -> Result<(FileCore<W>, PoolFront, ScrubReport), Refusal> {
-        let meter = self.meter(alloc, self.interval)?;
+        let interval = self.interval;
+        let meter = self.meter(alloc, interval)?;
         let held = hold(alloc, self.files, files, &meter)?;
         scrubbed(alloc, held)
     }

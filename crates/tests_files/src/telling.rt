@@ -61,16 +61,16 @@ const CASES: [(&str, u64, &str, bool); 5] = [
     (
         "zpool status k l m",
         MEBIBYTE,
-        "0 pool tank\nclaim 2\ngroup 1\nvdev 0 raidz1\n  disk 0 b7f69bbf566b8b1b online\n  disk 1 beb75bd9e7833e65 online\n  disk 2 24e2fbb94d9b2064 online\n",
+        "0 pool tank\nclaim 2\ngroup 3\nvdev 0 raidz1\n  disk 0 b7f69bbf566b8b1b online\n  disk 1 beb75bd9e7833e65 online\n  disk 2 24e2fbb94d9b2064 online\n",
         false,
     ),
     (
         "zpool scrub k l m",
         MEBIBYTE,
-        "0 group 1 findings 0\n",
+        "0 group 3 findings 0\n",
         true,
     ),
-    ("zpool scrub k l m", 0, "0 group 2 findings 0\n", false),
+    ("zpool scrub k l m", 0, "0 group 4 findings 0\n", false),
     ("zpool export k l m", MEBIBYTE, "0 ", false),
 ];
 
