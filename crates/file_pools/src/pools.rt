@@ -17,7 +17,7 @@ use pool_command::{Files as Paths, NewPool, PoolStatus, ScrubReport, VolumeRow};
 use pool_create::{Core, NotExported, OpenedPool, create, export, open};
 use pool_model::Refusal as StepRefusal;
 use pool_scrub::{ScrubCounts, Scrubbed, scrub};
-use progress::{MeteredDisk, READ_INTERVAL, ReadMeter};
+use progress::{MeteredDisk, ReadMeter};
 use std::alloc::{AllocError, Global};
 use std::fs::{File, Files};
 use std::io::Write;
@@ -34,30 +34,30 @@ pub struct FilePools<'a, F: Files<File = File>, W: Write + Copy> {
     errors: W,
     /// The program's name, which each such line begins with.
     program: &'static str,
-    /// Nothing is told otherwise.
-    is_shown: bool,
+    /// The bytes between two such lines, whole MiB. Nothing is told where it is 0.
+    interval: u64,
 }
 
 impl<'a, F: Files<File = File>, W: Write + Copy> FilePools<'a, F, W> {
-    /// The pools in these files. A scrub tells, where that is asked, a line in the program's name each time it has read another 256 MiB of the
-    /// disks. No other command tells what it reads.
-    pub fn new(
-        files: &'a F,
-        errors: W,
-        program: &'static str,
-        is_shown: bool,
-    ) -> FilePools<'a, F, W> {
+    /// The pools in these files. A scrub tells, in the program's name, a line behind a read that fills another interval of so many bytes, whole
+    /// MiB, of all its disks; none where these are 0. No other command tells what it reads.
+    pub fn new(files: &'a F, errors: W, program: &'static str, interval: u64) -> FilePools<'a, F, W>
+        ensures files { result.files.now ≡ files.now }
+        ensures errors { result.errors ≡ errors }
+        ensures program { result.program.now ≡ program.now }
+        ensures interval { result.interval ≡ interval }
+    {
         FilePools {
             files,
             errors,
             program,
-            is_shown,
+            interval,
         }
     }
 
-    /// Counts what one command reads of all its disks, and tells it where that is asked.
-    fn meter(&self, alloc: Global, is_shown: bool) -> Result<Rc<ReadMeter<W>>, AllocError> {
-        let meter = ReadMeter::new(self.errors, self.program, is_shown, READ_INTERVAL);
+    /// Counts what one command reads of all its disks, and tells a line behind each such interval; none where it is 0.
+    fn meter(&self, alloc: Global, interval: u64) -> Result<Rc<ReadMeter<W>>, AllocError> {
+        let meter = ReadMeter::new(self.errors, self.program, interval);
         Ok(Rc::new(alloc, meter)?)
     }
 }
@@ -187,7 +187,7 @@ impl<'a, F: Files<File = File>, W: Write + Copy> Pools for FilePools<'a, F, W> {
         Shows (state_of core) (string_bytes front.name) front.uberblock status };
 
     fn open(&mut self, alloc: Global, files: &Paths) -> Result<(FileCore<W>, PoolFront), Refusal> {
-        let meter = self.meter(alloc, false)?;
+        let meter = self.meter(alloc, 0)?;
         let held = hold(alloc, self.files, files, &meter)?;
         opened(alloc, held)
     }
@@ -197,7 +197,8 @@ impl<'a, F: Files<File = File>, W: Write + Copy> Pools for FilePools<'a, F, W> {
         alloc: Global,
         files: &Paths,
     ) -> Result<(FileCore<W>, PoolFront, ScrubReport), Refusal> {
-        let meter = self.meter(alloc, self.is_shown)?;
+        let interval = self.interval;
+        let meter = self.meter(alloc, interval)?;
         let held = hold(alloc, self.files, files, &meter)?;
         scrubbed(alloc, held)
     }
@@ -207,7 +208,7 @@ impl<'a, F: Files<File = File>, W: Write + Copy> Pools for FilePools<'a, F, W> {
         if sectors_for_blocks(pool.bytes).is_none() {
             return Err(Refusal::Pool(pool_create::Refusal::BadConfig));
         }
-        let meter = self.meter(alloc, false)?;
+        let meter = self.meter(alloc, 0)?;
         let HeldDisks { disks, locks } = make(alloc, self.files, &pool, &meter)?;
         let ended = made(alloc, disks, &pool);
         drop(locks);

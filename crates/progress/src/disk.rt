@@ -14,22 +14,18 @@ pub struct MeteredDisk<D: Disk + Drop, E> {
 }
 
 impl<D: Disk + Drop, E: Write + Drop> MeteredDisk<D, E> {
-    ghost use Rattle.progress.specs.MeteredDisk.{calls_of, disk_of, start_of};
+    ghost use Rattle.progress.specs.MeteredDisk.{disk_of};
 
     /// That disk, whose reads are counted there from now on.
     pub fn new(inner: D, meter: Rc<ReadMeter<E>>) -> MeteredDisk<D, E>
-        ensures disk { disk_of result ≡ inner }
-        ensures start { start_of D.Disk result ≡ D.start inner }
-        ensures calls { calls_of D.Disk result ≡ D.calls inner }
+        ensures { disk_of result ≡ inner }
     {
         MeteredDisk { inner, meter }
     }
 
     /// The disk below, whose reads are counted no more.
     pub fn into_inner(self) -> D
-        ensures disk { result ≡ disk_of self }
-        ensures start { D.start result ≡ start_of D.Disk self }
-        ensures calls { D.calls result ≡ calls_of D.Disk self }
+        ensures { result ≡ disk_of self }
     {
         self.inner
     }

@@ -2,13 +2,14 @@
 ghost use Rattle.std.specs.Prelude.{◌≡◌};
 ghost use Rattle.progress.specs.Metered.{inner_of};
 
+use crate::reads::due;
 use std::io::{self, Read, Write};
 
-/// A line is told for each 32 MiB.
+/// The bytes between two lines: 32 MiB.
 const EACH: u64 = 1 << 25;
 
-/// A reader or a writer, and where it is told how much has passed through it: a line for each 32 MiB, as `zfs: 64 MiB`. Where that can't be written,
-/// nothing is told.
+/// A reader or a writer, and where it is told how much has passed through it: a line behind a call that fills another 32 MiB, as `zfs: 64 MiB`. Where
+/// that can't be written, nothing is told.
 #[derive(Drop)]
 pub struct Metered<T, E> {
     inner: T,
@@ -38,10 +39,11 @@ impl<T, E: Write> Metered<T, E> {
     fn pass(&mut self, bytes: usize)
         ensures { inner_of self.new ≡ inner_of self.old }
     {
-        let before = self.passed / EACH;
-        self.passed = self.passed.saturating_add(bytes as u64);
-        let mebibytes = self.passed / EACH * 32;
-        if self.is_shown && self.passed / EACH > before {
+        let before = self.passed;
+        self.passed = before.saturating_add(bytes as u64);
+        if self.is_shown
+            && let Some(mebibytes) = due(EACH, before, self.passed)
+        {
             let program = self.program;
             let _ = writeln!(self.errors, "{program}: {mebibytes} MiB");
         }

@@ -12,16 +12,14 @@ const MEBIBYTE: u64 = 1 << 20;
 /// The bytes between two lines of a command: 256 MiB.
 pub const READ_INTERVAL: u64 = 1 << 28;
 
-/// How much is read of some disks together, and where that is told: a line each time another interval is full, as `zpool: 256 MiB looked at`. Where
-/// that can't be written, nothing is told.
+/// How much is read of some disks together, and where that is told: a line behind a read that fills another interval, as
+/// `zpool: 256 MiB looked at`. A read that fills two tells one line, and a line that can't be written is not told.
 #[derive(Drop)]
 pub struct ReadMeter<E> {
     errors: RefCell<E>,
     /// The program's name, which each line begins with.
     program: &'static str,
-    /// Nothing is told otherwise.
-    is_shown: bool,
-    /// In bytes. Nothing is told where it is 0.
+    /// In bytes, whole MiB. Nothing is told where it is 0.
     interval: u64,
     /// In bytes.
     read: Cell<u64>,
@@ -37,8 +35,8 @@ fn counted(before: u64, answer: &Result<(), DiskError>, asked: usize) -> u64
     }
 }
 
-/// The MiB of all full intervals, where there is one more than before. All but the answer is in bytes.
-fn due(interval: u64, before: u64, after: u64) -> Option<u64>
+/// The MiB of all full intervals, where there are more than before. All but the answer is in bytes.
+pub(crate) fn due(interval: u64, before: u64, after: u64) -> Option<u64>
     ensures { result ≡ mebibytes_due interval before after }
 {
     if interval == 0 || after / interval <= before / interval {
@@ -49,12 +47,14 @@ fn due(interval: u64, before: u64, after: u64) -> Option<u64>
 }
 
 impl<E: Write> ReadMeter<E> {
-    /// Nothing is read yet. A line is told behind each so many bytes, where that is asked; none where these are 0.
-    pub fn new(errors: E, program: &'static str, is_shown: bool, interval: u64) -> ReadMeter<E> {
+    /// Nothing is read yet. A line is told behind a read that fills another interval of so many bytes, whole MiB; none where these are 0.
+    pub fn new(errors: E, program: &'static str, interval: u64) -> ReadMeter<E>
+        ensures program { result.program.now ≡ program.now }
+        ensures interval { result.interval ≡ interval }
+    {
         ReadMeter {
             errors: RefCell::new(errors),
             program,
-            is_shown,
             interval,
             read: Cell::new(0),
         }
@@ -67,9 +67,7 @@ impl<E: Write> ReadMeter<E> {
         let before = self.read.get();
         let after = counted(before, &answer, asked);
         self.read.set(after);
-        if self.is_shown
-            && let Some(mebibytes) = due(self.interval, before, after)
-        {
+        if let Some(mebibytes) = due(self.interval, before, after) {
             self.tell(mebibytes);
         }
         answer

@@ -3,3 +3,5 @@
 
 #[cfg(test)]
 mod sessions;
+#[cfg(test)]
+mod telling;

@@ -3,6 +3,7 @@ use commands::command;
 use file_pools::FilePools;
 use std::alloc::{AllocError, Global};
 use std::fs::{self, OpenOptions};
+use std::io::Write;
 use std::test::Fail;
 
 /// A command line; standard input, which is so many bytes of this value; and the exit status, standard output and standard error that
@@ -420,8 +421,14 @@ fn told(alloc: Global, line: &str, bytes: &[u8]) -> Result<String, AllocError> {
     Ok(text)
 }
 
-/// Runs a command line: its exit status, and what it prints.
-fn run(rt: &HostRuntime, line: &str, given: (u8, usize)) -> Result<String, Fail> {
+/// Runs a command line: its exit status, and what it prints. A scrub tells what it reads on that writer, with so many bytes between two lines.
+pub(crate) fn run<W: Write + Copy>(
+    rt: &HostRuntime,
+    line: &str,
+    given: (u8, usize),
+    teller: W,
+    interval: u64,
+) -> Result<String, Fail> {
     let alloc = rt.alloc();
     let mut words = Vec::new(alloc);
     for word in line.split(' ') {
@@ -430,7 +437,7 @@ fn run(rt: &HostRuntime, line: &str, given: (u8, usize)) -> Result<String, Fail>
     let input = vec![in alloc; given.0; given.1]?;
     let mut output = Vec::new(alloc);
     let mut errors = Vec::new(alloc);
-    let mut pools = FilePools::new(rt, rt.stderr(), "zpool", false);
+    let mut pools = FilePools::new(rt, teller, "zpool", interval);
     let status = command(
         alloc,
         &mut pools,
@@ -454,7 +461,7 @@ fn played(rt: &HostRuntime, paths: &[&str], cases: &[Case]) -> Result<String, Fa
     }
     let mut wrong = String::new(alloc);
     for (line, given, status, output, errors) in cases {
-        let came = run(rt, line, *given)?;
+        let came = run(rt, line, *given, rt.stderr(), 0)?;
         let wanted = format!(in alloc; "{status} {output}{errors}")?;
         if came != wanted {
             wrong.push_str(format!(in alloc; "{line}: {came}\n")?.as_str())?;

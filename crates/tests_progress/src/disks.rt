@@ -30,7 +30,6 @@ struct Case {
     calls: &'static [(bool, Call)],
     /// How the first disk fails.
     fault: Fault,
-    is_shown: bool,
     /// In KiB.
     interval: u64,
     /// `y` for each call that is answered, `n` for each that fails.
@@ -38,12 +37,11 @@ struct Case {
     told: &'static str,
 }
 
-const CASES: [Case; 10] = [
+const CASES: [Case; 9] = [
     // Less than an interval.
     Case {
         calls: &[(false, Call::Read(1023))],
         fault: NEVER,
-        is_shown: true,
         interval: 1024,
         answers: "y",
         told: "",
@@ -52,7 +50,6 @@ const CASES: [Case; 10] = [
     Case {
         calls: &[(false, Call::Read(1024))],
         fault: NEVER,
-        is_shown: true,
         interval: 1024,
         answers: "y",
         told: "zpool: 1 MiB looked at\n",
@@ -67,12 +64,11 @@ const CASES: [Case; 10] = [
             (true, Call::Read(1024)),
         ],
         fault: NEVER,
-        is_shown: true,
         interval: 1024,
         answers: "yyyyy",
         told: "zpool: 1 MiB looked at\nzpool: 2 MiB looked at\nzpool: 3 MiB looked at\n",
     },
-    // A read that passes two thresholds tells the last one.
+    // A read that fills two intervals tells one line.
     Case {
         calls: &[
             (false, Call::Read(512)),
@@ -80,7 +76,6 @@ const CASES: [Case; 10] = [
             (false, Call::Read(512)),
         ],
         fault: NEVER,
-        is_shown: true,
         interval: 1024,
         answers: "yyy",
         told: "zpool: 2 MiB looked at\nzpool: 3 MiB looked at\n",
@@ -93,7 +88,6 @@ const CASES: [Case; 10] = [
             (false, Call::Read(2048)),
         ],
         fault: NEVER,
-        is_shown: true,
         interval: 3072,
         answers: "yyy",
         told: "zpool: 3 MiB looked at\nzpool: 6 MiB looked at\n",
@@ -108,7 +102,6 @@ const CASES: [Case; 10] = [
             (true, Call::Write(2048)),
         ],
         fault: NEVER,
-        is_shown: true,
         interval: 1024,
         answers: "yyyyy",
         told: "zpool: 1 MiB looked at\n",
@@ -123,7 +116,6 @@ const CASES: [Case; 10] = [
             (true, Call::Read(512)),
         ],
         fault: Fault::Read(1),
-        is_shown: true,
         interval: 1024,
         answers: "ynyyy",
         told: "zpool: 1 MiB looked at\n",
@@ -139,25 +131,14 @@ const CASES: [Case; 10] = [
             (true, Call::Flush),
         ],
         fault: Fault::From(0),
-        is_shown: true,
         interval: 1024,
         answers: "nnnyyy",
         told: "zpool: 1 MiB looked at\n",
     },
-    // Nothing is shown.
+    // An interval of no bytes: nothing is told.
     Case {
         calls: &[(false, Call::Read(2048)), (true, Call::Read(2048))],
         fault: NEVER,
-        is_shown: false,
-        interval: 1024,
-        answers: "yy",
-        told: "",
-    },
-    // Intervals of no bytes.
-    Case {
-        calls: &[(false, Call::Read(2048)), (true, Call::Read(2048))],
-        fault: NEVER,
-        is_shown: true,
         interval: 0,
         answers: "yy",
         told: "",
@@ -210,7 +191,7 @@ fn make<D: Disk>(disk: &mut D, call: Call, buffer: &mut [u8]) -> Result<(), Disk
 /// Which calls are answered, where lines go to this writer.
 fn answers_of<E: Write + Drop>(alloc: Global, case: &Case, errors: E) -> Result<String, Fail> {
     let interval = case.interval.saturating_mul(KIBIBYTE as u64);
-    let meter = ReadMeter::new(errors, "zpool", case.is_shown, interval);
+    let meter = ReadMeter::new(errors, "zpool", interval);
     let meter = Rc::new(alloc, meter)?;
     let mut first = disk(alloc, &meter, case.fault)?;
     let mut second = disk(alloc, &meter, NEVER)?;
@@ -295,7 +276,7 @@ fn a_metered_disk_is_the_disk_below(rt: HostRuntime) -> Result<(), Fail> {
     let mut plain = MemDisk::new(alloc, SIZE)?;
     let wanted = held(alloc, &mut plain)?;
     let mut told = Vec::new(alloc);
-    let meter = Rc::new(alloc, ReadMeter::new(&mut told, "zpool", true, 1 << 20))?;
+    let meter = Rc::new(alloc, ReadMeter::new(&mut told, "zfs", 1 << 20))?;
     let mut metered = MeteredDisk::new(MemDisk::new(alloc, SIZE)?, meter);
     let came = held(alloc, &mut metered)?;
     assert!(rt; metered.size() == plain.size(), "its size");
@@ -303,7 +284,7 @@ fn a_metered_disk_is_the_disk_below(rt: HostRuntime) -> Result<(), Fail> {
     assert!(rt; came.as_slice() == wanted.as_slice(), "what is read");
     assert!(rt; below.bytes() == plain.bytes(), "what it holds");
     let told = String::from_utf8(told)?;
-    let lines = "zpool: 1 MiB looked at\nzpool: 2 MiB looked at\n";
+    let lines = "zfs: 1 MiB looked at\nzfs: 2 MiB looked at\n";
     assert!(rt; told.as_str() == lines, "{told}");
     Ok(())
 }

@@ -36,7 +36,7 @@ fn run(rt: &HostRuntime) -> io::Result<u8> {
     let alloc = rt.alloc();
     let given: Vec<String> = env::args(rt)?.collect(alloc)?;
     let words = words_of(alloc, given.as_slice())?;
-    let mut pools = FilePools::new(rt, rt.stderr(), "zfs", false);
+    let mut pools = FilePools::new(rt, rt.stderr(), "zfs", 0);
     let is_shown = rt.stderr().is_terminal();
     let mut input = Metered::new(rt.reader(), rt.stderr(), "zfs", is_shown);
     let output = BufWriter::new(alloc, io::writer(rt))?;

@@ -4,6 +4,7 @@
 
 use commands::command;
 use file_pools::FilePools;
+use progress::READ_INTERVAL;
 use std::alloc::{AllocError, Global};
 use std::io::{BufWriter, IsTerminal};
 use std::process::ExitCode;
@@ -35,8 +36,12 @@ fn run(rt: &HostRuntime) -> io::Result<u8> {
     let alloc = rt.alloc();
     let given: Vec<String> = env::args(rt)?.collect(alloc)?;
     let words = words_of(alloc, given.as_slice())?;
-    let is_shown = rt.stderr().is_terminal();
-    let mut pools = FilePools::new(rt, rt.stderr(), "zpool", is_shown);
+    let interval = if rt.stderr().is_terminal() {
+        READ_INTERVAL
+    } else {
+        0
+    };
+    let mut pools = FilePools::new(rt, rt.stderr(), "zpool", interval);
     let mut output = BufWriter::new(alloc, io::writer(rt))?;
     let status = command(
         alloc,
