@@ -4,8 +4,8 @@ use crate::images::{Left, Pattern};
 use crate::judging::{Outcome, Part, first_failure, judge};
 use crate::openings::{first_stopped, stopped};
 use crate::pools::made;
-use crate::runs::recorded;
-use crate::stages::{FIRST, LATER, NEW};
+use crate::runs::{Run, recorded};
+use crate::stages::{FIRST, LATER, NEW, Schedule, next_run};
 use crate::stopping::{Away, Stop};
 use pool_create::Refusal;
 use std::alloc::Global;
@@ -25,30 +25,63 @@ enum Stopped {
     OpensTwice,
 }
 
-/// The first failure among these stops of a new pool's run, or of what comes behind one of its stops.
-fn outcome(alloc: Global, what: Stopped, part: Part) -> Outcome {
+/// A new pool's run.
+fn first_run(alloc: Global, schedule: &Schedule) -> Result<Run, Refusal> {
     let new = Possible {
         shown: NEW,
         from: 0,
         until: u64::MAX,
     };
     let possible = vec![in alloc; new]?;
-    let run = recorded(alloc, made(alloc)?, None, possible, &FIRST)?;
+    recorded(alloc, made(alloc)?, None, possible, schedule)
+}
+
+/// The last group is stopped once disk 0 has its slots and the others have none. Disk 1 isn't there then.
+const HALFWAY: Stop = Stop {
+    cut: 3,
+    image: 1,
+    pattern: Pattern::Every(Left::New),
+    absent: Some(1),
+    goes_on: false,
+};
+
+/// The first failure among these stops of a new pool's run, or of what comes behind one of its stops.
+fn outcome(alloc: Global, what: Stopped, part: Part) -> Outcome {
+    let run = first_run(alloc, &FIRST)?;
     match what {
         Stopped::Commits => first_failure(alloc, &run, part, Away::Any).map_err(Refusal::from),
         Stopped::CommitsWithout => {
-            // The last group is stopped once disk 0 has its slots and the others have none. Disk 1 isn't there then.
-            let halfway = Stop {
-                cut: run.slots_of(8).saturating_add(3),
-                pattern: Pattern::Every(Left::New),
-                absent: Some(1),
-                goes_on: false,
-            };
+            let halfway = run.in_slots(HALFWAY);
             stopped(alloc, &run, halfway, &LATER, part, Away::Only(1))
         }
         Stopped::Opens => first_stopped(alloc, &run, part, false),
         Stopped::OpensTwice => first_stopped(alloc, &run, part, true),
     }
+}
+
+/// How many stops there are of a new pool's run, and of the run behind its halfway stop: of each with its export, and without.
+fn numbers_of_stops(alloc: Global) -> Result<[u64; 4], Refusal> {
+    let mut first = FIRST;
+    let mut later = LATER;
+    let run = first_run(alloc, &first)?;
+    let halfway = run.in_slots(HALFWAY);
+    let behind = next_run(alloc, &run, halfway, &later)?;
+    first.is_exported = false;
+    later.is_exported = false;
+    let unexported = first_run(alloc, &first)?;
+    let behind_unexported = next_run(alloc, &run, halfway, &later)?;
+    Ok([
+        run.stops,
+        unexported.stops,
+        behind.stops,
+        behind_unexported.stops,
+    ])
+}
+
+#[test]
+fn runs_have_so_many_stops(rt: HostRuntime) {
+    let numbers = numbers_of_stops(rt.alloc());
+    assert!(rt; numbers == Ok([2124, 2070, 630, 594]), "{numbers:?}");
 }
 
 #[test]

@@ -7,26 +7,28 @@ use std::alloc::{AllocError, Global};
 use std::process::Abort;
 use std::test::*;
 
-/// The stops after which a pool isn't as it is to be: of each, how many calls were made.
-pub(crate) type Stops = [Option<u64>; 3];
+/// The stops after which a pool isn't as it is to be, one behind another: of each, how many calls were made, which image was left (0: old, 1: new,
+/// 2: mixed), and which disk was absent.
+pub(crate) type Stops = [Option<(u64, u64, Option<usize>)>; 3];
 
 /// The first of them, or why none was found.
 pub(crate) type Outcome = Result<Option<Stops>, Refusal>;
 
 /// The stop, where what was seen after it is wrong.
 pub(crate) fn failure_of(run: &Run, stop: Stop, seen: Result<Seen, Refusal>) -> Option<Stops> {
+    let failure = Some([Some((stop.cut, stop.image, stop.absent)), None, None]);
     let Ok(seen) = seen else {
-        return Some([Some(stop.cut), None, None]);
+        return failure;
     };
     for it in &run.history {
         if it.covers(stop.cut) && it.shown == seen.first && seen.last == seen.wanted {
             return None;
         }
     }
-    Some([Some(stop.cut), None, None])
+    failure
 }
 
-/// Some of the stops of a run: from the one of this number on, of so many that follow each other one.
+/// Each `of`-th stop of a run, from number `first` on.
 #[derive(Clone, Copy)]
 pub(crate) struct Part {
     pub(crate) first: u64,
@@ -41,11 +43,11 @@ pub(crate) fn first_failure(
     away: Away,
 ) -> Result<Option<Stops>, AllocError> {
     let mut number = part.first;
-    for before in 0..run.stops {
+    for tried in 0..run.stops {
         if number >= run.stops {
             break;
         }
-        let stop = stop_at(number, before, away);
+        let stop = stop_at(number, tried, away);
         number = number.saturating_add(part.of);
         let images = run.images(alloc, stop.cut, stop.pattern)?;
         let seen = reopened(alloc, images, stop.absent, stop.goes_on);
@@ -60,7 +62,7 @@ pub(crate) fn first_failure(
 /// These stops behind another one.
 pub(crate) fn behind(stop: Stop, stops: Stops) -> Stops {
     let [first, second, _] = stops;
-    [Some(stop.cut), first, second]
+    [Some((stop.cut, stop.image, stop.absent)), first, second]
 }
 
 /// The first failure among the stops of a run that came after a stop of another one, or what that stop left wrong.

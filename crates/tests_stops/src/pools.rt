@@ -1,6 +1,6 @@
 //! Pools of three disks with two volumes, a snapshot and a clone, and what they show.
-use model_disk::{Disk, MemDisk, Member};
-use pool_create::{Core, OpenedPool, Refusal, create, export, open};
+use model_disk::{Disk, MemDisk};
+use pool_create::{Core, NotExported, OpenedPool, Refusal, create, export};
 use pool_format::PoolIdentity;
 use pool_model::{Action, Bytes, Change, Name, Phase, Reply, Step, Write};
 use std::alloc::{AllocError, Global};
@@ -132,7 +132,8 @@ pub(crate) fn made(alloc: Global) -> Result<Vec<Vec<u8>>, Refusal> {
     Ok(all)
 }
 
-/// The disks of a pool that ends here. It may be exported first: `DiskFault` where that is refused.
+/// The disks of a pool that ends here. It may be exported first. That is refused with `TooManyMissing` where the pool is suspended, with
+/// `DiskFault` where a group is open still, and else with its own cause.
 pub(crate) fn ended<D: Disk + Drop>(
     alloc: Global,
     pool: OpenedPool<D>,
@@ -141,18 +142,17 @@ pub(crate) fn ended<D: Disk + Drop>(
     if !is_exported {
         return Ok(pool.core.into_disks());
     }
-    match export(alloc, pool) {
-        Ok(disks) => Ok(disks),
-        Err(_failed) => Err(Refusal::DiskFault),
-    }
-}
-
-/// Opens the pool on these disks.
-pub(crate) fn opened<D: Disk + Drop>(
-    alloc: Global,
-    disks: Vec<D>,
-) -> Result<OpenedPool<Member<D>>, Refusal> {
-    Ok(open(alloc, disks, 0)?.0)
+    let refusal = match export(alloc, pool) {
+        Ok(disks) => return Ok(disks),
+        Err(NotExported::Refused { refusal, .. }) => refusal,
+        Err(NotExported::Stopped { refusal, .. }) => refusal,
+    };
+    Err(match refusal {
+        pool_model::Refusal::NoMemory => Refusal::NoMemory,
+        pool_model::Refusal::Suspended => Refusal::TooManyMissing,
+        pool_model::Refusal::BadConfig => Refusal::BadConfig,
+        _ => Refusal::DiskFault,
+    })
 }
 
 fn name_of(alloc: Global, which: Which) -> Result<Name, AllocError> {

@@ -1,7 +1,7 @@
 //! Pools that are opened after a stop, without one of their disks and then with all.
-use crate::pools::{Act, Shown, Volume, Which, commit, do_all, opened, shown_in};
+use crate::pools::{Act, Shown, Volume, Which, commit, do_all, shown_in};
 use model_disk::{MemDisk, Member};
-use pool_create::{Core, OpenedPool, Refusal};
+use pool_create::{Core, OpenedPool, Refusal, open};
 use std::alloc::{AllocError, Global};
 use std::cell::Cell;
 
@@ -43,7 +43,7 @@ fn opened_once(
     let OpenedPool {
         mut core,
         uberblock,
-    } = opened(alloc, disks)?;
+    } = open(alloc, disks, 0)?.0;
     let shown = shown_and_wanted(alloc, &mut core, uberblock.group, goes_on);
     let disks = core.into_disks();
     Ok((shown?, disks))
@@ -68,16 +68,6 @@ fn disks_of(
     Ok((disks, aside))
 }
 
-/// Puts the disks of a pool behind others.
-fn put_behind(members: Vec<Member<MemDisk>>, disks: &mut Vec<MemDisk>) -> Result<(), AllocError> {
-    for member in members {
-        if let Some(disk) = member.into_disk() {
-            disks.push(disk)?;
-        }
-    }
-    Ok(())
-}
-
 /// Opens a pool on disks with these bytes, without the absent one; with `goes_on` commits one more group; and opens it again on all.
 pub(crate) fn reopened(
     alloc: Global,
@@ -87,7 +77,11 @@ pub(crate) fn reopened(
 ) -> Result<Seen, Refusal> {
     let (disks, mut all) = disks_of(alloc, images, absent)?;
     let ([first, wanted], members) = opened_once(alloc, disks, goes_on)?;
-    put_behind(members, &mut all)?;
+    for member in members {
+        if let Some(disk) = member.into_disk() {
+            all.push(disk)?;
+        }
+    }
     let ([last, _], _members) = opened_once(alloc, all, false)?;
     Ok(Seen {
         first,

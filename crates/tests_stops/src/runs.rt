@@ -1,12 +1,12 @@
 //! Runs of a pool over disks that record their calls.
 use crate::history::{Possible, settle};
 use crate::images::{Pattern, image_of};
-use crate::pools::{Doing, Shown, commit, do_all, ended, opened, shown_in};
-use crate::recording::{RecordingDisk, TimedCall, calls_of, recording_disk};
-use crate::stages::Schedule;
-use crate::stopping::IMAGES;
-use model_disk::{Disk, MemDisk};
-use pool_create::{Core, OpenedPool, Refusal};
+use crate::pools::{Doing, Shown, commit, do_all, ended, shown_in};
+use crate::recording::{TimedCall, calls_of, recording_disk};
+use crate::stages::{LAST, Schedule};
+use crate::stopping::{IMAGES, Stop};
+use model_disk::Disk;
+use pool_create::{Core, OpenedPool, Refusal, open};
 use std::alloc::{AllocError, Global};
 use std::cell::Cell;
 use std::rc::Rc;
@@ -39,31 +39,17 @@ impl Run {
         Ok(images)
     }
 
-    /// From when on a group may be found: where its first slot is begun.
-    pub(crate) fn slots_of(&self, group: u64) -> u64 {
+    /// A stop whose `cut` counts from the first slot of the last group on, as one whose `cut` counts from the start.
+    pub(crate) fn in_slots(&self, stop: Stop) -> Stop {
+        let mut stop = stop;
         for it in &self.history {
-            if it.shown.group == group {
-                return it.from;
+            if it.shown.group == LAST {
+                stop.cut = it.from.saturating_add(stop.cut);
+                return stop;
             }
         }
-        0
+        stop
     }
-}
-
-/// Disks that hold these bytes, but for the absent one.
-fn recording(
-    alloc: Global,
-    starts: &[Vec<u8>],
-    absent: Option<usize>,
-    moments: &Rc<Cell<u64>>,
-) -> Result<Vec<RecordingDisk<MemDisk>>, AllocError> {
-    let mut disks = Vec::new(alloc);
-    for which in 0..starts.len() {
-        if absent != Some(which) {
-            disks.push(recording_disk(alloc, &starts[which], moments)?)?;
-        }
-    }
-    Ok(disks)
 }
 
 /// What the pool shows that stands at that group, from which it commits these groups one after another.
@@ -104,11 +90,16 @@ pub(crate) fn recorded(
     schedule: &Schedule,
 ) -> Result<Run, Refusal> {
     let moments = Rc::new(alloc, Cell::new(0u64))?;
-    let disks = recording(alloc, &starts, absent, &moments)?;
+    let mut disks = Vec::new(alloc);
+    for which in 0..starts.len() {
+        if absent != Some(which) {
+            disks.push(recording_disk(alloc, &starts[which], &moments)?)?;
+        }
+    }
     let OpenedPool {
         mut core,
         uberblock,
-    } = opened(alloc, disks)?;
+    } = open(alloc, disks, 0)?.0;
     let mut history = possible;
     let opened = run_on(
         alloc,

@@ -18,6 +18,7 @@ pub(crate) const NEW: Shown = Shown {
 };
 
 /// What a run does with the pool that it opened.
+#[derive(Drop)]
 pub(crate) struct Schedule {
     /// It commits these groups, one after another.
     pub(crate) groups: &'static [&'static [Doing]],
@@ -25,7 +26,11 @@ pub(crate) struct Schedule {
     pub(crate) is_exported: bool,
 }
 
-/// Of a new pool: groups 4 to 8. Each may use the room that was given back three groups before.
+/// The last group of the first schedule.
+pub(crate) const LAST: u64 = 10;
+
+/// Of a new pool: groups 4 to 10. Group 7 gives back what only the clone and the snapshot had, and group 10 is the first that may use
+/// this room. So that it comes soon, the two groups between do nothing.
 pub(crate) const FIRST: Schedule = Schedule {
     groups: &[
         &[(V, Makes), (W, Makes)],
@@ -34,17 +39,24 @@ pub(crate) const FIRST: Schedule = Schedule {
             (V, Fills(1, 0x11)),
             (Snapshot, Makes),
             (V, Fills(2, 0x12)),
+            (Cloned, Makes),
         ],
-        &[(V, Fills(1, 0x21)), (Cloned, Makes)],
+        &[
+            (V, Fills(1, 0x21)),
+            (W, Fills(0, 0x22)),
+            (Cloned, Fills(1, 0x23)),
+        ],
         &[
             (V, Fills(0, 0x30)),
-            (W, Fills(0, 0x31)),
-            (Cloned, Fills(1, 0x32)),
-        ],
-        &[
-            (V, Fills(3, 0x43)),
             (Cloned, Destroys),
             (Snapshot, Destroys),
+        ],
+        &[],
+        &[],
+        &[
+            (V, Fills(3, 0x40)),
+            (W, Fills(1, 0x41)),
+            (W, Fills(2, 0x42)),
         ],
     ],
     is_exported: true,

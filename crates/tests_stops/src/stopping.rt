@@ -6,6 +6,8 @@ use crate::images::{Left, Pattern};
 pub(crate) struct Stop {
     /// How many calls were made. The last of them may not have ended.
     pub(crate) cut: u64,
+    /// What is left of the ranges that were written last: 0 where all are old, 1 where all are new, 2 where they are mixed by the pattern.
+    pub(crate) image: u64,
     pub(crate) pattern: Pattern,
     /// The disk that isn't there as the pool is opened first.
     pub(crate) absent: Option<usize>,
@@ -53,10 +55,10 @@ fn mixed_at(cut: u64) -> Pattern {
 
 /// The stop of that number. There are three after so many calls: all ranges that were written last are old, all are new, or they are mixed.
 /// By how many were tried before it goes which disk is absent, and whether one more group is committed.
-pub(crate) fn stop_at(number: u64, before: u64, away: Away) -> Stop {
+pub(crate) fn stop_at(number: u64, tried: u64, away: Away) -> Stop {
     let cut = number / IMAGES;
     let image = number % IMAGES;
-    let way = before.saturating_add(image);
+    let way = tried.saturating_add(image);
     let pattern = match image {
         0 => Pattern::Every(Left::Old),
         1 => Pattern::Every(Left::New),
@@ -73,6 +75,7 @@ pub(crate) fn stop_at(number: u64, before: u64, away: Away) -> Stop {
     };
     Stop {
         cut,
+        image,
         pattern,
         absent,
         goes_on: way % 5 < 2,
