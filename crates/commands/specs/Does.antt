@@ -133,7 +133,7 @@ module _ {S P F R : Type 0} (pools : Ghosts S P F R) where
       pub commits : Commits steps timestamp pool reply last
       pub closes : pools.closes between last front new
 
-    -- it was committed, no disk failed behind the second open, and the report is the text
+    -- it was committed, no disk failed behind the look, and the report is the text
     pub record IsScrubbed (old : S) (files : List (List ℕ)) (timestamp : ℕ) (text : List ℕ) (new : S) : Type 0 where
       pub report : ScrubReport
       pub group : ℕ

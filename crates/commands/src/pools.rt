@@ -68,7 +68,7 @@ pub trait Pools: Drop {
         ensures refused { IfErr result (λ cause. refuses self.old files.now cause self.new) };
 
     /// Opens the pool on these files, looks at every column of every block that its last group leads to, writes those anew that are unreadable
-    /// or wrong on a disk that is there, looks at all again, and opens the pool once more.
+    /// or wrong on a disk that is there, looks at all again, and begins its core anew.
     fn scrub(
         &mut self,
         alloc: Global,

@@ -10,7 +10,7 @@ pub enum Stop<R> {
     Pools(R),
     /// The pool refuses a step; or memory ran out.
     Pool(Refusal),
-    /// The change is committed, and a disk failed on the way: what it lacks isn't kept, and the next command would take it as good.
+    /// The change is committed, and a disk failed on the way: what it lacks is in the table of stale spans, from that group or the next one on.
     DiskLost,
     /// Standard input failed: of a write of one range, before any file was opened. Or it ended inside a request of a session.
     Input,

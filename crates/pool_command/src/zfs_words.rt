@@ -23,19 +23,27 @@ Exit status:
   0  done
   1  refused: standard error has 'zfs: refused NUMBER NAME'
   2  a fault of the line, found before a file is touched, or of standard input or
-     output
+     output; or who is served broke the protocol
 
 Refusals, and what helps:
-  2 DiskFault        a disk failed: go on without its file
+  2 DiskFault        a disk failed: go on without its file, and look before you
+                     repeat what you asked: it may be committed all the same
   3 NoSpace          destroy snapshots and volumes first
+  4 Suspended        too many disks failed: open it again without them
   8 NoSuchName       'zfs list' has the names; a snapshot is never written
   10 Exists          another name
-  11 OutOfRange      past the end, or more than 1048576 bytes in one write or read
-  12 Misaligned      offset and length of a write are multiples of 512
+  11 OutOfRange      past the end, more than 1048576 bytes in one write or read,
+                     or a volume smaller than its block or larger than
+                     1099511627776
+  12 Misaligned      offset and length of a write are multiples of 512, and a
+                     volume's size is one of its block
   14 HasClones       destroy the snapshot's clones first
   15 HasSnapshots    destroy the volume's snapshots first
   16 BadName         1 to 27 of 'a-z', '0-9', '.', '_' and '-', the first a letter
+  18 BadLabel        none of the files is a disk of a pool
+  19 NoUberblock     no file has an uberblock that is whole
   22 TooManyMissing  give more of the pool's files
+  23 PoolMismatch    files of two pools, or a disk twice
   25 Busy            another command has a file: wait for it
 
 Example:
@@ -96,7 +104,7 @@ meanwhile.
 
 Example:
   zfs serve v a b c
-  socat UNIX-LISTEN:v.sock EXEC:'zfs serve v a b c'";
+  socat -t 60 UNIX-LISTEN:v.sock EXEC:'zfs serve v a b c'";
 
 const SNAPSHOT: &str = "The snapshot: a volume's name, '@', and a name of its own";
 

@@ -27,8 +27,10 @@ Exit status:
 
 Refusals, and what helps:
   2 DiskFault        'create': a file is there already, or can't be made; else a
-                     disk failed: go on without its file
-  3 NoSpace          'create': larger files, or fewer metaslabs with --meta
+                     disk failed: go on without its file, and look before you
+                     repeat what you asked: it may be committed all the same
+  3 NoSpace          'create': larger files, or more metaslabs with --meta;
+                     'scrub': destroy snapshots first
   4 Suspended        too many disks failed: open it again without them
   18 BadLabel        none of the files is a disk of a pool
   19 NoUberblock     no file has an uberblock that is whole
@@ -71,7 +73,7 @@ is unreadable or wrong on a disk that is there, reads all again, and commits a
 group. So a disk that was stale, and is whole again, is online. It prints
 'group G findings N': N columns were unreadable or wrong. Where some still are, a
 second line is 'left M': those of absent or failing disks, and of blocks that too
-few disks have. The pool is opened twice, so its claim rises by two.
+few disks have. The pool is opened once, so its claim rises by one.
 
 Example:
   zpool scrub a b c";
