@@ -85,32 +85,62 @@ fn runs_have_so_many_stops(rt: HostRuntime) {
 }
 
 #[test]
-fn first_quarter_of_the_stops_shows_a_whole_group(rt: HostRuntime) {
-    let part = Part { first: 0, of: 4 };
+fn first_eighth_of_the_stops_shows_a_whole_group(rt: HostRuntime) {
+    let part = Part { first: 0, of: 8 };
     judge(&rt, outcome(rt.alloc(), Stopped::Commits, part));
 }
 
 #[test]
-fn second_quarter_of_the_stops_shows_a_whole_group(rt: HostRuntime) {
-    let part = Part { first: 1, of: 4 };
+fn second_eighth_of_the_stops_shows_a_whole_group(rt: HostRuntime) {
+    let part = Part { first: 1, of: 8 };
     judge(&rt, outcome(rt.alloc(), Stopped::Commits, part));
 }
 
 #[test]
-fn third_quarter_of_the_stops_shows_a_whole_group(rt: HostRuntime) {
-    let part = Part { first: 2, of: 4 };
+fn third_eighth_of_the_stops_shows_a_whole_group(rt: HostRuntime) {
+    let part = Part { first: 2, of: 8 };
     judge(&rt, outcome(rt.alloc(), Stopped::Commits, part));
 }
 
 #[test]
-fn fourth_quarter_of_the_stops_shows_a_whole_group(rt: HostRuntime) {
-    let part = Part { first: 3, of: 4 };
+fn fourth_eighth_of_the_stops_shows_a_whole_group(rt: HostRuntime) {
+    let part = Part { first: 3, of: 8 };
+    judge(&rt, outcome(rt.alloc(), Stopped::Commits, part));
+}
+
+#[test]
+fn fifth_eighth_of_the_stops_shows_a_whole_group(rt: HostRuntime) {
+    let part = Part { first: 4, of: 8 };
+    judge(&rt, outcome(rt.alloc(), Stopped::Commits, part));
+}
+
+#[test]
+fn sixth_eighth_of_the_stops_shows_a_whole_group(rt: HostRuntime) {
+    let part = Part { first: 5, of: 8 };
+    judge(&rt, outcome(rt.alloc(), Stopped::Commits, part));
+}
+
+#[test]
+fn seventh_eighth_of_the_stops_shows_a_whole_group(rt: HostRuntime) {
+    let part = Part { first: 6, of: 8 };
+    judge(&rt, outcome(rt.alloc(), Stopped::Commits, part));
+}
+
+#[test]
+fn eighth_eighth_of_the_stops_shows_a_whole_group(rt: HostRuntime) {
+    let part = Part { first: 7, of: 8 };
     judge(&rt, outcome(rt.alloc(), Stopped::Commits, part));
 }
 
 #[test]
 fn stops_without_a_disk_leave_a_whole_group(rt: HostRuntime) {
-    let part = Part { first: 0, of: 2 };
+    let part = Part { first: 0, of: 4 };
+    judge(&rt, outcome(rt.alloc(), Stopped::CommitsWithout, part));
+}
+
+#[test]
+fn more_stops_without_a_disk_leave_a_whole_group(rt: HostRuntime) {
+    let part = Part { first: 2, of: 4 };
     judge(&rt, outcome(rt.alloc(), Stopped::CommitsWithout, part));
 }
 
