@@ -60,7 +60,9 @@ fn outcome(alloc: Global, what: Stopped, part: Part) -> Outcome {
 }
 
 /// How many stops there are of a new pool's run, and of the run behind its halfway stop: of each with its export, and without.
-fn numbers_of_stops(alloc: Global) -> Result<[u64; 4], Refusal> {
+#[test]
+fn runs_have_so_many_stops(rt: HostRuntime) -> Result<(), Fail> {
+    let alloc = rt.alloc();
     let mut first = FIRST;
     let mut later = LATER;
     let run = first_run(alloc, &first)?;
@@ -68,79 +70,46 @@ fn numbers_of_stops(alloc: Global) -> Result<[u64; 4], Refusal> {
     let behind = next_run(alloc, &run, halfway, &later)?;
     first.is_exported = false;
     later.is_exported = false;
-    let unexported = first_run(alloc, &first)?;
-    let behind_unexported = next_run(alloc, &run, halfway, &later)?;
-    Ok([
-        run.stops,
-        unexported.stops,
-        behind.stops,
-        behind_unexported.stops,
-    ])
+    let unexported = first_run(alloc, &first)?.stops;
+    let behind_unexported = next_run(alloc, &run, halfway, &later)?.stops;
+    let numbers = [run.stops, unexported, behind.stops, behind_unexported];
+    assert!(rt; numbers == [2124, 2070, 630, 594], "{numbers:?}");
+    Ok(())
 }
 
 #[test]
-fn runs_have_so_many_stops(rt: HostRuntime) {
-    let numbers = numbers_of_stops(rt.alloc());
-    assert!(rt; numbers == Ok([2124, 2070, 630, 594]), "{numbers:?}");
-}
-
-#[test]
-fn first_eighth_of_the_stops_shows_a_whole_group(rt: HostRuntime) {
-    let part = Part { first: 0, of: 8 };
+fn first_fifth_of_the_stops_shows_a_whole_group(rt: HostRuntime) {
+    let part = Part { first: 0, of: 5 };
     judge(&rt, outcome(rt.alloc(), Stopped::Commits, part));
 }
 
 #[test]
-fn second_eighth_of_the_stops_shows_a_whole_group(rt: HostRuntime) {
-    let part = Part { first: 1, of: 8 };
+fn second_fifth_of_the_stops_shows_a_whole_group(rt: HostRuntime) {
+    let part = Part { first: 1, of: 5 };
     judge(&rt, outcome(rt.alloc(), Stopped::Commits, part));
 }
 
 #[test]
-fn third_eighth_of_the_stops_shows_a_whole_group(rt: HostRuntime) {
-    let part = Part { first: 2, of: 8 };
+fn third_fifth_of_the_stops_shows_a_whole_group(rt: HostRuntime) {
+    let part = Part { first: 2, of: 5 };
     judge(&rt, outcome(rt.alloc(), Stopped::Commits, part));
 }
 
 #[test]
-fn fourth_eighth_of_the_stops_shows_a_whole_group(rt: HostRuntime) {
-    let part = Part { first: 3, of: 8 };
+fn fourth_fifth_of_the_stops_shows_a_whole_group(rt: HostRuntime) {
+    let part = Part { first: 3, of: 5 };
     judge(&rt, outcome(rt.alloc(), Stopped::Commits, part));
 }
 
 #[test]
-fn fifth_eighth_of_the_stops_shows_a_whole_group(rt: HostRuntime) {
-    let part = Part { first: 4, of: 8 };
-    judge(&rt, outcome(rt.alloc(), Stopped::Commits, part));
-}
-
-#[test]
-fn sixth_eighth_of_the_stops_shows_a_whole_group(rt: HostRuntime) {
-    let part = Part { first: 5, of: 8 };
-    judge(&rt, outcome(rt.alloc(), Stopped::Commits, part));
-}
-
-#[test]
-fn seventh_eighth_of_the_stops_shows_a_whole_group(rt: HostRuntime) {
-    let part = Part { first: 6, of: 8 };
-    judge(&rt, outcome(rt.alloc(), Stopped::Commits, part));
-}
-
-#[test]
-fn eighth_eighth_of_the_stops_shows_a_whole_group(rt: HostRuntime) {
-    let part = Part { first: 7, of: 8 };
+fn fifth_fifth_of_the_stops_shows_a_whole_group(rt: HostRuntime) {
+    let part = Part { first: 4, of: 5 };
     judge(&rt, outcome(rt.alloc(), Stopped::Commits, part));
 }
 
 #[test]
 fn stops_without_a_disk_leave_a_whole_group(rt: HostRuntime) {
-    let part = Part { first: 0, of: 4 };
-    judge(&rt, outcome(rt.alloc(), Stopped::CommitsWithout, part));
-}
-
-#[test]
-fn more_stops_without_a_disk_leave_a_whole_group(rt: HostRuntime) {
-    let part = Part { first: 2, of: 4 };
+    let part = Part { first: 0, of: 2 };
     judge(&rt, outcome(rt.alloc(), Stopped::CommitsWithout, part));
 }
 
